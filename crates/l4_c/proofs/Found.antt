@@ -3,9 +3,9 @@ use Rattle.std.proofs.Common.{◌≡◌, ◌↔◌, ℕ, Bool, true, false, List
 use Rattle.std.proofs.lemmas.Bool.{false≢true}
 use Rattle.l4_mapdb.specs.declared.Place.{Place}
 use Rattle.l4_ipc.specs.Machine.{Machine}
-use Rattle.l4_chains.specs.declared.links.ChainLink.{ChainLink}
-use Rattle.l4_chains.specs.Chains.{IsProvenance, IsAbsent}
-use Rattle.l4_chains.specs.Replays.{IsBootWith, IsReplayed}
+use Rattle.l4_record.specs.declared.links.ChainLink.{ChainLink}
+use Rattle.l4_record.specs.Chains.{IsProvenance, IsAbsent}
+use Rattle.l4_record.specs.Replays.{IsBootWith, IsReplayed}
 use Rattle.l4_lock.specs.Locked.{Lock}
 use Rattle.l4_refusals.specs.Texts.{spelled}
 use Rattle.l4_c_values.specs.Linked.{link_result, link_given, chain_result}

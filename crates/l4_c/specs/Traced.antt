@@ -2,10 +2,10 @@
 use Rattle.std.specs.Prelude.{◌≡◌, ◌⊎◌, ℕ, List, length, map, codes, Option, None, Some}
 use Rattle.l4_mapdb.specs.declared.Place.{Place}
 use Rattle.l4_ipc.specs.Machine.{Machine}
-use Rattle.l4_chains.specs.declared.faults.ReplayFault.{ReplayFault}
-use Rattle.l4_chains.specs.declared.links.ChainLink.{ChainLink}
-use Rattle.l4_chains.specs.Chains.{IsProvenance, IsAbsent}
-use Rattle.l4_chains.specs.Replays.{IsBootWith, IsReplayed, IsNotRepeated}
+use Rattle.l4_record.specs.declared.faults.ReplayFault.{ReplayFault}
+use Rattle.l4_record.specs.declared.links.ChainLink.{ChainLink}
+use Rattle.l4_record.specs.Chains.{IsProvenance, IsAbsent}
+use Rattle.l4_record.specs.Replays.{IsBootWith, IsReplayed, IsNotRepeated}
 use Rattle.l4_lock.specs.Locked.{Lock}
 use Rattle.l4_refusals.specs.Texts.{spelled}
 use Rattle.l4_c_values.specs.Linked.{link_result, link_given, fault_code, fault_carries, chain_result}

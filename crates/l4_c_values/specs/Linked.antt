@@ -1,9 +1,9 @@
 -- Links of a page's provenance, as C passes and gets them (this profile's own).
 use Rattle.std.specs.Prelude.{ℕ, Bool, true, false, nat_eq, if◌then◌else◌, codes}
 use Rattle.l4_fpage.specs.Rights.{bits_of, set_of_bits}
-use Rattle.l4_chains.specs.declared.links.ChainLink.{ChainLink}
-use Rattle.l4_chains.specs.declared.faults.ReplayFault.{ReplayFault}
-use Rattle.l4_chains.specs.declared.faults.ReplayFault.TheVariants.{BadFrames, NoMemory, OtherAnswer}
+use Rattle.l4_record.specs.declared.links.ChainLink.{ChainLink}
+use Rattle.l4_record.specs.declared.faults.ReplayFault.{ReplayFault}
+use Rattle.l4_record.specs.declared.faults.ReplayFault.TheVariants.{BadFrames, NoMemory, OtherAnswer}
 use Rattle.l4_refusals.specs.Texts.{spelled}
 use Rattle.l4_c_values.specs.Told.{told_place}
 use Rattle.l4_c_values.specs.declared.links.Link.{Link}

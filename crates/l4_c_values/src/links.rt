@@ -5,8 +5,8 @@ ghost use Rattle.l4_c_values.specs.Linked.{link_result, link_given, fault_code, 
 use crate::calls::rights;
 use crate::numbers::{BAD_FRAMES, NO_MEMORY, OTHER_ANSWER};
 use crate::results::place_told;
-use l4_chains::{ChainLink, ReplayFault};
 use l4_ipc::Place;
+use l4_record::{ChainLink, ReplayFault};
 
 /// A transfer that moved a page.
 #[repr(C)]

@@ -3,8 +3,8 @@
 use crate::kernel::{create, receive, send};
 use crate::lock::{show_history, show_seat};
 use crate::{end_memory, kernel, stop};
-use l4_chains::ChainLink;
 use l4_ipc::{Call, Outcome, PageSize, Place};
+use l4_record::ChainLink;
 use l4_seated_lock::{LockRefusal, SeatedLock};
 use std::alloc::Global;
 use std::io;

@@ -14,11 +14,11 @@ use Rattle.l4_ipc.specs.Machine.{Machine, IsBoot}
 use Rattle.l4_ipc.proofs.Tracing.{only_trace, run_of}
 use Rattle.l4_record.specs.declared.entries.Entry.{Entry}
 use Rattle.l4_record.specs.History.{steps_of, answers_of, HasEvents}
-use Rattle.l4_chains.specs.declared.links.ChainLink.{ChainLink}
-use Rattle.l4_chains.specs.Chains.{IsProvenance, IsAbsent, origin_of}
-use Rattle.l4_chains.specs.Replays.{IsBootWith}
-use Rattle.l4_chains.specs.Inside.Walking.{PassesAll, IsWalked}
-use Rattle.l4_chains.proofs.Walked.{passed_origin, is_provenance}
+use Rattle.l4_record.specs.declared.links.ChainLink.{ChainLink}
+use Rattle.l4_record.specs.Chains.{IsProvenance, IsAbsent, origin_of}
+use Rattle.l4_record.specs.Replays.{IsBootWith}
+use Rattle.l4_record.specs.Inside.Walking.{PassesAll, IsWalked}
+use Rattle.l4_record.proofs.Walked.{passed_origin, is_provenance}
 use Rattle.l4_provenance.specs.Inside.Arrivals.{CameBy, Arrived}
 use Rattle.l4_provenance.specs.declared.replaying.Arrival.{Arrival}
 use Rattle.l4_provenance.specs.declared.replaying.Arrival.TheVariants.{Absent, AtBoot, By}

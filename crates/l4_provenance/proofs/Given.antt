@@ -7,13 +7,13 @@ use Rattle.l4_mapdb.specs.declared.Place.{Place}
 use Rattle.l4_ipc.specs.declared.steps.Step.{Step}
 use Rattle.l4_ipc.specs.Machine.{Machine, IsBoot}
 use Rattle.l4_record.specs.declared.entries.Entry.{Entry}
-use Rattle.l4_chains.specs.declared.faults.ReplayFault.{ReplayFault}
-use Rattle.l4_chains.specs.declared.faults.ReplayFault.TheVariants.{BadFrames, NoMemory, OtherAnswer}
-use Rattle.l4_chains.specs.declared.links.ChainLink.{ChainLink}
-use Rattle.l4_chains.specs.Replays.{IsBootWith, StopsIn, IsNotReplayed}
-use Rattle.l4_chains.proofs.Replayed.{stops_by_step}
-use Rattle.l4_chains.specs.Inside.Carrying.{AreParties, AnyCarries, AnyWrites, IsCarried, IsWritten}
-use Rattle.l4_chains.proofs.Written.{any_written, carried_any}
+use Rattle.l4_record.specs.declared.faults.ReplayFault.{ReplayFault}
+use Rattle.l4_record.specs.declared.faults.ReplayFault.TheVariants.{BadFrames, NoMemory, OtherAnswer}
+use Rattle.l4_record.specs.declared.links.ChainLink.{ChainLink}
+use Rattle.l4_record.specs.Replays.{IsBootWith, StopsIn, IsNotReplayed}
+use Rattle.l4_record.proofs.Replayed.{stops_by_step}
+use Rattle.l4_record.specs.Inside.Carrying.{AreParties, AnyCarries, AnyWrites, IsCarried, IsWritten}
+use Rattle.l4_record.proofs.Written.{any_written, carried_any}
 use Rattle.l4_provenance.specs.Inside.Arrivals.{Arrived}
 use Rattle.l4_provenance.specs.declared.replaying.Arrival.{Arrival}
 

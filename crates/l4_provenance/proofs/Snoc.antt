@@ -4,8 +4,8 @@ use Rattle.l4_mapdb.specs.declared.Place.{Place}
 use Rattle.l4_ipc.specs.Machine.{Machine}
 use Rattle.l4_ipc.specs.Provenance.{LeavesAlone}
 use Rattle.l4_record.specs.declared.entries.Entry.{Entry}
-use Rattle.l4_chains.specs.declared.links.ChainLink.{ChainLink}
-use Rattle.l4_chains.specs.Inside.Walking.{entry_event, Does, IsNotDue, BringsTold, Passes, PassesAll}
+use Rattle.l4_record.specs.declared.links.ChainLink.{ChainLink}
+use Rattle.l4_record.specs.Inside.Walking.{entry_event, Does, IsNotDue, BringsTold, Passes, PassesAll}
 
 -- one more link at the end changes nothing about the first link
 still_not_due : (number : ℕ) (links : List ChainLink) (link : ChainLink) → link.entry ≢ number → IsNotDue number links → IsNotDue number (links ++ link ∷ [])

@@ -11,13 +11,13 @@ use Rattle.l4_ipc.proofs.Provenances.{left_or_brought}
 use Rattle.l4_record.specs.declared.entries.Entry.{Entry}
 use Rattle.l4_record.specs.History.{HasEvents}
 use Rattle.l4_record.proofs.Laws.{no_events, events_more}
-use Rattle.l4_chains.specs.declared.faults.ReplayFault.{ReplayFault}
-use Rattle.l4_chains.specs.declared.links.ChainLink.{ChainLink}
-use Rattle.l4_chains.specs.Chains.{told}
-use Rattle.l4_chains.specs.Replays.{FailsAt, StopsIn}
-use Rattle.l4_chains.specs.Inside.Walking.{entry_event, Does, BringsTold, PassesAll}
-use Rattle.l4_chains.proofs.Carried.{carried_brings, brings_carried, brings_done}
-use Rattle.l4_chains.proofs.Replayed.{take_zero, with_next, done_fails}
+use Rattle.l4_record.specs.declared.faults.ReplayFault.{ReplayFault}
+use Rattle.l4_record.specs.declared.links.ChainLink.{ChainLink}
+use Rattle.l4_record.specs.Chains.{told}
+use Rattle.l4_record.specs.Replays.{FailsAt, StopsIn}
+use Rattle.l4_record.specs.Inside.Walking.{entry_event, Does, BringsTold, PassesAll}
+use Rattle.l4_record.proofs.Carried.{carried_brings, brings_carried, brings_done}
+use Rattle.l4_record.proofs.Replayed.{take_zero, with_next, done_fails}
 use Rattle.std.proofs.lemmas.Bool.{false≢true}
 use Rattle.l4_provenance.specs.Inside.Arrivals.{Brought, newer, Came, Arrived}
 use Rattle.l4_provenance.specs.declared.replaying.Arrival.TheVariants.{By}

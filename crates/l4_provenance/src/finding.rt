@@ -1,14 +1,13 @@
 //! The provenance of a page.
 ghost use Rattle.std.specs.Prelude.{◌≡◌, ◌≤◌, length, MatchOption, MatchResult};
 ghost use Rattle.l4_ipc.specs.Machine.{Machine};
-ghost use Rattle.l4_chains.specs.Chains.{IsProvenance, IsAbsent};
-ghost use Rattle.l4_chains.specs.Replays.{IsBootWith, IsNotReplayed};
+ghost use Rattle.l4_record.specs.Chains.{IsProvenance, IsAbsent};
+ghost use Rattle.l4_record.specs.Replays.{IsBootWith, IsNotReplayed};
 ghost use Rattle.l4_provenance.specs.Inside.Arrivals.{Arrived};
 
 use crate::replaying::{Arrival, last_arrival};
-use l4_chains::{ChainLink, ReplayFault};
 use l4_ipc::{Kernel, PageSize, Place, Refused};
-use l4_record::History;
+use l4_record::{ChainLink, History, ReplayFault};
 use std::alloc::Global;
 
 /// Executes this number of entries from the start of a history on a new kernel. Returns how the place got the mapping that it then has.

@@ -6,5 +6,5 @@ mod replaying;
 mod writing;
 
 pub use finding::provenance;
-pub use l4_chains::{ChainLink, ReplayFault};
+pub use l4_record::{ChainLink, ReplayFault};
 pub use replaying::replay;

@@ -1,15 +1,14 @@
 //! Replays a history on a second kernel, and finds what was moved to a place.
 ghost use Rattle.std.specs.Prelude.{◌≡◌, ◌≤◌, ◌↔◌, Err, IsTrue, length, IfOk, IfErr};
-ghost use Rattle.l4_chains.specs.Replays.{RanOut, FailsAt, StopsIn};
-ghost use Rattle.l4_chains.specs.Inside.Walking.{Does};
+ghost use Rattle.l4_record.specs.Replays.{RanOut, FailsAt, StopsIn};
+ghost use Rattle.l4_record.specs.Inside.Walking.{Does};
 ghost use Rattle.l4_ipc.specs.Runs.{Run};
 ghost use Rattle.l4_record.specs.History.{steps_of, answers_of};
 ghost use Rattle.l4_provenance.specs.Inside.Arrivals.{Brought, newer, Arrived};
 
 use crate::writing::link_to;
-use l4_chains::{ChainLink, ReplayFault};
 use l4_ipc::{Kernel, Lower, Outcome, Place, Refused};
-use l4_record::{Entry, History};
+use l4_record::{ChainLink, Entry, History, ReplayFault};
 
 /// How a place got its mapping.
 #[derive(Clone, Copy)]

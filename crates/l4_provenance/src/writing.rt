@@ -2,11 +2,11 @@
 ghost use Rattle.std.specs.Prelude.{◌≡◌, ℕ, List, MatchOption};
 ghost use Rattle.l4_fpage.specs.declared.fpages.Fpage.{Fpage as AnFpage};
 ghost use Rattle.l4_msg.specs.declared.items.Item.{Item as AnItem};
-ghost use Rattle.l4_chains.specs.Inside.Carrying.{AreParties, IsCarriedBy, AnyCarries, IsCarried, IsWrittenBy, AnyWrites, IsWritten};
+ghost use Rattle.l4_record.specs.Inside.Carrying.{AreParties, IsCarriedBy, AnyCarries, IsCarried, IsWrittenBy, AnyWrites, IsWritten};
 
-use l4_chains::ChainLink;
 use l4_ipc::{Fpage, Item, Kernel, Place, Step};
 use l4_msg::item_moves;
+use l4_record::ChainLink;
 
 /// The items of a transfer, the spaces of its sender and receiver, and the receive window.
 #[derive(Clone, Copy)]

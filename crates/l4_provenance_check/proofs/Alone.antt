@@ -8,12 +8,12 @@ use Rattle.l4_ipc.specs.Machine.{Machine}
 use Rattle.l4_ipc.specs.Provenance.{Link, Brings, LeavesAlone}
 use Rattle.l4_ipc.proofs.OneState.{one_step}
 use Rattle.l4_record.specs.declared.entries.Entry.{Entry}
-use Rattle.l4_chains.specs.declared.links.ChainLink.{ChainLink}
-use Rattle.l4_chains.specs.Chains.{told}
-use Rattle.l4_chains.specs.Inside.Carrying.{IsCarried, IsWritten}
-use Rattle.l4_chains.specs.Inside.Walking.{entry_event, Does, IsNotDue, BringsTold, Passes}
+use Rattle.l4_record.specs.declared.links.ChainLink.{ChainLink}
+use Rattle.l4_record.specs.Chains.{told}
+use Rattle.l4_record.specs.Inside.Carrying.{IsCarried, IsWritten}
+use Rattle.l4_record.specs.Inside.Walking.{entry_event, Does, IsNotDue, BringsTold, Passes}
 use Rattle.l4_provenance_check.specs.Inside.Following.{NonePasses}
-use Rattle.l4_chains.proofs.Carried.{carried_brings, brings_carried, brings_done}
+use Rattle.l4_record.proofs.Carried.{carried_brings, brings_carried, brings_done}
 
 module _ (before after : Machine) (entry : Entry) where
   module _ (place : Place) where

@@ -12,11 +12,11 @@ use Rattle.l4_ipc.proofs.Tracing.{run_of}
 use Rattle.l4_record.specs.declared.entries.Entry.{Entry}
 use Rattle.l4_record.specs.History.{steps_of, answers_of, HasEvents}
 use Rattle.l4_record.proofs.Laws.{no_events, events_more}
-use Rattle.l4_chains.specs.declared.faults.ReplayFault.{ReplayFault}
-use Rattle.l4_chains.specs.declared.links.ChainLink.{ChainLink}
-use Rattle.l4_chains.specs.Inside.Walking.{Does, IsNotDue, Passes, PassesAll, IsWalked}
-use Rattle.l4_chains.specs.Chains.{origin_of}
-use Rattle.l4_chains.specs.Replays.{FailsAt, StopsIn}
+use Rattle.l4_record.specs.declared.faults.ReplayFault.{ReplayFault}
+use Rattle.l4_record.specs.declared.links.ChainLink.{ChainLink}
+use Rattle.l4_record.specs.Inside.Walking.{Does, IsNotDue, Passes, PassesAll, IsWalked}
+use Rattle.l4_record.specs.Chains.{origin_of}
+use Rattle.l4_record.specs.Replays.{FailsAt, StopsIn}
 use Rattle.l4_provenance_check.specs.Inside.Following.{NonePasses, Walked}
 
 -- The earlier entries lead to this machine. The links that are left lead on from the place over the rest exactly if all links lead over the whole history.

@@ -6,14 +6,14 @@ use Rattle.l4_ipc.specs.Machine.{Machine, IsBoot}
 use Rattle.l4_ipc.specs.Runs.{Run}
 use Rattle.l4_record.specs.declared.entries.Entry.{Entry}
 use Rattle.l4_record.specs.History.{steps_of, answers_of}
-use Rattle.l4_chains.specs.declared.faults.ReplayFault.{ReplayFault}
-use Rattle.l4_chains.specs.declared.faults.ReplayFault.TheVariants.{BadFrames, NoMemory, OtherAnswer}
-use Rattle.l4_chains.specs.declared.links.ChainLink.{ChainLink}
-use Rattle.l4_chains.specs.Chains.{IsProvenance}
-use Rattle.l4_chains.specs.Replays.{IsBootWith, IsReplayed, IsNotReplayed, StopsIn}
-use Rattle.l4_chains.specs.Inside.Walking.{IsWalked}
-use Rattle.l4_chains.proofs.Replayed.{stops_by_step}
-use Rattle.l4_chains.proofs.Walked.{is_provenance, of_provenance}
+use Rattle.l4_record.specs.declared.faults.ReplayFault.{ReplayFault}
+use Rattle.l4_record.specs.declared.faults.ReplayFault.TheVariants.{BadFrames, NoMemory, OtherAnswer}
+use Rattle.l4_record.specs.declared.links.ChainLink.{ChainLink}
+use Rattle.l4_record.specs.Chains.{IsProvenance}
+use Rattle.l4_record.specs.Replays.{IsBootWith, IsReplayed, IsNotReplayed, StopsIn}
+use Rattle.l4_record.specs.Inside.Walking.{IsWalked}
+use Rattle.l4_record.proofs.Replayed.{stops_by_step}
+use Rattle.l4_record.proofs.Walked.{is_provenance, of_provenance}
 use Rattle.l4_provenance_check.specs.Inside.Following.{Walked}
 
 module _ (frames : ℕ) (size : PageSize) (boot now : Machine) (history : List Entry) (place : Place) (links : List ChainLink)

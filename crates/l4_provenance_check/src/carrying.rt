@@ -3,11 +3,11 @@ ghost use Rattle.std.specs.Prelude.{◌≡◌, ◌↔◌, ℕ, List, Contains, I
 ghost use Rattle.l4_fpage.specs.declared.fpages.Fpage.{Fpage as AnFpage};
 ghost use Rattle.l4_msg.specs.Moves.{MovePairs};
 ghost use Rattle.l4_msg.specs.declared.items.Item.{Item as AnItem};
-ghost use Rattle.l4_chains.specs.Inside.Carrying.{AreParties, AreRights, IsCarriedBy, AnyCarries, IsCarried, IsWrittenBy, AnyWrites, IsWritten};
+ghost use Rattle.l4_record.specs.Inside.Carrying.{AreParties, AreRights, IsCarriedBy, AnyCarries, IsCarried, IsWrittenBy, AnyWrites, IsWritten};
 
-use l4_chains::ChainLink;
 use l4_ipc::{Fpage, Item, Kernel, Place, Rights, Step};
 use l4_msg::{Move, item_moves};
+use l4_record::ChainLink;
 
 /// The two sides of a transfer.
 #[derive(Clone, Copy)]

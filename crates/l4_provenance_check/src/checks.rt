@@ -3,15 +3,14 @@ ghost use Rattle.std.specs.Prelude.{◌≡◌, ◌↔◌, ℕ, List, IsTrue, IfO
 ghost use Rattle.l4_ipc.specs.Machine.{Machine};
 ghost use Rattle.l4_ipc.specs.Runs.{Run};
 ghost use Rattle.l4_record.specs.History.{steps_of, answers_of};
-ghost use Rattle.l4_chains.specs.Chains.{IsProvenance, origin_of};
-ghost use Rattle.l4_chains.specs.Replays.{IsBootWith, IsReplayed, IsNotReplayed, StopsIn};
-ghost use Rattle.l4_chains.specs.Inside.Walking.{IsWalked};
+ghost use Rattle.l4_record.specs.Chains.{IsProvenance, origin_of};
+ghost use Rattle.l4_record.specs.Replays.{IsBootWith, IsReplayed, IsNotReplayed, StopsIn};
+ghost use Rattle.l4_record.specs.Inside.Walking.{IsWalked};
 ghost use Rattle.l4_provenance_check.specs.Inside.Following.{Walked};
 
 use crate::passing::{is_at, pass, replay_from};
-use l4_chains::{ChainLink, ReplayFault};
 use l4_ipc::{Kernel, PageSize, Place, Refused};
-use l4_record::History;
+use l4_record::{ChainLink, History, ReplayFault};
 use std::alloc::Global;
 
 /// Returns the place at which the chain begins.
@@ -73,9 +72,10 @@ fn leads(
 /// frames of this size: the transfers that brought it there, one after another, from a page that sigma0 had at boot.
 /// A page that is not present at the end has no provenance.
 ///
-/// The whole history is replayed on a second kernel, also if the links are wrong. Errors: `BadFrames` if the number
-/// of frames is not from 1 to 4,096; `NoMemory` if memory runs out, also in a step of the replay where it did not run
-/// out in the history; `OtherAnswer` if a step gets any other answer than the history says.
+/// `true` and `false` both imply that the whole history is a run of the machine from boot, even if the links are wrong.
+/// Errors: `BadFrames` if the number of frames is not from 1 to 4,096; `NoMemory` if memory runs out, also in a step of
+/// the replay where it did not run out in the history; `OtherAnswer` if a step can get another answer than the history
+/// says, without running out of memory.
 pub fn check_provenance(
     alloc: Global,
     frames: u32,

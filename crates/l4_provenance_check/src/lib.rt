@@ -6,4 +6,4 @@ mod checks;
 mod passing;
 
 pub use checks::check_provenance;
-pub use l4_chains::{ChainLink, ReplayFault};
+pub use l4_record::{ChainLink, ReplayFault};

@@ -6,15 +6,14 @@ ghost use Rattle.l4_ipc.specs.Machine.{Machine};
 ghost use Rattle.l4_ipc.specs.Provenance.{LeavesAlone};
 ghost use Rattle.l4_ipc.specs.Runs.{Run};
 ghost use Rattle.l4_record.specs.History.{steps_of, answers_of, HasEvents};
-ghost use Rattle.l4_chains.specs.declared.links.ChainLink.{ChainLink as AChainLink};
-ghost use Rattle.l4_chains.specs.Inside.Walking.{entry_event, Does, IsNotDue, BringsTold, Passes};
-ghost use Rattle.l4_chains.specs.Replays.{RanOut, FailsAt, StopsIn};
+ghost use Rattle.l4_record.specs.declared.links.ChainLink.{ChainLink as AChainLink};
+ghost use Rattle.l4_record.specs.Inside.Walking.{entry_event, Does, IsNotDue, BringsTold, Passes};
+ghost use Rattle.l4_record.specs.Replays.{RanOut, FailsAt, StopsIn};
 ghost use Rattle.l4_provenance_check.specs.Inside.Following.{NonePasses};
 
 use crate::carrying::{is_carried, is_written};
-use l4_chains::{ChainLink, ReplayFault};
 use l4_ipc::{Kernel, Lower, Outcome, Place, Refused};
-use l4_record::{Entry, History};
+use l4_record::{ChainLink, Entry, History, ReplayFault};
 
 /// Returns whether the entry delivered a message.
 fn is_done(entry: &Entry) -> bool

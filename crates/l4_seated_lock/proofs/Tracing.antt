@@ -10,10 +10,10 @@ use Rattle.l4_record.specs.declared.entries.Entry.{Entry}
 use Rattle.l4_record.specs.History.{Follows, steps_of, answers_of}
 use Rattle.l4_record.specs.Laws.{IsWholeRun}
 use Rattle.l4_lock.specs.Locked.{Lock}
-use Rattle.l4_chains.specs.declared.faults.ReplayFault.{ReplayFault}
-use Rattle.l4_chains.specs.declared.faults.ReplayFault.TheVariants.{NoMemory, OtherAnswer}
-use Rattle.l4_chains.specs.Replays.{RanOut, StopsIn, IsNotReplayed, IsNotRepeated}
-use Rattle.l4_chains.proofs.OneAnswer.{one_answer, ran_out_or_not}
+use Rattle.l4_record.specs.declared.faults.ReplayFault.{ReplayFault}
+use Rattle.l4_record.specs.declared.faults.ReplayFault.TheVariants.{NoMemory, OtherAnswer}
+use Rattle.l4_record.specs.Replays.{RanOut, StopsIn, IsNotReplayed, IsNotRepeated}
+use Rattle.l4_record.proofs.OneAnswer.{one_answer, ran_out_or_not}
 use Rattle.l4_provenance.proofs.Back.{one_boot}
 
 pub of_lock : (P : ℕ → PageSize → List Entry → Type 0) (a l : Lock) (view : a ≡ l) (frames : ℕ) (read_frames : frames ≡ a.frames) (kernel : Machine) (read_kernel : kernel ≡ l.kernel)

@@ -5,6 +5,6 @@ mod closing;
 mod places;
 mod seated;
 
-pub use l4_chains::{ChainLink, ReplayFault};
 pub use l4_lock::{Entered, History, LockRefusal, Mismatch, Seat};
+pub use l4_record::{ChainLink, ReplayFault};
 pub use seated::SeatedLock;

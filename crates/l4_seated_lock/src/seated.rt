@@ -1,8 +1,8 @@
 //! A locked kernel together with its seats.
 ghost use Rattle.std.specs.Prelude.{◌≡◌, ◌≢◌, ◌⊎◌, ◌+◌, ◌↔◌, [], ◌∷◌, ◌++◌, None, Some, IsTrue, IfOk, IfErr, IfSome, IfNone, MatchResult, MatchOption, false};
 ghost use Rattle.l4_ipc.specs.Machine.{Machine, IsBoot};
-ghost use Rattle.l4_chains.specs.Chains.{IsProvenance, IsAbsent};
-ghost use Rattle.l4_chains.specs.Replays.{IsBootWith, IsReplayed, IsNotRepeated};
+ghost use Rattle.l4_record.specs.Chains.{IsProvenance, IsAbsent};
+ghost use Rattle.l4_record.specs.Replays.{IsBootWith, IsReplayed, IsNotRepeated};
 ghost use Rattle.l4_record.specs.Laws.{IsWholeRun};
 ghost use Rattle.l4_lock.specs.Books.{book, book_at, reply_waits};
 ghost use Rattle.l4_lock.specs.Closing.{IsShown, Closes, Mismatches, by_history};
@@ -13,11 +13,11 @@ ghost use Rattle.l4_seated_lock.specs.Inside.Places.{RefusesUnseated};
 
 use crate::closing::mismatch;
 use crate::places::position;
-use l4_chains::{ChainLink, ReplayFault};
 use l4_ipc::{Call, Kernel, PageSize, Place, Refused, Reply};
 use l4_lock::{Entered, History, LockRefusal, Locked, MAX_ENTRIES, MAX_STEPS, Mismatch, Seat};
 use l4_provenance::provenance;
 use l4_provenance_check::check_provenance;
+use l4_record::{ChainLink, ReplayFault};
 use std::alloc::Global;
 use std::marker::Model;
 

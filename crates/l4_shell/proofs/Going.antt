@@ -21,8 +21,8 @@ use Rattle.l4_record.specs.declared.appended.Appended.{Appended}
 use Rattle.l4_record.specs.declared.entries.Entry.{Entry}
 use Rattle.l4_record.specs.declared.refusals.RecordRefusal.{RecordRefusal}
 use Rattle.l4_record.specs.Following.{ComeNext, start_entry, next_entry}
-use Rattle.l4_seated.specs.Seated.{Seated, is_among, IsNew, Refuses as RefusesCall, with_number}
-use Rattle.l4_seated.specs.Entering.{Enters as EntersCall}
+use Rattle.l4_record.specs.Seated.{Seated, is_among, IsNew, Refuses as RefusesCall, with_number}
+use Rattle.l4_record.specs.Entering.{Enters as EntersCall}
 use Rattle.l4_shell.specs.Inside.Entering.{Entered}
 use Rattle.l4_servers.specs.Servers.{Servers}
 use Rattle.l4_threads.specs.declared.Reply.{Reply}

@@ -18,7 +18,7 @@ use Rattle.l4_ipc.specs.Reading.{reply_of}
 use Rattle.l4_ipc.specs.Following.{Done}
 use Rattle.l4_answers.specs.Refusals.{kernel_refusal}
 use Rattle.l4_answers.specs.Reports.{Report, RefusedLine, Ended, Page, Shown, Parent, is_refusal, has_refusal}
-use Rattle.l4_seated.specs.Seated.{is_among, with_number}
+use Rattle.l4_record.specs.Seated.{is_among, with_number}
 use Rattle.l4_servers.specs.Servers.{Servers}
 use Rattle.l4_shell.specs.Commands.{Command}
 use Rattle.l4_shell.specs.declared.commands.ScriptFault.{ScriptFault}

@@ -19,7 +19,7 @@ use Rattle.l4_shell.specs.declared.commands.ScriptFault.{ScriptFault}
 use Rattle.l4_shell.specs.Requests.{asked_at, asked_of}
 use Rattle.l4_answers.specs.Reports.{Report, AddsAll, Keeps, AllOut}
 use Rattle.l4_shell.specs.Sessions.{Session, session, first_session, AnswersLine, AnswersLines}
-use Rattle.l4_seated.specs.Seated.{Seated}
+use Rattle.l4_record.specs.Seated.{Seated}
 use Rattle.l4_shell.specs.Scripts.{WasOpen, AnswersFirst, AddsOut, Runs}
 use Rattle.l4_shell.specs.Histories.{Records}
 use Rattle.l4_shell.specs.Inside.Scripts.{HasFirstSeats, TellsBeginning, TellsAll, TellsWhole, TellsScript}

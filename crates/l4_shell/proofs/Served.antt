@@ -11,7 +11,7 @@ use Rattle.l4_ipc.specs.declared.steps.Answer.{Answer}
 use Rattle.l4_ipc.specs.Machine.{Machine}
 use Rattle.l4_ipc.specs.Steps.{Steps}
 use Rattle.l4_pager.specs.Serving.{waiting}
-use Rattle.l4_seated.specs.Seated.{Seated, MayEnter}
+use Rattle.l4_record.specs.Seated.{Seated, MayEnter}
 use Rattle.l4_ipc.specs.declared.steps.Refused.TheVariants.{UnknownThread}
 use Rattle.l4_pager.specs.Regions.{CanAdd}
 use Rattle.l4_pager.specs.declared.regions.Entry.{Entry}

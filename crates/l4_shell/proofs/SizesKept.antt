@@ -26,7 +26,7 @@ use Rattle.l4_shell.specs.declared.requests.Request.TheVariants.{Enter, CreateTh
 use Rattle.l4_answers.specs.Reports.{Report}
 use Rattle.l4_shell.specs.Lines.{ScriptLine}
 use Rattle.l4_shell.specs.Requests.{request_of, asked_of, root, delete_call}
-use Rattle.l4_seated.specs.Seated.{with_number}
+use Rattle.l4_record.specs.Seated.{with_number}
 use Rattle.l4_shell.specs.Sessions.{Session, first_session, call_entries, gone_on, Act, act_entries, IsAct, AreActs, StopsActing, Follows, Enters, RegionAdded, RegionRefused, CarriesOut, AnswersLine, AnswersLines}
 use Rattle.l4_shell.specs.Sizes.{GoBy, HasSize}
 

@@ -20,7 +20,7 @@ use Rattle.l4_ipc.specs.Following.{Done, AreNext}
 use Rattle.l4_record.specs.declared.entries.Entry.{Entry as HistoryEntry}
 use Rattle.l4_record.specs.declared.refusals.RecordRefusal.{RecordRefusal}
 use Rattle.l4_record.specs.Following.{start_entry}
-use Rattle.l4_seated.specs.Seated.{Seated, is_among, with_number, CanEnter, MayEnter, Refuses as RefusesCall}
+use Rattle.l4_record.specs.Seated.{Seated, is_among, with_number, CanEnter, MayEnter, Refuses as RefusesCall}
 use Rattle.l4_shell.specs.Commands.{Command}
 use Rattle.l4_shell.specs.declared.commands.ScriptFault.{ScriptFault}
 use Rattle.l4_shell.specs.declared.requests.Request.{Request}

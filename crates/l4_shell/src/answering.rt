@@ -19,8 +19,7 @@ use crate::requests::{CallPlaces, make_fault, make_ipc, make_receive, set_parts}
 use crate::session::Session;
 use l4_answers::Sink;
 use l4_ipc::Call;
-use l4_record::History;
-use l4_seated::SeatedKernel;
+use l4_record::{History, SeatedKernel};
 use l4_servers::Servers;
 use l4_text::Ending;
 

@@ -9,7 +9,7 @@ use crate::answering::Script;
 use crate::requests::ROOT;
 use l4_answers::Sink;
 use l4_ipc::PageSize;
-use l4_seated::SeatedKernel;
+use l4_record::SeatedKernel;
 use l4_servers::Servers;
 use l4_text::{Ending, LineReader, RunFault};
 use std::alloc::Global;

@@ -5,7 +5,7 @@ ghost use Rattle.l4_ipc.specs.OwnCall.{ended_if};
 ghost use Rattle.l4_ipc.specs.NextSteps.{answer_of};
 ghost use Rattle.l4_answers.specs.Reports.{Report, AddsAll};
 ghost use Rattle.l4_shell.specs.Sessions.{session, ended_reports, waiting_reports, GoesOn};
-ghost use Rattle.l4_seated.specs.Seated.{is_among};
+ghost use Rattle.l4_record.specs.Seated.{is_among};
 ghost use Rattle.l4_servers.specs.Acting.{IsFirstReady};
 ghost use Rattle.l4_shell.specs.Inside.Telling.{next_reports, ended_later, TellsAppended, TellsActs};
 

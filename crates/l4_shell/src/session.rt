@@ -15,8 +15,7 @@ use l4_answers::{Sink, refused_code};
 use l4_ipc::{Call, Kernel, Refused};
 use l4_msg::Region;
 use l4_pager::{Entry, wait};
-use l4_record::{Appended, History};
-use l4_seated::SeatedKernel;
+use l4_record::{Appended, History, SeatedKernel};
 use l4_servers::Servers;
 
 /// The session of a script: the kernel, the served threads, the buffer for the calls of served threads, and the buffer for what a call

@@ -13,9 +13,9 @@ use Rattle.l4_ipc.specs.Machine.{Machine, IsBoot}
 use Rattle.l4_ipc.specs.Runs.{Run}
 use Rattle.l4_record.specs.declared.entries.Entry.{Entry}
 use Rattle.l4_record.specs.History.{steps_of, answers_of}
-use Rattle.l4_chains.specs.declared.links.ChainLink.{ChainLink}
-use Rattle.l4_chains.specs.Chains.{IsProvenance, IsAbsent}
-use Rattle.l4_chains.specs.Replays.{IsBootWith}
+use Rattle.l4_record.specs.declared.links.ChainLink.{ChainLink}
+use Rattle.l4_record.specs.Chains.{IsProvenance, IsAbsent}
+use Rattle.l4_record.specs.Replays.{IsBootWith}
 use Rattle.l4_provenance.proofs.Back.{one_boot}
 use Rattle.l4_shell.specs.Histories.{Records}
 use Rattle.l4_text.specs.Streams.{WentOut}

@@ -6,8 +6,8 @@ use Rattle.l4_mapdb.specs.declared.Place.{Place}
 use Rattle.l4_ipc.specs.declared.steps.Step.{Step}
 use Rattle.l4_ipc.specs.declared.steps.Step.TheVariants.{Start, Transfer, Expire}
 use Rattle.l4_record.specs.declared.entries.Entry.{Entry}
-use Rattle.l4_chains.specs.declared.links.ChainLink.{ChainLink}
-use Rattle.l4_chains.specs.Chains.{origin_of}
+use Rattle.l4_record.specs.declared.links.ChainLink.{ChainLink}
+use Rattle.l4_record.specs.Chains.{origin_of}
 use Rattle.l4_answers.specs.Pages.{rights_text, page_text}
 use Rattle.l4_answers.specs.Replies.{space, newline}
 

@@ -1,7 +1,7 @@
 //! The lines of a chain of moves.
 ghost use Rattle.std.specs.Prelude.{◌≡◌, ◌≤◌, ◌+◌, ◌++◌, length, slice_get};
 ghost use Rattle.l4_answers.specs.Pages.{rights_text};
-ghost use Rattle.l4_chains.specs.Chains.{origin_of};
+ghost use Rattle.l4_record.specs.Chains.{origin_of};
 ghost use Rattle.l4_text.specs.Streams.{Tells};
 ghost use Rattle.l4_text.specs.Sizes.{text_bytes};
 ghost use Rattle.l4_why.specs.Chains.{sigma0_line, step_parties, entry_parties, kind_text, moved_text, link_line, link_lines, chain_text};

@@ -6,9 +6,9 @@ use Rattle.l4_ipc.specs.declared.steps.Outcome.TheVariants.{Done}
 use Rattle.l4_ipc.specs.Machine.{Machine}
 use Rattle.l4_record.specs.declared.entries.Entry.{Entry}
 use Rattle.l4_record.specs.History.{HasEvents}
-use Rattle.l4_chains.specs.declared.links.ChainLink.{ChainLink}
-use Rattle.l4_chains.specs.Inside.Carrying.{IsCarried, IsWritten}
-use Rattle.l4_chains.specs.Inside.Walking.{PassesAll}
+use Rattle.l4_record.specs.declared.links.ChainLink.{ChainLink}
+use Rattle.l4_record.specs.Inside.Carrying.{IsCarried, IsWritten}
+use Rattle.l4_record.specs.Inside.Walking.{PassesAll}
 use Rattle.l4_provenance.specs.declared.replaying.Arrival.{Arrival}
 use Rattle.l4_provenance.specs.declared.replaying.Arrival.TheVariants.{Absent, AtBoot, By}
 

@@ -4,8 +4,8 @@ use Rattle.l4_mapdb.specs.declared.Place.{Place}
 use Rattle.l4_ipc.specs.Machine.{Machine}
 use Rattle.l4_record.specs.declared.entries.Entry.{Entry}
 use Rattle.l4_record.specs.History.{HasEvents}
-use Rattle.l4_chains.specs.declared.links.ChainLink.{ChainLink}
-use Rattle.l4_chains.specs.Inside.Walking.{Does, Passes, IsWalked}
+use Rattle.l4_record.specs.declared.links.ChainLink.{ChainLink}
+use Rattle.l4_record.specs.Inside.Walking.{Does, Passes, IsWalked}
 
 -- the chain does not pass the entry
 abbrev pub NonePasses : ℕ → Machine → Entry → Place → List ChainLink → Type 0

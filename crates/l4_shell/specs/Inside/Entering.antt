@@ -6,7 +6,7 @@ use Rattle.l4_ipc.specs.declared.steps.Step.TheVariants.{Start}
 use Rattle.l4_ipc.specs.Machine.{Machine}
 use Rattle.l4_ipc.specs.Steps.{Steps, IsIdle}
 use Rattle.l4_ipc.specs.Following.{Done, AreNext}
-use Rattle.l4_seated.specs.Seated.{Seated, CanEnter}
+use Rattle.l4_record.specs.Seated.{Seated, CanEnter}
 use Rattle.l4_shell.specs.Sessions.{call_entries}
 
 -- The call was entered: the history goes on by its start and by the steps that come next, each with the machine right after it.

@@ -6,7 +6,7 @@ use Rattle.l4_shell.specs.Lines.{ScriptLine, lines_of}
 use Rattle.l4_answers.specs.Reports.{Report, AddsAll}
 use Rattle.l4_fpage.specs.declared.sizes.PageSize.{PageSize}
 use Rattle.l4_ipc.specs.Machine.{IsBoot}
-use Rattle.l4_seated.specs.Seated.{Seated}
+use Rattle.l4_record.specs.Seated.{Seated}
 use Rattle.l4_shell.specs.Scripts.{WasOpen}
 use Rattle.l4_shell.specs.Sessions.{Session, AnswersLines}
 use Rattle.l4_text.specs.declared.faults.RunFault.{RunFault}

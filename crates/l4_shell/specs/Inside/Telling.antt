@@ -8,7 +8,7 @@ use Rattle.l4_ipc.specs.declared.steps.NextStep.{NextStep}
 use Rattle.l4_ipc.specs.NextSteps.{step_of, answer_of}
 use Rattle.l4_record.specs.declared.appended.Appended.{Appended}
 use Rattle.l4_record.specs.declared.refusals.RecordRefusal.{RecordRefusal}
-use Rattle.l4_seated.specs.Seated.{Seated, is_among, Refuses as RefusesCall}
+use Rattle.l4_record.specs.Seated.{Seated, is_among, Refuses as RefusesCall}
 use Rattle.l4_shell.specs.Inside.Entering.{Entered}
 use Rattle.l4_answers.specs.Reports.{Report, RefusedLine, AddsAll}
 use Rattle.l4_shell.specs.Refusals.{call_refusal}

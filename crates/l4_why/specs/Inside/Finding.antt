@@ -9,7 +9,7 @@ use Rattle.l4_ipc.specs.Machine.{Machine, IsBoot}
 use Rattle.l4_ipc.specs.Runs.{Run}
 use Rattle.l4_record.specs.declared.entries.Entry.{Entry}
 use Rattle.l4_record.specs.History.{steps_of, answers_of}
-use Rattle.l4_chains.specs.Chains.{IsProvenance, IsAbsent}
+use Rattle.l4_record.specs.Chains.{IsProvenance, IsAbsent}
 use Rattle.l4_why.specs.Chains.{chain_text}
 use Rattle.l4_why.specs.Telling.{unknown_text, absent_text}
 use Rattle.l4_why.specs.declared.asking.ThreadPage.{ThreadPage}

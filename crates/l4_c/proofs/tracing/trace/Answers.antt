@@ -1,5 +1,5 @@
 use Rattle.std.proofs.Common.{◌∙◌}
-use Rattle.l4_chains.proofs.Choice.{none_is, some_is}
+use Rattle.l4_record.proofs.Choice.{none_is, some_is}
 use Rattle.l4_c.proofs.Found.{traced_chain, traced_none}
 use Rattle.l4_c.proofs.tracing.trace.Goals as goal
 

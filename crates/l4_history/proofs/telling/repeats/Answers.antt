@@ -1,7 +1,7 @@
 use Rattle.std.proofs.Common.{Ok, sym, ◌∙◌, subst}
 use Rattle.l4_ipc.specs.declared.steps.Answer.{Answer}
 use Rattle.l4_ipc.specs.Steps.{Steps}
-use Rattle.l4_chains.proofs.Same.{same_answer}
+use Rattle.l4_record.proofs.Same.{same_answer}
 use Rattle.l4_history.proofs.telling.repeats.Goals as goal
 
 pub returns-in-Ok : goal.returns-in-Ok

@@ -1,8 +1,8 @@
 use Rattle.std.proofs.Common.{◌≡◌, List, sym, subst}
 use Rattle.l4_ipc.specs.Machine.{Machine}
-use Rattle.l4_chains.specs.Chains.{IsProvenance}
-use Rattle.l4_chains.specs.Replays.{IsBootWith}
-use Rattle.l4_chains.specs.declared.links.ChainLink.{ChainLink}
+use Rattle.l4_record.specs.Chains.{IsProvenance}
+use Rattle.l4_record.specs.Replays.{IsBootWith}
+use Rattle.l4_record.specs.declared.links.ChainLink.{ChainLink}
 use Rattle.l4_provenance.specs.declared.replaying.Arrival.{Arrival}
 use Rattle.l4_provenance.proofs.Back.{Back, Came, came_of, back_next, found_all, found_none}
 use Rattle.l4_provenance.proofs.finding.provenance.Goals as goal

@@ -1,5 +1,5 @@
 use Rattle.std.proofs.Common.{◌≡◌, ◌+◌, not, arith, is_some, sym, ap, ◌∙◌, subst, Option}
-use Rattle.l4_chains.specs.declared.links.ChainLink.{ChainLink}
+use Rattle.l4_record.specs.declared.links.ChainLink.{ChainLink}
 use Rattle.l4_provenance.proofs.Sofar.{Sofar, sofar_next, sofar_by, fails_in}
 use Rattle.l4_provenance.proofs.replaying.last_arrival.Goals as goal
 

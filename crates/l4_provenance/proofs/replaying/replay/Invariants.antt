@@ -1,4 +1,4 @@
-use Rattle.l4_chains.proofs.Replayed.{Done}
+use Rattle.l4_record.proofs.Replayed.{Done}
 use Rattle.l4_provenance.proofs.replaying.replay.Given as goal
 
 abbrev pub invariant-loop-number : goal.invariant-loop-number

@@ -3,8 +3,8 @@ use Rattle.l4_fpage.specs.Rights.{common}
 use Rattle.l4_fpage.specs.Fpages.{rights_of}
 use Rattle.l4_fpage.specs.declared.sizes.PageSize.{PageSize}
 use Rattle.l4_msg.specs.Moves.{ItemMoves, MovePairs, fpage_of}
-use Rattle.l4_chains.proofs.Same.{none_is}
-use Rattle.l4_chains.proofs.Written.{written_from}
+use Rattle.l4_record.proofs.Same.{none_is}
+use Rattle.l4_record.proofs.Written.{written_from}
 use Rattle.l4_provenance.proofs.writing.link_by.Goals as goal
 
 pub returns-then-is_empty : goal.returns-then-is_empty

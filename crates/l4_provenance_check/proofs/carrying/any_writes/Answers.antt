@@ -3,7 +3,7 @@ use Rattle.std.proofs.lemmas.Bool.{false≢true}
 use Rattle.std.proofs.lemmas.List.{get_or_default}
 use Rattle.std.proofs.lemmas.List.Elements.{AllWithin-more}
 use Rattle.l4_msg.specs.declared.items.Item.{Item}
-use Rattle.l4_chains.specs.Inside.Carrying.{IsWrittenBy}
+use Rattle.l4_record.specs.Inside.Carrying.{IsWrittenBy}
 use Rattle.l4_provenance_check.proofs.carrying.any_writes.Goals as goal
 
 pub loop-item-preserved : goal.loop-item-preserved

@@ -1,5 +1,5 @@
 use Rattle.std.specs.List.{AllWithin}
-use Rattle.l4_chains.specs.Inside.Carrying.{IsWrittenBy}
+use Rattle.l4_record.specs.Inside.Carrying.{IsWrittenBy}
 use Rattle.l4_provenance_check.proofs.carrying.any_writes.Given as goal
 
 abbrev pub invariant-loop-item : goal.invariant-loop-item

@@ -3,7 +3,7 @@ use Rattle.std.proofs.lemmas.Bool.{eq-eqb, eqb-true}
 use Rattle.l4_fpage.specs.Fpages.{rights_of}
 use Rattle.l4_fpage.specs.Rights.{bits_of, common}
 use Rattle.l4_msg.specs.Moves.{fpage_of}
-use Rattle.l4_chains.proofs.Same.{same_flag, same_rights, some_is}
+use Rattle.l4_record.proofs.Same.{same_flag, same_rights, some_is}
 use Rattle.l4_provenance_check.proofs.carrying.has_rights.Goals as goal
 
 pub returns : goal.returns

@@ -1,7 +1,7 @@
 use Rattle.std.proofs.Common.{ℕ, ◌↔◌, Some, sym, ◌∙◌, subst}
 use Rattle.l4_fpage.specs.declared.sizes.PageSize.{PageSize}
 use Rattle.l4_msg.specs.Moves.{ItemMoves, MovePairs}
-use Rattle.l4_chains.proofs.Written.{carried_rights, carried_with}
+use Rattle.l4_record.proofs.Written.{carried_rights, carried_with}
 use Rattle.l4_provenance_check.proofs.carrying.is_carried_by.Goals as goal
 
 pub returns : goal.returns

@@ -1,5 +1,5 @@
 use Rattle.std.proofs.lemmas.Bool.{false≢true}
-use Rattle.l4_chains.proofs.Written.{any_written, written_any}
+use Rattle.l4_record.proofs.Written.{any_written, written_any}
 use Rattle.l4_provenance_check.proofs.carrying.is_written.Goals as goal
 
 pub returns-in-None : goal.returns-in-None

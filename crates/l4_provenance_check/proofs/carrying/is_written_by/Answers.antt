@@ -3,8 +3,8 @@ use Rattle.l4_fpage.specs.Rights.{common}
 use Rattle.l4_fpage.specs.Fpages.{rights_of}
 use Rattle.l4_fpage.specs.declared.sizes.PageSize.{PageSize}
 use Rattle.l4_msg.specs.Moves.{ItemMoves, MovePairs, fpage_of}
-use Rattle.l4_chains.proofs.Written.{writes_with, written_from}
-use Rattle.l4_chains.proofs.Same.{is_some, not_none}
+use Rattle.l4_record.proofs.Written.{writes_with, written_from}
+use Rattle.l4_record.proofs.Same.{is_some, not_none}
 use Rattle.l4_provenance_check.proofs.carrying.is_written_by.Goals as goal
 
 pub returns : goal.returns

@@ -1,7 +1,7 @@
 use Rattle.std.proofs.Common.{sym, ap, ◌∙◌, is_some}
 use Rattle.l4_provenance_check.proofs.Followed.{followed_next, replayed_all, walked_all, stuck, fails_in, done_with}
-use Rattle.l4_chains.proofs.Same.{none_left}
-use Rattle.l4_chains.proofs.Choice.{none_is, some_is}
+use Rattle.l4_record.proofs.Same.{none_left}
+use Rattle.l4_record.proofs.Choice.{none_is, some_is}
 use Rattle.l4_provenance_check.proofs.checks.leads.Goals as goal
 
 pub returns-in-Ok-None-clause-only : goal.returns-in-Ok-None-clause-only

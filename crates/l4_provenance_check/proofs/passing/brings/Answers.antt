@@ -1,5 +1,5 @@
 use Rattle.l4_provenance_check.proofs.Alone.{told_carried}
-use Rattle.l4_chains.proofs.Carried.{carried_brings}
+use Rattle.l4_record.proofs.Carried.{carried_brings}
 use Rattle.l4_provenance_check.proofs.passing.brings.Goals as goal
 
 pub returns-clause-ok : goal.returns-clause-ok

@@ -1,8 +1,8 @@
 use Rattle.std.proofs.Common.{Ok, inr, refl, sym, subst}
 use Rattle.l4_ipc.specs.declared.steps.Answer.{Answer}
 use Rattle.l4_ipc.specs.Steps.{Steps}
-use Rattle.l4_chains.proofs.Replayed.{other_answer}
-use Rattle.l4_chains.proofs.Same.{same_answer}
+use Rattle.l4_record.proofs.Replayed.{other_answer}
+use Rattle.l4_record.proofs.Same.{same_answer}
 use Rattle.l4_provenance_check.proofs.passing.redo.Goals as goal
 
 pub returns-then-eq-clause-ok : goal.returns-then-eq-clause-ok

@@ -1,5 +1,5 @@
 use Rattle.std.proofs.Common.{arith, sym, ◌∙◌, ◌≡◌, length}
-use Rattle.l4_chains.proofs.Replayed.{done_next, done_all, done_fails}
+use Rattle.l4_record.proofs.Replayed.{done_next, done_all, done_fails}
 use Rattle.l4_provenance_check.proofs.passing.replay_from.Goals as goal
 
 pub loop-number-init : goal.loop-number-init

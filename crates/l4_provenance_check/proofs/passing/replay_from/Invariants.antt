@@ -1,7 +1,7 @@
 use Rattle.std.proofs.Common.{take}
 use Rattle.l4_ipc.specs.Machine.{Machine}
 use Rattle.l4_record.specs.History.{HasEvents}
-use Rattle.l4_chains.proofs.Replayed.{Done}
+use Rattle.l4_record.proofs.Replayed.{Done}
 use Rattle.l4_provenance_check.proofs.passing.replay_from.Given as goal
 
 abbrev pub invariant-loop-number : goal.invariant-loop-number

@@ -1,5 +1,5 @@
 use Rattle.std.proofs.Common.{false, refl, sym, subst, ◌∙◌}
-use Rattle.l4_seated.specs.Seated.{Seated}
+use Rattle.l4_record.specs.Seated.{Seated}
 use Rattle.l4_shell.specs.Inside.Scripts.{HasFirstSeats}
 use Rattle.l4_shell.proofs.Scripting.{records_on, first_is}
 use Rattle.l4_shell.proofs.recording.record.Goals as goal

@@ -1,5 +1,5 @@
 use Rattle.std.proofs.Common.{sym, subst, ◌∙◌}
-use Rattle.l4_seated.specs.Seated.{Seated}
+use Rattle.l4_record.specs.Seated.{Seated}
 use Rattle.l4_shell.specs.Inside.Scripts.{HasFirstSeats}
 use Rattle.l4_shell.proofs.Scripting.{runs_on, runs_not, first_is}
 use Rattle.l4_shell.proofs.running.run.Goals as goal

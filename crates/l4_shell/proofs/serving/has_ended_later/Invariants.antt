@@ -1,5 +1,5 @@
 use Rattle.std.proofs.Common.{◌≡◌, take}
-use Rattle.l4_seated.specs.Seated.{is_among}
+use Rattle.l4_record.specs.Seated.{is_among}
 use Rattle.l4_shell.specs.Inside.Telling.{ended_later}
 use Rattle.l4_shell.proofs.serving.has_ended_later.Given as goal
 

@@ -1,6 +1,6 @@
 use Rattle.std.proofs.Common.{[], ◌∷◌, ap, refl, rules}
 use Rattle.l4_answers.specs.Reports.{StepCount}
-use Rattle.l4_seated.specs.Seated.{Seated}
+use Rattle.l4_record.specs.Seated.{Seated}
 use Rattle.l4_shell.specs.Sessions.{session}
 use Rattle.l4_shell.proofs.session.tell_count.Goals as goal
 

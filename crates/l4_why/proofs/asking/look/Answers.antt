@@ -1,5 +1,5 @@
 use Rattle.std.proofs.Common.{sym, ◌∙◌}
-use Rattle.l4_chains.proofs.Choice.{none_is, some_is}
+use Rattle.l4_record.proofs.Choice.{none_is, some_is}
 use Rattle.l4_why.proofs.Found.{is_unknown, is_absent, is_found_absent, is_chain}
 use Rattle.l4_why.proofs.asking.look.Goals as goal
 

@@ -4,8 +4,8 @@ use Rattle.l4_ipc.specs.Machine.{Machine}
 use Rattle.l4_lock.specs.Locked.{Lock}
 use Rattle.l4_record.specs.declared.entries.Entry.{Entry}
 use Rattle.l4_record.specs.Laws.{IsWholeRun}
-use Rattle.l4_chains.specs.Chains.{IsProvenance, IsAbsent}
-use Rattle.l4_chains.specs.Replays.{IsBootWith, IsNotReplayed}
+use Rattle.l4_record.specs.Chains.{IsProvenance, IsAbsent}
+use Rattle.l4_record.specs.Replays.{IsBootWith, IsNotReplayed}
 use Rattle.l4_seated_lock.proofs.Tracing.{of_lock, not_repeated}
 use Rattle.l4_seated_lock.proofs.seated.SeatedLock.provenance.Goals as goal
 

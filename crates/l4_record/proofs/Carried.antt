@@ -23,10 +23,10 @@ use Rattle.l4_ipc.specs.Provenance.{Link, Brings}
 use Rattle.l4_ipc.specs.Steps.{Steps, Meets}
 use Rattle.l4_ipc.proofs.OneState.{same_value}
 use Rattle.l4_record.specs.declared.entries.Entry.{Entry}
-use Rattle.l4_chains.specs.declared.links.ChainLink.{ChainLink}
-use Rattle.l4_chains.specs.Chains.{told}
-use Rattle.l4_chains.specs.Inside.Carrying.{AreParties, IsCarriedBy, IsCarried}
-use Rattle.l4_chains.specs.Inside.Walking.{entry_event, Does, BringsTold}
+use Rattle.l4_record.specs.declared.links.ChainLink.{ChainLink}
+use Rattle.l4_record.specs.Chains.{told}
+use Rattle.l4_record.specs.Inside.Carrying.{AreParties, IsCarriedBy, IsCarried}
+use Rattle.l4_record.specs.Inside.Walking.{entry_event, Does, BringsTold}
 
 -- a step has one sender and one receiver
 pub record SameParties (a b c d : ℕ) (xs ys : List Item) (v w : Fpage) : Type 0 where

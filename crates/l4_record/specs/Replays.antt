@@ -12,8 +12,8 @@ use Rattle.l4_ipc.specs.Runs.{Run}
 use Rattle.l4_ipc.specs.Steps.{Steps}
 use Rattle.l4_record.specs.declared.entries.Entry.{Entry}
 use Rattle.l4_record.specs.History.{steps_of, answers_of}
-use Rattle.l4_chains.specs.declared.faults.ReplayFault.{ReplayFault}
-use Rattle.l4_chains.specs.declared.faults.ReplayFault.TheVariants.{BadFrames, NoMemory, OtherAnswer}
+use Rattle.l4_record.specs.declared.faults.ReplayFault.{ReplayFault}
+use Rattle.l4_record.specs.declared.faults.ReplayFault.TheVariants.{BadFrames, NoMemory, OtherAnswer}
 
 -- the kernel as it boots with this number of frames, from 1 to 4,096, and with pages of this size
 abbrev pub IsBootWith : ℕ → PageSize → Machine → Type 0

@@ -7,8 +7,8 @@ use Rattle.l4_ipc.specs.Events.{Event}
 use Rattle.l4_ipc.specs.Provenance.{Link, Brings, LeavesAlone}
 use Rattle.l4_ipc.specs.Steps.{Steps}
 use Rattle.l4_record.specs.declared.entries.Entry.{Entry}
-use Rattle.l4_chains.specs.declared.links.ChainLink.{ChainLink}
-use Rattle.l4_chains.specs.Chains.{told, origin_of}
+use Rattle.l4_record.specs.declared.links.ChainLink.{ChainLink}
+use Rattle.l4_record.specs.Chains.{told, origin_of}
 
 -- the event of the entry between these machines
 abbrev pub entry_event : Machine → Entry → Machine → Event

@@ -6,7 +6,7 @@ use Rattle.l4_ipc.specs.Machine.{Machine}
 use Rattle.l4_ipc.specs.Steps.{Steps, IsIdle}
 use Rattle.l4_record.specs.declared.appended.Appended.{Appended}
 use Rattle.l4_record.specs.Following.{Lasts, ComeNext, start_entry, next_entry}
-use Rattle.l4_seated.specs.Seated.{Seated, CanEnter}
+use Rattle.l4_record.specs.Seated.{Seated, CanEnter}
 
 -- The call was entered. Its start, and the next steps until no step is enabled, were appended to the history. The replies of all calls that
 -- ended in these steps can still be read.

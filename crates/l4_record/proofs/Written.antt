@@ -13,10 +13,10 @@ use Rattle.l4_mapdb.specs.Mappings.{Mappings, shown}
 use Rattle.l4_ipc.specs.declared.steps.Step.{Step}
 use Rattle.l4_ipc.specs.Machine.{Machine}
 use Rattle.l4_ipc.proofs.OneState.{same_value}
-use Rattle.l4_chains.specs.declared.links.ChainLink.{ChainLink}
-use Rattle.l4_chains.specs.Inside.Carrying.{AreParties, IsCarriedBy, AnyCarries, IsCarried, IsWritten}
-use Rattle.l4_chains.proofs.Carried.{same_parties}
-use Rattle.l4_chains.specs.Inside.Carrying.{AreRights, IsWrittenBy, AnyWrites}
+use Rattle.l4_record.specs.declared.links.ChainLink.{ChainLink}
+use Rattle.l4_record.specs.Inside.Carrying.{AreParties, IsCarriedBy, AnyCarries, IsCarried, IsWritten}
+use Rattle.l4_record.proofs.Carried.{same_parties}
+use Rattle.l4_record.specs.Inside.Carrying.{AreRights, IsWrittenBy, AnyWrites}
 
 abbrev pub place_at : ℕ → ℕ → Place
 place_at space page = record { space = space; page = page }

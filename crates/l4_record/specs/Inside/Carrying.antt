@@ -17,7 +17,7 @@ use Rattle.l4_threads.specs.Threads.{thread_at}
 use Rattle.l4_ipc.specs.declared.steps.Step.{Step}
 use Rattle.l4_ipc.specs.declared.steps.Step.TheVariants.{Transfer}
 use Rattle.l4_ipc.specs.Machine.{Machine}
-use Rattle.l4_chains.specs.declared.links.ChainLink.{ChainLink}
+use Rattle.l4_record.specs.declared.links.ChainLink.{ChainLink}
 
 -- the step is a transfer from a thread of one space, which sends these items, to a thread of the other space, which receives in this window
 pub record AreParties (m : Machine) (step : Step) («from» to : ℕ) (items : List Item) (window : Fpage) : Type 0 where

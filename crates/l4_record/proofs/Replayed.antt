@@ -15,11 +15,11 @@ use Rattle.l4_ipc.proofs.Tracing.{run_of}
 use Rattle.l4_record.specs.declared.entries.Entry.{Entry}
 use Rattle.l4_record.specs.History.{steps_of, answers_of, HasEvents}
 use Rattle.l4_record.proofs.Laws.{no_events, events_more}
-use Rattle.l4_chains.specs.declared.faults.ReplayFault.{ReplayFault}
-use Rattle.l4_chains.specs.declared.faults.ReplayFault.TheVariants.{BadFrames, NoMemory, OtherAnswer}
-use Rattle.l4_chains.specs.Replays.{FailsAt, StopsIn}
-use Rattle.l4_chains.specs.Inside.Walking.{Does}
-use Rattle.l4_chains.proofs.Same.{answer_same}
+use Rattle.l4_record.specs.declared.faults.ReplayFault.{ReplayFault}
+use Rattle.l4_record.specs.declared.faults.ReplayFault.TheVariants.{BadFrames, NoMemory, OtherAnswer}
+use Rattle.l4_record.specs.Replays.{FailsAt, StopsIn}
+use Rattle.l4_record.specs.Inside.Walking.{Does}
+use Rattle.l4_record.proofs.Same.{answer_same}
 
 pub take_zero : (history : List Entry) → take 0 history ≡ []
 take_zero [] = refl

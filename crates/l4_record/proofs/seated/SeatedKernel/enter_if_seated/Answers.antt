@@ -1,7 +1,7 @@
 use Rattle.std.proofs.Common.{◌≡◌, true, ap, ◌∙◌, rules}
-use Rattle.l4_seated.specs.Seated.{Seated, is_among}
-use Rattle.l4_seated.proofs.Seating.{ok_enters}
-use Rattle.l4_seated.proofs.seated.SeatedKernel.enter_if_seated.Goals as goal
+use Rattle.l4_record.specs.Seated.{Seated, is_among}
+use Rattle.l4_record.proofs.Seating.{ok_enters}
+use Rattle.l4_record.proofs.seated.SeatedKernel.enter_if_seated.Goals as goal
 
 pub returns-clause-ok : goal.returns-clause-ok
 returns-clause-ok c =

@@ -4,8 +4,8 @@ use Rattle.l4_ipc.specs.declared.calls.Call.{Call}
 use Rattle.l4_record.specs.declared.appended.Appended.{Appended}
 use Rattle.l4_record.specs.declared.refusals.RecordRefusal.{RecordRefusal}
 use Rattle.l4_record.specs.Recording.{Recording, Enters as Recorded}
-use Rattle.l4_seated.specs.Seated.{Seated, seated, is_among}
-use Rattle.l4_seated.specs.Entering.{Enters}
+use Rattle.l4_record.specs.Seated.{Seated, seated, is_among}
+use Rattle.l4_record.specs.Entering.{Enters}
 
 pub ok_enters : {T : Type 0} (r : Result T RecordRefusal) (s : Seated) (old new : Recording) (numbers : List ℕ) (seen n : ℕ) (call : Call) (appended : Appended) → is_among n numbers ≡ true
     → seated old.kernel old.history numbers seen ≡ s → IfOk r (λ _. Recorded old new n call appended) → IfOk r (λ _. Enters s (seated new.kernel new.history numbers seen) n call appended)

@@ -1,11 +1,11 @@
 //! The kernel of a script: a recorded kernel, and the numbers of the threads that may enter calls.
 ghost use Rattle.std.specs.Prelude.{◌≡◌, ◌≤◌, ◌↔◌, false, IsTrue, IfOk, IfErr, MatchResult, length};
 ghost use Rattle.l4_record.specs.Recording.{RefusesBoot};
-ghost use Rattle.l4_seated.specs.Seated.{is_among, IsNew, with_number, MayEnter, Refuses};
-ghost use Rattle.l4_seated.specs.Entering.{Enters};
+ghost use Rattle.l4_record.specs.Seated.{is_among, IsNew, with_number, MayEnter, Refuses};
+ghost use Rattle.l4_record.specs.Entering.{Enters};
 
+use crate::{Appended, Board, History, RecordRefusal, Recorder, Watch};
 use l4_ipc::{Call, Kernel, NoMemory, PageSize, Refused};
-use l4_record::{Appended, Board, History, RecordRefusal, Recorder, Watch};
 use std::alloc::Global;
 use std::marker::Model;
 
@@ -23,7 +23,7 @@ impl Model for SeatedKernel {
     ghost use Rattle.std.specs.Prelude.{◌≡◌};
     ghost use Rattle.l4_threads.specs.contracts.Thread as thread;
     ghost use Rattle.l4_record.specs.contracts.entries.Entry as entry;
-    ghost use Rattle.l4_seated.specs.Seated.{Seated, seated, seated_code};
+    ghost use Rattle.l4_record.specs.Seated.{Seated, seated, seated_code};
 
     ghost Value = { Seated };
 

@@ -11,7 +11,7 @@ use Rattle.l4_ipc.specs.Runs.{Run}
 use Rattle.l4_ipc.specs.Provenance.{Link, Brings, LeavesAlone, HasProvenance}
 use Rattle.l4_record.specs.declared.entries.Entry.{Entry}
 use Rattle.l4_record.specs.History.{steps_of, answers_of}
-use Rattle.l4_chains.specs.declared.links.ChainLink.{ChainLink}
+use Rattle.l4_record.specs.declared.links.ChainLink.{ChainLink}
 
 -- the link as data, if the entry with this number is its transfer
 abbrev pub told : ℕ → Link → ChainLink

@@ -39,7 +39,7 @@ use Rattle.l4_ipc.specs.Moving.{Moves}
 use Rattle.l4_ipc.specs.Start.{has_send, has_receive, ipc_next, ended_by, IsSent, IsWindow, CallRefuses, RefusesIn, StartRefuses}
 use Rattle.l4_ipc.specs.Steps.{Steps, Starts, IsDeleteList, DeletesThread, is_done, ended_in_transfer}
 use Rattle.l4_ipc.proofs.OneState.{same_value, one_meeting}
-use Rattle.l4_chains.specs.Replays.{RanOut}
+use Rattle.l4_record.specs.Replays.{RanOut}
 
 -- RISING LISTS
 

@@ -17,9 +17,9 @@ use Rattle.l4_ipc.proofs.Provenances.{have_provenance}
 use Rattle.l4_ipc.proofs.Tracing.{AreForests, one_trace}
 use Rattle.l4_record.specs.declared.entries.Entry.{Entry}
 use Rattle.l4_record.specs.History.{steps_of, answers_of, KeepsForest, HasEvents}
-use Rattle.l4_chains.specs.declared.links.ChainLink.{ChainLink}
-use Rattle.l4_chains.specs.Chains.{told, LeadsAsTold, IsProvenance, origin_of}
-use Rattle.l4_chains.specs.Inside.Walking.{entry_event, Does, IsNotDue, Passes, PassesAll, IsWalked}
+use Rattle.l4_record.specs.declared.links.ChainLink.{ChainLink}
+use Rattle.l4_record.specs.Chains.{told, LeadsAsTold, IsProvenance, origin_of}
+use Rattle.l4_record.specs.Inside.Walking.{entry_event, Does, IsNotDue, Passes, PassesAll, IsWalked}
 
 -- FROM ENTRIES TO EVENTS
 
