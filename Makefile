@@ -26,7 +26,7 @@ SCRIPT ?= examples/first.script
 UNPROVED = out/unproved
 
 try:
-	@$(MAKE) -s -q $(UNPROVED)/l4 $(UNPROVED)/l4_steps || echo 'building l4 and l4_steps without proofs, which takes about a minute'
+	@$(MAKE) -s -q $(UNPROVED)/l4 $(UNPROVED)/l4_steps || echo 'building l4 and l4_steps without proofs, which takes one to two minutes'
 	@$(MAKE) -s -j 2 $(UNPROVED)/l4 $(UNPROVED)/l4_steps
 	$(UNPROVED)/l4 run $(SCRIPT)
 	@echo 'Nothing has been proved yet: these programs are in $(UNPROVED). `make` proves the crates and builds the proved programs.'

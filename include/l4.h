@@ -51,8 +51,8 @@
  *
  * RESERVED MEMBERS
  *
- * Structs that may get further members have spare ones, named reserved, so that their layout can stay. The library writes them as 0. In a
- * struct that you pass (l4_call, l4_link) they must be 0: initialize the whole struct to 0 before you fill it in.
+ * Structs that may get further members have spare ones, named reserved, so that their layout need not change. The library writes them as 0.
+ * In a struct that you pass (l4_call, l4_link) they must be 0: initialize the whole struct to 0 before you fill it in.
  *
  * THREAD NUMBERS, THREAD IDS, PAGES AND RIGHTS
  *
@@ -211,8 +211,8 @@ uint32_t l4_boot_sized(l4_kernel *kernel, uint32_t frames, uint32_t page_bytes);
 
 /* Copies a kernel into a second, empty handle. The copy has the same threads with what each is doing and its message registers, the same
  * queue of senders, the same spaces and the same mappings, in memory of its own. Changes to one kernel are not visible in the other. You
- * free the copy with l4_free. After a refusal the second handle is unchanged; the first is unchanged in either case. A copy takes as much
- * memory as the largest number of pages that were ever present at once needs. Refusals in this order: B1 for the kernel, B2 for the copy,
+ * free the copy with l4_free. After a refusal the second handle is unchanged; the first is unchanged in either case. The memory that a copy
+ * takes depends on the largest number of pages that were ever present at once. Refusals in this order: B1 for the kernel, B2 for the copy,
  * NoMemory. */
 uint32_t l4_copy(l4_kernel *kernel, l4_kernel *copy);
 
@@ -441,7 +441,7 @@ typedef struct l4_place {
  * Refusals: B1; NoMemory, and then nothing is written. */
 l4_count l4_descendants(l4_kernel *kernel, uint64_t space, uint32_t page, l4_place *places, size_t room);
 
-/* A region: `count` pages from the page `source` on, which go to the pages from `target` on with these rights. */
+/* A region: `count` pages that start at page `source`. They move to the pages that start at page `target`, with these rights. */
 typedef struct l4_region {
     uint32_t source;
     uint32_t target;
@@ -482,8 +482,8 @@ l4_request l4_read_request(const uint32_t *words, size_t count);
 
 /* PAGERS' TABLES */
 
-/* A pager's table: which of its own pages the pager maps for the pages of the threads that it serves. It has at most 64 regions, whose
- * target pages do not overlap. Source pages may be shared. */
+/* A pager's table. For the pages of the threads that the pager serves, it says which of its own pages the pager maps there. It has at most
+ * 64 regions, whose target pages do not overlap. Source pages may be shared. */
 typedef struct l4_pager {
     void *hidden;
 } l4_pager;
@@ -522,7 +522,7 @@ l4_message l4_pager_answer(l4_pager *pager, const uint32_t *words, size_t count)
 
 /* SIGMA0'S TABLE */
 
-/* sigma0's table: which space owns which frame. A frame that a space has been given stays that space's. */
+/* sigma0's table: which space owns which frame. Once a space has been given a frame, the frame belongs to that space for good. */
 typedef struct l4_sigma0 {
     void *hidden;
 } l4_sigma0;

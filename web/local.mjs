@@ -20,7 +20,7 @@ export class LocalSource {
     this.worker?.terminate();
     this.worker = new Worker(scriptFile("worker"));
     this.worker.onmessage = ({ data }) => this.#take(data);
-    this.worker.onerror = (event) => { event.preventDefault(); this.#fail(`The page's worker ended: ${event.message ?? "no memory"}. You can go on.`); };
+    this.worker.onerror = (event) => { event.preventDefault(); this.#fail(`The page's worker stopped: ${event.message ?? "no memory"}. You can run a script again.`); };
     this.#send("module", bytes).catch(() => {});
   }
 

@@ -29,7 +29,7 @@ export class Refused extends Error {
 /** Why a call failed, in words. */
 export function failureText(fault) {
   const { message } = fault;
-  if (fault instanceof WebAssembly.RuntimeError) return `The module stopped at a trap (${message}). This is a fault of the page: please report the script. You can go on.`;
+  if (fault instanceof WebAssembly.RuntimeError) return `The module stopped at a trap (${message}). This is a bug of the page: please report the script. You can run another script.`;
   if (fault instanceof RangeError) return `The browser has no memory left for this (${message}). Make the script shorter, or use \`l4 run\`.`;
   return message;
 }

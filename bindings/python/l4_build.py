@@ -53,7 +53,7 @@ def find_library() -> Path:
 
 
 def project(name: str) -> Any:
-    """What pyproject.toml says of the project under this name: a text, or a list of texts."""
+    """Returns the value of this key in pyproject.toml: a text, or a list of texts."""
     found = re.search(rf'^{name} = (".*"|\[[^\]]*\])$', (HERE / "pyproject.toml").read_text(), re.MULTILINE)
     if not found:
         raise Unbuilt(f"pyproject.toml has no {name}")
@@ -61,8 +61,8 @@ def project(name: str) -> Any:
 
 
 def platform_tag(library: bytes) -> str:
-    """The platform that a wheel with this library is for: each Linux of its processor whose glibc has all that the library asks for, where
-    that library is all that it needs (PEP 600), and else this machine's."""
+    """Returns the platform tag of a wheel with this library. If the library depends only on glibc, the wheel works on every Linux for this
+    processor whose glibc is new enough (PEP 600); otherwise the tag is that of this machine."""
     own = re.sub("[-.]", "_", sysconfig.get_platform())
     needed = set(re.findall(rb"\0((?:lib|ld-)[\w.+-]*\.so[.\d]*)(?=\0)", library))
     versions = [int(minor) for minor in re.findall(rb"\0GLIBC_2\.(\d+)", library)]

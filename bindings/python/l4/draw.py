@@ -129,7 +129,7 @@ def frame(kernel: Kernel, number: int) -> Tree:
     """Returns the mapping tree of a frame: all its mappings in every space, each below its parent. The root is sigma0's boot page, or
     the page to which that was granted. Raises ValueError if there is no such frame."""
     if not 0 <= number < kernel.frames:
-        raise ValueError(f"there is no frame {number}: the machine has {kernel.frames}, from 0 on")
+        raise ValueError(f"there is no frame {number}: the machine has {kernel.frames} frames, numbered from 0")
     everything = (mapping for space in kernel.spaces() for mapping in kernel.mappings(space))
     return Tree(f"frame_{number}", tuple(mapping for mapping in everything if mapping.frame == number))
 

@@ -94,7 +94,7 @@ class Run:
             yield event
             answers += len(event.texts)
             if count == MOST_EVENTS or answers > MOST_ANSWERS:
-                self.notes = [f"The lab stops on line {event.line:,}, after {count:,} events and {answers:,} answers; l4 run goes on."]
+                self.notes = [f"The lab stops on line {event.line:,}, after {count:,} events and {answers:,} answers; `l4 run` executes the rest."]
                 return
 
 
@@ -203,7 +203,7 @@ def view(asked: Dict[str, Any]) -> Dict[str, Any]:
     place = _Place(events, whole(asked, "at", 1 << 32))
     if place.at > place.count:
         return view({**asked, "at": place.count})
-    notes = [] if place.now["isWhole"] else [f"The pages of the first {MOST_MAPPINGS:,} mappings alone are shown."]
+    notes = [] if place.now["isWhole"] else [f"Only the pages of the first {MOST_MAPPINGS:,} mappings are shown."]
     return {
         "at": place.at,
         "count": place.count,

@@ -16,8 +16,8 @@ from .words import PAGE_BYTES, Item, Message, Rights, items_of
 class Plan:
     """The shortest list of map items that moves exactly a region, in the fewest messages. `Region.plan` makes it.
 
-    It has `item_count` items, 1 to 1,984, and `message_count` messages, 1 to 64; every message but the last has 31 items. With each item
-    goes one page, and no single map item could move two of these pages: this proves that no list is shorter. A plan stores no items. Each
+    It has `item_count` items, 1 to 1,984, and `message_count` messages, 1 to 64; every message but the last has 31 items. Each item
+    has one page, and no single map item could move two of these pages: this proves that no list is shorter. A plan stores no items. Each
     message is computed when you request it.
 
     >>> plan = Region(0, 1, 40, Rights.ALL).plan()
@@ -78,7 +78,7 @@ def _first_pages(region: Region, page_bytes: int) -> Tuple[int, ...]:
 
 @dataclass(frozen=True)
 class Region:
-    """A region: `count` pages from the page `source` on, which go to the pages from `target` on with these rights."""
+    """A region: `count` pages that start at page `source`. They move to the pages that start at page `target`, with these rights."""
 
     source: int
     target: int

@@ -1,6 +1,6 @@
 """Scripts in the language of `l4 run`, over a kernel and the tables of its pagers; `l4 --help` describes the language.
 
-What `l4 run` proves about a script's answers is not proved here. This module gives the same answers through the library's functions, step
+The answers of `l4 run` are proved; those of this module are only tested. It gives the same answers through the library's functions, step
 by step, so that the state can be queried after each step.
 """
 from __future__ import annotations

@@ -20,7 +20,7 @@ def _answer(told: Any) -> Message:
 
 
 class Pager(Handle):
-    """A pager's table: which of its own pages the pager maps for the pages of the threads that it serves.
+    """A pager's table. For the pages of the threads that the pager serves, it says which of its own pages the pager maps there.
 
     It has at most 64 regions, whose target pages do not overlap; source pages may be shared. `Pager(page_bytes)` makes an empty table for
     pages of 4,096 or 1,024 bytes, as the kernel whose faults it answers has. Any other number is refused with B4. The table owns memory of
@@ -84,9 +84,9 @@ class Pager(Handle):
 class Sigma0(Handle):
     """sigma0's table: which space owns which frame.
 
-    A frame that a space has been given stays that space's. `Sigma0(frames, page_bytes)` makes a table of 1 to 4,096 frames without owners,
-    for pages of 4,096 or 1,024 bytes, as the kernel has. Any other page size is refused with B4, and any other number of frames with K6.
-    The table owns memory of the library, and is freed as a `Kernel` is.
+    Once a space has been given a frame, the frame belongs to that space for good. `Sigma0(frames, page_bytes)` makes a table of 1 to 4,096
+    frames without owners, for pages of 4,096 or 1,024 bytes, as the kernel has. Any other page size is refused with B4, and any other
+    number of frames with K6. The table owns memory of the library, and is freed as a `Kernel` is.
 
     >>> sigma0 = Sigma0(256)
     >>> fault = Message.of(0xffe4, [0x5678, 0x400100])

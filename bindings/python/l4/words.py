@@ -40,7 +40,7 @@ def _page_log(page_bytes: int) -> int:
 class ThreadId:
     """A thread id: the thread number in bits 31 to 14, and the version in bits 13 to 0 (L4 X.2 manual, ThreadId).
 
-    Every word is a ThreadId, also one that no thread can have; `ThreadId.of` makes only ids that a thread can have. A ThreadId in place of
+    Every word is a ThreadId, even one that no thread can have; `ThreadId.of` makes only ids that a thread can have. A ThreadId in place of
     a number, or a number in place of a ThreadId, raises TypeError.
 
     >>> ThreadId.of(3), str(ThreadId.of(3)), ThreadId.of(3).number
@@ -134,7 +134,7 @@ class Rights(enum.Flag):
 
 @dataclass(frozen=True, repr=False)
 class Fpage:
-    """A flexpage: 2^log bytes from the byte `base` on, with rights (L4 X.2 manual, Fpages).
+    """A flexpage: 2^log bytes that start at byte `base`, with rights (L4 X.2 manual, Fpages).
 
     `log` is 10 to 31, and `base` is a multiple of 2^log. With base 0, a log of 0 is the nil fpage, which has no bytes, and a log of 32 is
     the complete fpage. Other values raise ValueError. As a receive window, an fpage says where a receiver accepts pages; its rights are
@@ -168,7 +168,7 @@ class Fpage:
 
     @classmethod
     def pages(cls, first: int, log: int, rights: Rights, page_bytes: int = PAGE_BYTES) -> Fpage:
-        """Returns the fpage of 2^log pages from the page `first` on, which must be a multiple of 2^log. With a log of 20 (22 for small
+        """Returns the fpage of 2^log pages that start at page `first`, a multiple of 2^log. With a log of 20 (22 for small
         pages) it has all pages of a space. Raises ValueError if there is no such fpage."""
         page_log = _page_log(page_bytes)
         if not 0 <= log <= _SPACE_LOG - page_log:
@@ -320,7 +320,7 @@ def _item_text(first: int, second: int) -> str:
 class Tag:
     """The tag of a message: a label, the number of untyped words, and the number of words of items, two for each (L4 X.2 manual, MsgTag).
 
-    Every word is a Tag, also one that the kernel refuses.
+    Every word is a Tag, even one that the kernel refuses.
 
     >>> Tag.of(7, 1, 2), Tag.of(7, 1, 2).typed
     (Tag(0x00070081), 2)

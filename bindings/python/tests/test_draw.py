@@ -52,7 +52,7 @@ class Drawings(unittest.TestCase):
     def test_a_frames_tree(self):
         self.assertEqual(str(draw.frame(chain(), 16)), TREE)
         for frame in (64, -1):
-            with self.assertRaisesRegex(ValueError, f"^there is no frame {frame}: the machine has 64, from 0 on$"):
+            with self.assertRaisesRegex(ValueError, f"^there is no frame {frame}: the machine has 64 frames, numbered from 0$"):
                 draw.frame(chain(), frame)
 
     def test_a_spaces_mappings(self):

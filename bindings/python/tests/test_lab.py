@@ -1,4 +1,4 @@
-"""The lab's server: what it shows of runs, and what it answers to strangers."""
+"""The lab's server: what it shows of runs, and what it answers to other sites."""
 import contextlib
 import http.client
 import json

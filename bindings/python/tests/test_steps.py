@@ -57,7 +57,7 @@ pages all;start 1 ipc 0 0 0 0 {words};start 1 unmap 0 {words}"""
         self.assertIn(b'"0:101" -> "2:101";\n    "2:101" -> "3:5";\n', out)
         status, out, err = l4("space", "3", lines=lines)
         self.assertIn(b'"3:5" [label="space 3\\npage 5\\nframe 101\\nr-x"];', out)
-        self.assertEqual(l4("tree", "256", lines=lines), (2, b"", b"error: there is no frame 256: the machine has 256, from 0 on\n"))
+        self.assertEqual(l4("tree", "256", lines=lines), (2, b"", b"error: there is no frame 256: the machine has 256 frames, numbered from 0\n"))
         self.assertEqual(l4("space", "9", lines=lines), (2, b"", b"error: there is no space 9, but 0, 1, 2, 3\n"))
 
     def test_frames(self):

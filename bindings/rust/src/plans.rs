@@ -4,7 +4,7 @@ use crate::{Item, Message, PageSize, Refusal, Rights};
 use std::error::Error;
 use std::fmt;
 
-/// A region: `count` pages from the page `source` on, which go to the pages from `target` on with these rights.
+/// A region: `count` pages that start at page `source`. They move to the pages that start at page `target`, with these rights.
 #[derive(Clone, Copy, PartialEq, Eq, Hash, Debug)]
 pub struct Region {
     /// The first page that is sent.
@@ -19,7 +19,7 @@ pub struct Region {
 
 /// The shortest list of map items that moves exactly a region, in the fewest messages. [`Region::plan`] makes it.
 ///
-/// With each item goes one page, and no single map item could move two of these pages: this proves that no list is shorter. A plan stores
+/// Each item has one page, and no single map item could move two of these pages: this proves that no list is shorter. A plan stores
 /// no items. Each message is computed when you request it.
 ///
 /// ```

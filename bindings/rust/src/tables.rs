@@ -14,7 +14,7 @@ fn answered(told: &ffi::l4_message) -> Result<Message, Refusal> {
     }
 }
 
-/// A pager's table: which of its own pages the pager maps for the pages of the threads that it serves.
+/// A pager's table. For the pages of the threads that the pager serves, it says which of its own pages the pager maps there.
 ///
 /// It has at most 64 regions, whose target pages do not overlap; source pages may be shared. It owns its memory, and frees it when it is
 /// dropped.
@@ -108,7 +108,8 @@ impl fmt::Debug for Pager {
 
 /// sigma0's table: which space owns which frame.
 ///
-/// A frame that a space has been given stays that space's. The table owns its memory, and frees it when it is dropped.
+/// Once a space has been given a frame, the frame belongs to that space for good. The table owns its memory, and frees it when it is
+/// dropped.
 ///
 /// ```
 /// use l4::{Message, Sigma0};

@@ -227,7 +227,7 @@ const NIL_SIZE: u8 = 0;
 /// The binary logarithm of the bytes of a space.
 const SPACE_SIZE: u8 = 32;
 
-/// A flexpage: no bytes, all bytes of a space, or 2^log bytes from a multiple of 2^log on, with rights (L4 X.2 manual, Fpages).
+/// A flexpage: no bytes, all bytes of a space, or 2^log bytes that start at a multiple of 2^log, with rights (L4 X.2 manual, Fpages).
 ///
 /// As a receive window, an fpage says where a receiver accepts pages; its rights are ignored there.
 ///
@@ -261,7 +261,7 @@ impl Fpage {
         }
     }
 
-    /// Returns the fpage of 2^log bytes from the byte `base` on.
+    /// Returns the fpage of 2^log bytes that start at byte `base`.
     ///
     /// # Errors
     ///
@@ -275,7 +275,7 @@ impl Fpage {
         }
     }
 
-    /// Returns the fpage of 2^log pages of 4 KiB from the page `first` on. With a `log` of 20 it has all pages of a space.
+    /// Returns the fpage of 2^log pages of 4 KiB that start at page `first`. With a `log` of 20 it has all pages of a space.
     /// [`PageSize::fpage`] does the same for both page sizes.
     ///
     /// # Errors
@@ -444,7 +444,7 @@ impl PageSize {
         1 << (SPACE_SIZE - self.log())
     }
 
-    /// Returns the fpage of 2^log pages from the page `first` on. If this is the number of pages of a space, it has all of them.
+    /// Returns the fpage of 2^log pages that start at page `first`. If this is the number of pages of a space, it has all of them.
     ///
     /// # Errors
     ///

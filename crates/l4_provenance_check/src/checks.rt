@@ -72,10 +72,9 @@ fn leads(
 /// frames of this size: the transfers that brought it there, one after another, from a page that sigma0 had at boot.
 /// A page that is not present at the end has no provenance.
 ///
-/// `true` and `false` both imply that the whole history is a run of the machine from boot, even if the links are wrong.
-/// Errors: `BadFrames` if the number of frames is not from 1 to 4,096; `NoMemory` if memory runs out, also in a step of
-/// the replay where it did not run out in the history; `OtherAnswer` if a step can get another answer than the history
-/// says, without running out of memory.
+/// The whole history is replayed on a second kernel, also if the links are wrong. Errors: `BadFrames` if the number
+/// of frames is not from 1 to 4,096; `NoMemory` if memory runs out, also in a step of the replay where it did not run
+/// out in the history; `OtherAnswer` if a step gets any other answer than the history says.
 pub fn check_provenance(
     alloc: Global,
     frames: u32,

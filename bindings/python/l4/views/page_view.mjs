@@ -57,11 +57,11 @@ export function showPages(view, acts) {
   fill("pages", rows.map((row) => pageRow(row, view, acts)));
   it("pages-table").hidden = rows.length === 0;
   it("no-pages").hidden = rows.length > 0;
-  it("no-pages").textContent = `Space ${space} has no pages${acts.first ? ` from page ${acts.first} on` : ""}.`;
+  it("no-pages").textContent = `Space ${space} has no pages${acts.first ? ` after page ${acts.first - 1}` : ""}.`;
   it("more").disabled = found.length <= MOST_ROWS;
   it("more").value = found.length > MOST_ROWS ? found[MOST_ROWS][0] : "";
   it("first").disabled = acts.first === 0;
-  it("pages-more").textContent = found.length > MOST_ROWS || acts.first ? `${counted(rows.length, "page")} of ${grouped(countOf(runs))}, from page ${acts.first} on` : "";
+  it("pages-more").textContent = found.length > MOST_ROWS || acts.first ? `${counted(rows.length, "page")} of ${grouped(countOf(runs))}, starting at page ${acts.first}` : "";
 }
 
 /** The tree of the chosen page's frame. */

@@ -40,7 +40,7 @@ function linked() {
     const found = { script: decoded(parts.get("script")), frames: Number(parts.get("frames") ?? 256), pageBytes: Number(parts.get("page-size") ?? 4096) };
     if (isStart(found)) return found;
   } catch { /* reported below */ }
-  throw new Error("The link is damaged: the part behind # is not a whole script. The page shows an example in its place.");
+  throw new Error("The link is damaged: the part after # is not a whole script. The page shows an example instead.");
 }
 
 /** What the page begins with: the script of a link, else what was kept, else what the source gives. */
