@@ -81,7 +81,7 @@ export class Run {
     return this.answers.slice(this.ends[number - 1].answers, this.ends[number].answers);
   }
 
-  /** The refused lines, with the meaning of each code as `l4 run --explain` prints it. */
+  /** The refused lines, with the reason that `l4 run --explain` prints for each. */
   #refusals(report) {
     const isRefused = (answer) => /^line \d+ refused /.test(answer);
     const count = this.answers.filter(isRefused).length;
@@ -91,7 +91,7 @@ export class Run {
     for (let place = 0; place < told.length && first.length < MOST_REFUSALS; place += 1) {
       if (!isRefused(told[place])) continue;
       const [, line, , ...code] = told[place].split(" ");
-      first.push({ line: Number(line), at: this.ends[line].steps, code: code.join(" "), means: (told[place + 1] ?? "").replace(/^# /, "") });
+      first.push({ line: Number(line), at: this.ends[line].steps, code: code.join(" "), means: (told[place + 1] ?? "").replace(/^# (line \d+: )?/, "") });
     }
     return { count, first };
   }

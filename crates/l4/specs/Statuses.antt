@@ -1,5 +1,5 @@
 -- The exit statuses of the commands of l4, by how their work ended (this profile's own).
-use Rattle.std.specs.Prelude.{ℕ, Bool, Result, Ok, Err, if◌then◌else◌}
+use Rattle.std.specs.Prelude.{ℕ, Bool, Result, Ok, Err, is_some, if◌then◌else◌}
 use Rattle.l4_options.specs.Statuses.{run_status}
 use Rattle.l4_plan_lines.specs.Answers.{is_proved}
 use Rattle.l4_plan_lines.specs.declared.answers.Answer.{Answer}
@@ -13,7 +13,7 @@ use Rattle.l4_why.specs.declared.asking.Presence.TheVariants.{Present}
 
 -- run: 1 where a refused line ended a strict run
 abbrev pub script_status : Result Ended RunFault → ℕ
-script_status (Ok ended) = if ended.refused then 1 else 0
+script_status (Ok ended) = if is_some ended.refused then 1 else 0
 script_status (Err fault) = run_status fault
 
 -- history: 0 at the end of the script

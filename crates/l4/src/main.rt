@@ -26,7 +26,7 @@ use l4_step_lines::{Fault, JudgeFault, judge};
 use l4_symbols::write_words;
 use l4_text::{RunFault, ScriptReader};
 use l4_why::{Presence, ThreadPage, why};
-use reports::{report_no_plan, report_no_thread, report_unproved};
+use reports::{report_no_plan, report_no_thread, report_refused, report_unproved};
 use std::io::{Read, Write};
 use std::process::ExitCode;
 use std::rt::Files;
@@ -68,10 +68,11 @@ fn script_ended<R: Read, W: Write>(
 {
     match answered {
         Ok(end) => {
-            warn_of_cut_line(rt, reader, file);
-            if end.refused {
+            if let Some(reason) = end.refused {
+                report_refused(rt, &reason);
                 return REFUSED;
             }
+            warn_of_cut_line(rt, reader, file);
             0
         }
         Err(fault) => stopped(rt, fault, file, cause(fault, reader, writer)),

@@ -2,6 +2,7 @@
 use l4_plan::PlanRefusal;
 use l4_plan_check::Fault;
 use l4_plan_lines::{Answer, LineFault, WrongLine};
+use l4_reasons::Reason;
 use l4_refusals::text_of;
 
 /// The code of a thread that is not there.
@@ -15,6 +16,11 @@ fn report_code(rt: &impl Eprint, code: u32) {
             let _ = eprintln!(rt; "error: {code}: {line}");
         }
     }
+}
+
+/// Reports why a refused line ended a strict run.
+pub(crate) fn report_refused(rt: &impl Eprint, reason: &Reason) {
+    let _ = eprintln!(rt; "error: {reason}");
 }
 
 /// Reports that no thread has the requested number.

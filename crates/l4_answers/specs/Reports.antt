@@ -1,5 +1,5 @@
 -- The answers of a script as reports, and the text of each.
-use Rattle.std.specs.Prelude.{ℕ, Bool, true, false, ◌||◌, List, [], ◌∷◌, ◌++◌, Option, codes, decimal}
+use Rattle.std.specs.Prelude.{ℕ, ◌≡◌, Bool, true, false, ◌||◌, List, [], ◌∷◌, ◌++◌, Option, codes, decimal}
 use Rattle.l4_ipc.specs.declared.steps.Outcome.{Outcome}
 use Rattle.l4_mapdb.specs.declared.Mapping.{Mapping}
 use Rattle.l4_threads.specs.declared.Reply.{Reply}
@@ -11,6 +11,8 @@ use Rattle.l4_answers.specs.Replies.{newline, numbered_text, transfer_text, expi
 pub data Report : Type 0 where
   -- the script's line with this number is refused
   RefusedLine : ℕ → Refusal → Report
+  -- the script's line with this number can't be read: its refusal, and its bytes
+  UnreadLine : ℕ → Refusal → List ℕ → Report
   -- a served thread's call is refused
   RefusedAct : ℕ → Refusal → Report
   -- a transfer between two threads, and its outcome
@@ -44,6 +46,7 @@ steps_text count = codes "steps " ++ decimal count ++ newline
 -- the line of an answer
 abbrev pub report_text : Report → List ℕ
 report_text (RefusedLine line refusal) = refused_text line refusal
+report_text (UnreadLine line refusal bytes) = refused_text line refusal
 report_text (RefusedAct thread refusal) = refused_act_text thread refusal
 report_text (Transferred sender receiver outcome) = transfer_text sender receiver outcome
 report_text (TimedOut n) = expire_text n
@@ -55,12 +58,19 @@ report_text (Parent mapping) = parent_text mapping
 report_text AddedRegion = region_text
 report_text (StepCount count) = steps_text count
 
--- whether a line of the script is refused
+-- whether it refuses a line of the script
 abbrev pub is_refusal : Report → Bool
 is_refusal (RefusedLine line refusal) = true
+is_refusal (UnreadLine line refusal bytes) = true
 is_refusal report = false
 
--- whether the list has a refusal of a line of the script
+-- it refuses the line of this number
+abbrev pub IsRefusalOf : ℕ → Report → Type 0
+IsRefusalOf number (RefusedLine line refusal) = line ≡ number
+IsRefusalOf number (UnreadLine line refusal bytes) = line ≡ number
+IsRefusalOf number report = ⊥
+
+-- whether one of these is a refusal of a line
 abbrev pub has_refusal : List Report → Bool
 has_refusal [] = false
 has_refusal (report ∷ reports) = is_refusal report || has_refusal reports

@@ -1,7 +1,7 @@
 //! Receivers of the answers of a script.
 ghost use Rattle.std.specs.Prelude.{◌≡◌, List, Bool, false, OnOk, IfErr};
 ghost use Rattle.std.specs.Option.{option_copied};
-ghost use Rattle.l4_answers.specs.Reports.{Report, RefusedLine, RefusedAct, Transferred, TimedOut, Waits, Ended, Page, Shown, Parent, AddedRegion, StepCount, Adds, Keeps, AllOut};
+ghost use Rattle.l4_answers.specs.Reports.{Report, RefusedLine, UnreadLine, RefusedAct, Transferred, TimedOut, Waits, Ended, Page, Shown, Parent, AddedRegion, StepCount, Adds, Keeps, AllOut};
 
 use crate::refusals::Code;
 use l4_ipc::Outcome;
@@ -24,6 +24,10 @@ pub trait Sink {
     /// Reports that a line of the script is refused.
     fn refused_line(&mut self, line: u64, code: &Code)
         ensures { Adds has_told self.old self.new (RefusedLine line code.now) };
+
+    /// Reports that a line of the script can't be read, with its bytes.
+    fn unread_line(&mut self, line: u64, code: &Code, bytes: &[u8])
+        ensures { Adds has_told self.old self.new (UnreadLine line code.now bytes.now) };
 
     /// Reports that a served thread's call is refused.
     fn refused_act(&mut self, thread: u32, code: &Code)
@@ -92,6 +96,8 @@ impl Sink for Silent {
     ghost closed = { λ sink. false };
 
     fn refused_line(&mut self, line: u64, code: &Code) {}
+
+    fn unread_line(&mut self, line: u64, code: &Code, bytes: &[u8]) {}
 
     fn refused_act(&mut self, thread: u32, code: &Code) {}
 

@@ -17,15 +17,14 @@ use Rattle.l4_ipc.specs.Machine.{Machine}
 use Rattle.l4_ipc.specs.Reading.{reply_of}
 use Rattle.l4_ipc.specs.Following.{Done}
 use Rattle.l4_answers.specs.Refusals.{kernel_refusal}
-use Rattle.l4_answers.specs.Reports.{Report, RefusedLine, Ended, Page, Shown, Parent, is_refusal, has_refusal}
+use Rattle.l4_answers.specs.Reports.{Report, RefusedLine, UnreadLine, Ended, Page, Shown, Parent, is_refusal, has_refusal}
 use Rattle.l4_record.specs.Seated.{is_among, with_number}
 use Rattle.l4_servers.specs.Servers.{Servers}
 use Rattle.l4_shell.specs.Commands.{Command}
-use Rattle.l4_shell.specs.declared.commands.ScriptFault.{ScriptFault}
 use Rattle.l4_shell.specs.declared.requests.Request.{Request}
 use Rattle.l4_shell.specs.declared.requests.Request.TheVariants.{Enter, CreateThread, EndThread, SendPlan, ListPages, TellParent, AddRegion, ServeThread, TellSteps}
 use Rattle.l4_shell.specs.Refusals.{script_refusal, plan_refusal, lacks_memory, call_refusal, region_refusal}
-use Rattle.l4_shell.specs.Requests.{request_of}
+use Rattle.l4_shell.specs.Requests.{Unread, request_of}
 use Rattle.l4_shell.specs.Scripts.{IsOneAnswer}
 use Rattle.l4_shell.specs.Sessions.{Session, own_report, ended_reports, step_reports, done_reports, waiting_reports, Act, act_reports, ended_by, StopsActing, GoesOn, Follows, Enters, RegionAdded, RegionRefused, place_in, place_reports, ListsPages, CarriesOut, AnswersLine}
 
@@ -90,7 +89,7 @@ follows_one old line thread call sv told new f =
 enters_one : (old : Session) (line thread : ℕ) (call : Call) (told : List Report) (new : Session) → Enters old line thread call told new → IsOneAnswer line told
 enters_one old line thread call told new e = elim e [
   | inl f ↦ follows_one old line thread call old.servers told new f
-  | inr r ↦ inr (call_refusal r.refusal, r.told_is)
+  | inr r ↦ inr (RefusedLine line (call_refusal r.refusal), refl, r.told_is)
 ]
 
 -- PAGES
@@ -100,7 +99,7 @@ place_none None page = refl
 place_none (Some mapping) page = refl
 
 shows_one : (o : Option ℕ) (m : Machine) (line first count : ℕ) (told : List Report) → MatchOption o (told ≡ RefusedLine line (kernel_refusal UnknownThread) ∷ []) (λ space. ListsPages m space first count told) → IsOneAnswer line told
-shows_one None m line first count told s = inr (kernel_refusal UnknownThread, s)
+shows_one None m line first count told s = inr (RefusedLine line (kernel_refusal UnknownThread), refl, s)
 shows_one (Some space) m line first count told s =
     inl (ap has_refusal s.told_is
     ∙ none_more (flat_map (place_reports m space) s.pages) (Shown (length s.pages) ∷ [])
@@ -108,43 +107,43 @@ shows_one (Some space) m line first count told s =
 
 parent_one : (o : Option ℕ) (m : Machine) (line page : ℕ) (told : List Report)
     → told ≡ option_map_or (λ space. Parent (shown m.mappings (place_in space page))) o (RefusedLine line (kernel_refusal UnknownThread)) ∷ [] → IsOneAnswer line told
-parent_one None m line page told s = inr (kernel_refusal UnknownThread, s)
+parent_one None m line page told s = inr (RefusedLine line (kernel_refusal UnknownThread), refl, s)
 parent_one (Some space) m line page told s = inl (ap has_refusal s)
 
 -- LINES
 
 adds_one : (o : Option ℕ) (old : Session) (line thread : ℕ) (entry : Entry) (told : List Report) (new : Session)
     → MatchOption o ((told ≡ RefusedLine line (kernel_refusal UnknownThread) ∷ []) × (new ≡ old)) (λ space. RegionAdded old thread entry told new ⊎ RegionRefused old line thread entry told new) → IsOneAnswer line told
-adds_one None old line thread entry told new a = inr (kernel_refusal UnknownThread, a.0)
+adds_one None old line thread entry told new a = inr (RefusedLine line (kernel_refusal UnknownThread), refl, a.0)
 adds_one (Some space) old line thread entry told new a = elim a [
   | inl added ↦ inl (ap has_refusal added.1)
-  | inr refused ↦ inr (region_refusal refused.0, refused.2)
+  | inr refused ↦ inr (RefusedLine line (region_refusal refused.0), refl, refused.2)
 ]
 
 carries_one : (old : Session) (line : ℕ) (request : Request) (told : List Report) (new : Session) → CarriesOut old line request told new → IsOneAnswer line told
 carries_one old line (Enter thread call) told new c = enters_one old line thread call told new c
 carries_one old line (CreateThread number call) told new c = elim c [
   | inl e ↦ enters_one (record old { numbers = with_number old.numbers number }) line _ call told new e
-  | inr lacks ↦ inr (lacks_memory, lacks.1.0)
+  | inr lacks ↦ inr (RefusedLine line lacks_memory, refl, lacks.1.0)
 ]
 carries_one old line (EndThread thread) told new c = elim c [
   | inl f ↦ follows_one old line _ _ _ told new f
-  | inr r ↦ inr (call_refusal r.refusal, r.told_is)
+  | inr r ↦ inr (RefusedLine line (call_refusal r.refusal), refl, r.told_is)
 ]
 carries_one old line (SendPlan thread to which region) told new c = elim c [
   | inl sends ↦ enters_one old line thread _ told new sends.2
-  | inr refuses ↦ inr (plan_refusal refuses.0, refuses.2)
+  | inr refuses ↦ inr (RefusedLine line (plan_refusal refuses.0), refl, refuses.2)
 ]
 carries_one old line (ListPages thread first count) told new c = shows_one (space_of old.machine.threads thread) old.machine line first count told c.0
 carries_one old line (TellParent thread page) told new c = parent_one (space_of old.machine.threads thread) old.machine line page told c.0
 carries_one old line (AddRegion thread entry) told new c = adds_one (space_of old.machine.threads thread) old line thread entry told new c
 carries_one old line (ServeThread thread) told new c = elim c [
   | inl f ↦ follows_one old line _ _ _ told new f
-  | inr more ↦ elim more [ inl r ↦ inr (call_refusal r.refusal, r.told_is) | inr lacks ↦ inr (lacks_memory, lacks.lacks.0) ]
+  | inr more ↦ elim more [ inl r ↦ inr (RefusedLine line (call_refusal r.refusal), refl, r.told_is) | inr lacks ↦ inr (RefusedLine line lacks_memory, refl, lacks.lacks.0) ]
 ]
 carries_one old line TellSteps told new c = inl (ap has_refusal c.3)
 
-pub one_answer : (old : Session) (line : ℕ) (asked : Result (Option Command) ScriptFault) (told : List Report) (new : Session) → AnswersLine old line asked told new → IsOneAnswer line told
+pub one_answer : (old : Session) (line : ℕ) (asked : Result (Option Command) Unread) (told : List Report) (new : Session) → AnswersLine old line asked told new → IsOneAnswer line told
 one_answer old line (Ok None) told new a = inl (ap has_refusal a.0)
 one_answer old line (Ok (Some command)) told new a = carries_one old line (request_of command) told new a
-one_answer old line (Err fault) told new a = inr (script_refusal fault, a.0)
+one_answer old line (Err unread) told new a = inr (UnreadLine line (script_refusal unread.fault) unread.bytes, refl, a.0)

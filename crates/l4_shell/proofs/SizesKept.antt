@@ -20,12 +20,11 @@ use Rattle.l4_pager.specs.declared.regions.Entry.{Entry}
 use Rattle.l4_servers.specs.Servers.{Servers, servers, regions_of, with_region, with_served, without}
 use Rattle.l4_servers.specs.Acting.{Answers, ActsNext}
 use Rattle.l4_shell.specs.Commands.{Command}
-use Rattle.l4_shell.specs.declared.commands.ScriptFault.{ScriptFault}
 use Rattle.l4_shell.specs.declared.requests.Request.{Request}
 use Rattle.l4_shell.specs.declared.requests.Request.TheVariants.{Enter, CreateThread, EndThread, SendPlan, ListPages, TellParent, AddRegion, ServeThread, TellSteps}
 use Rattle.l4_answers.specs.Reports.{Report}
 use Rattle.l4_shell.specs.Lines.{ScriptLine}
-use Rattle.l4_shell.specs.Requests.{request_of, asked_of, root, delete_call}
+use Rattle.l4_shell.specs.Requests.{Unread, request_of, asked_of, root, delete_call}
 use Rattle.l4_record.specs.Seated.{with_number}
 use Rattle.l4_shell.specs.Sessions.{Session, first_session, call_entries, gone_on, Act, act_entries, IsAct, AreActs, StopsActing, Follows, Enters, RegionAdded, RegionRefused, CarriesOut, AnswersLine, AnswersLines}
 use Rattle.l4_shell.specs.Sizes.{GoBy, HasSize}
@@ -167,10 +166,10 @@ carries_size size old line (ServeThread thread) told new c h = elim c [
 ]
 carries_size size old line TellSteps told new c h = subst (HasSize size) (sym c.4) (record { machine = h.machine; servers = h.servers })
 
-line_size : (size : PageSize) (old : Session) (line : ℕ) (asked : Result (Option Command) ScriptFault) (told : List Report) (new : Session) → AnswersLine old line asked told new → HasSize size old → HasSize size new
+line_size : (size : PageSize) (old : Session) (line : ℕ) (asked : Result (Option Command) Unread) (told : List Report) (new : Session) → AnswersLine old line asked told new → HasSize size old → HasSize size new
 line_size size old line (Ok None) told new a h = same_size size old new a.1 h
 line_size size old line (Ok (Some command)) told new a h = carries_size size old line (request_of command) told new a h
-line_size size old line (Err fault) told new a h = same_size size old new a.1 h
+line_size size old line (Err unread) told new a h = same_size size old new a.1 h
 
 pub lines_sized : (size : PageSize) (old : Session) (number : ℕ) (lines : List ScriptLine) (told : List Report) (new : Session) → AnswersLines old number lines told new → HasSize size old → HasSize size new
 lines_sized size old number [] told new a h = same_size size old new a.1 h

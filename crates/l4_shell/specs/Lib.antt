@@ -1,6 +1,7 @@
 pub mod Commands
 pub mod Delegations
 pub mod Histories
+pub mod Kinds
 pub mod Lines
 pub mod Refusals
 pub mod Requests

@@ -109,15 +109,21 @@ is_empty (token ∷ tokens) = false
 abbrev pub is_silent : List ℕ → Bool
 is_silent bytes = is_comment bytes || is_empty (tokens_of bytes)
 
-abbrev pub some_command : Result Command ScriptFault → Result (Option Command) ScriptFault
-some_command (Ok command) = Ok (Some command)
-some_command (Err fault) = Err fault
+-- why a line can't be read, and its bytes; none of a line that is cut or too long
+pub record Unread : Type 0 where
+  pub fault : ScriptFault
+  pub bytes : List ℕ
 
--- the command of a line with this ending, None if the line is empty or a comment, or its first refusal
-abbrev pub asked_at : Ending → List ℕ → Result (Option Command) ScriptFault
-asked_at Cut bytes = Err CutLine
-asked_at Long bytes = Err LineTooLong
-asked_at Whole bytes = if is_silent bytes then Ok None else some_command (command_of (tokens_of bytes))
+-- the bytes of a line, and what its tokens ask for
+abbrev pub some_command : List ℕ → Result Command ScriptFault → Result (Option Command) Unread
+some_command bytes (Ok command) = Ok (Some command)
+some_command bytes (Err fault) = Err (record { fault = fault; bytes = bytes })
 
-abbrev pub asked_of : ScriptLine → Result (Option Command) ScriptFault
+-- what a line with this ending asks for, None where it is empty or a comment, or its first refusal
+abbrev pub asked_at : Ending → List ℕ → Result (Option Command) Unread
+asked_at Cut bytes = Err (record { fault = CutLine; bytes = [] })
+asked_at Long bytes = Err (record { fault = LineTooLong; bytes = [] })
+asked_at Whole bytes = if is_silent bytes then Ok None else some_command bytes (command_of (tokens_of bytes))
+
+abbrev pub asked_of : ScriptLine → Result (Option Command) Unread
 asked_of line = asked_at (ending_of line) line.bytes

@@ -3,16 +3,15 @@ use Rattle.std.specs.Prelude.{ℕ, ◌≡◌, ◌⊎◌, Bool, true, false, List
 use Rattle.std.specs.List.{All}
 use Rattle.std.specs.Io.KnownBytes.{Consumes, IsAtEnd}
 use Rattle.l4_fpage.specs.declared.sizes.PageSize.{PageSize}
-use Rattle.l4_answers.specs.Refusals.{Refusal}
-use Rattle.l4_answers.specs.Reports.{Report, RefusedLine, has_refusal, AddsAll}
+use Rattle.l4_answers.specs.Reports.{Report, IsRefusalOf, has_refusal, AddsAll}
 use Rattle.l4_shell.specs.Lines.{ScriptLine, lines_of}
 use Rattle.l4_shell.specs.Sessions.{IsAnswered}
 use Rattle.l4_text.specs.declared.faults.RunFault.{RunFault}
 use Rattle.l4_text.specs.declared.faults.RunFault.TheVariants.{Read, Write, Memory}
 
--- the line with this number was answered without a refusal, or only by its refusal
+-- a line of this number was answered without a refusal, or by its refusal alone
 abbrev pub IsOneAnswer : ℕ → List Report → Type 0
-IsOneAnswer number told = (has_refusal told ≡ false) ⊎ ((refusal : Refusal) × (told ≡ RefusedLine number refusal ∷ []))
+IsOneAnswer number told = (has_refusal told ≡ false) ⊎ ((report : Report) × IsRefusalOf number report × (told ≡ report ∷ []))
 
 -- the sink was open before the last line, which has this number, was answered
 pub record WasOpen {T : Type 0} (has_told : T → T → List Report → Type 0) (closed : T → Bool) (old : T) (number : ℕ) (told : List Report) : Type 0 where

@@ -22,14 +22,13 @@ use Rattle.l4_record.specs.declared.refusals.RecordRefusal.{RecordRefusal}
 use Rattle.l4_record.specs.Following.{start_entry}
 use Rattle.l4_record.specs.Seated.{Seated, is_among, with_number, CanEnter, MayEnter, Refuses as RefusesCall}
 use Rattle.l4_shell.specs.Commands.{Command}
-use Rattle.l4_shell.specs.declared.commands.ScriptFault.{ScriptFault}
 use Rattle.l4_shell.specs.declared.requests.Request.{Request}
 use Rattle.l4_shell.specs.declared.requests.Request.TheVariants.{Enter, CreateThread, EndThread, SendPlan, ListPages, TellParent, AddRegion, ServeThread, TellSteps}
-use Rattle.l4_answers.specs.Reports.{Report, RefusedLine, RefusedAct, Transferred, TimedOut, Waits, Ended, Page, Shown, Parent, AddedRegion, StepCount, AddsAll}
+use Rattle.l4_answers.specs.Reports.{Report, RefusedLine, UnreadLine, RefusedAct, Transferred, TimedOut, Waits, Ended, Page, Shown, Parent, AddedRegion, StepCount, AddsAll}
 use Rattle.l4_answers.specs.Refusals.{kernel_refusal}
 use Rattle.l4_shell.specs.Refusals.{script_refusal, plan_refusal, lacks_memory, call_refusal, region_refusal}
 use Rattle.l4_shell.specs.Lines.{ScriptLine}
-use Rattle.l4_shell.specs.Requests.{request_of, asked_of, root, send_call, delete_call}
+use Rattle.l4_shell.specs.Requests.{Unread, request_of, asked_of, root, send_call, delete_call}
 use Rattle.l4_shell.specs.Delegations.{ArePlanWords, HasNoPlan}
 use Rattle.l4_shell.specs.declared.delegations.Which.{Which}
 use Rattle.l4_shell.specs.declared.partners.Partner.{Partner}
@@ -322,11 +321,11 @@ CarriesOut old line (AddRegion thread entry) told new = AddsRegion old line thre
 CarriesOut old line (ServeThread thread) told new = ServesThread old line thread told new
 CarriesOut old line TellSteps told new = TellsCount old told new
 
--- the reports of a line with this number and this command
-abbrev pub AnswersLine : Session → ℕ → Result (Option Command) ScriptFault → List Report → Session → Type 0
+-- the answer to a line of this number that asks for this
+abbrev pub AnswersLine : Session → ℕ → Result (Option Command) Unread → List Report → Session → Type 0
 AnswersLine old line (Ok None) told new = (told ≡ []) × (new ≡ old)
 AnswersLine old line (Ok (Some command)) told new = CarriesOut old line (request_of command) told new
-AnswersLine old line (Err fault) told new = (told ≡ RefusedLine line (script_refusal fault) ∷ []) × (new ≡ old)
+AnswersLine old line (Err unread) told new = (told ≡ UnreadLine line (script_refusal unread.fault) unread.bytes ∷ []) × (new ≡ old)
 
 -- the reports of lines, one after another, of which the first has this number
 abbrev pub AnswersLines : Session → ℕ → List ScriptLine → List Report → Session → Type 0

@@ -82,14 +82,21 @@ fn is_comment(line: &[u8]) -> bool
 impl Session {
     /// Answers a line whose call was read: enters the call of the thread. If no thread was read, refuses the line.
     #[inline(always)]
-    fn answer_call<S: Sink>(&mut self, line: u64, number: Option<u32>, call: &Call, sink: &mut S)
+    fn answer_call<S: Sink>(
+        &mut self,
+        line: u64,
+        bytes: &[u8],
+        number: Option<u32>,
+        call: &Call,
+        sink: &mut S,
+    )
         ensures { (asked : Option Command) → option_map (λ n. Enter n call.now) number ≡ option_map request_of asked
-            → (told : List Report) × AnswersLine (session self.old.kernel self.old.servers) line (some_command (ok_or asked BadTokens)) told (session self.new.kernel self.new.servers)
+            → (told : List Report) × AnswersLine (session self.old.kernel self.old.servers) line (some_command bytes.now (ok_or asked BadTokens)) told (session self.new.kernel self.new.servers)
             × AddsAll S.has_told sink.old sink.new told }
     {
         match number {
             Some(thread) => self.enter_and_follow(line, thread, call, sink),
-            None => sink.refused_line(line, &script_code(ScriptFault::BadTokens)),
+            None => sink.unread_line(line, &script_code(ScriptFault::BadTokens), bytes),
         }
     }
 }
@@ -122,44 +129,58 @@ impl Script {
 
     /// Answers a line whose first token is not `recv`, `send`, `ipc` or `fault`.
     #[inline(never)]
-    fn answer_other<S: Sink>(&mut self, line: u64, name: &[u8], rest: &[u8], sink: &mut S)
+    fn answer_other<S: Sink>(
+        &mut self,
+        line: u64,
+        bytes: &[u8],
+        name: &[u8],
+        rest: &[u8],
+        sink: &mut S,
+    )
         requires recv { bytes_eq name.now (codes "recv") ≡ false }
         requires send { bytes_eq name.now (codes "send") ≡ false }
         requires ipc { bytes_eq name.now (codes "ipc") ≡ false }
         requires fault { bytes_eq name.now (codes "fault") ≡ false }
-        ensures { (told : List Report) × AnswersLine (session self.old.session.kernel self.old.session.servers) line (some_command (command_of (name.now ∷ tokens_of rest.now))) told (session self.new.session.kernel self.new.session.servers)
+        ensures { (told : List Report) × AnswersLine (session self.old.session.kernel self.old.session.servers) line (some_command bytes.now (command_of (name.now ∷ tokens_of rest.now))) told (session self.new.session.kernel self.new.session.servers)
             × AddsAll S.has_told sink.old sink.new told }
     {
         match other_request(name, rest, &mut self.calls.ipc) {
             Ok(request) => self.session.carry_out(line, request, sink),
-            Err(fault) => sink.refused_line(line, &script_code(fault)),
+            Err(fault) => sink.unread_line(line, &script_code(fault), bytes),
         }
     }
 
     /// Answers a line with this first token and this rest.
     #[inline(always)]
-    fn answer_command<S: Sink>(&mut self, line: u64, name: &[u8], rest: &[u8], sink: &mut S)
-        ensures { (told : List Report) × AnswersLine (session self.old.session.kernel self.old.session.servers) line (some_command (command_of (name.now ∷ tokens_of rest.now))) told (session self.new.session.kernel self.new.session.servers)
+    fn answer_command<S: Sink>(
+        &mut self,
+        line: u64,
+        bytes: &[u8],
+        name: &[u8],
+        rest: &[u8],
+        sink: &mut S,
+    )
+        ensures { (told : List Report) × AnswersLine (session self.old.session.kernel self.old.session.servers) line (some_command bytes.now (command_of (name.now ∷ tokens_of rest.now))) told (session self.new.session.kernel self.new.session.servers)
             × AddsAll S.has_told sink.old sink.new told }
     {
         let Script { session, calls } = self;
         if is_recv(name) {
             let number = read_receive(rest, &mut calls.ipc);
-            return session.answer_call(line, number, &calls.ipc, sink);
+            return session.answer_call(line, bytes, number, &calls.ipc, sink);
         }
         if is_send(name) {
             let number = read_send(rest, &mut calls.ipc);
-            return session.answer_call(line, number, &calls.ipc, sink);
+            return session.answer_call(line, bytes, number, &calls.ipc, sink);
         }
         if is_ipc(name) {
             let number = read_ipc(rest, &mut calls.ipc);
-            return session.answer_call(line, number, &calls.ipc, sink);
+            return session.answer_call(line, bytes, number, &calls.ipc, sink);
         }
         if is_fault(name) {
             let number = read_fault(rest, &mut calls.fault);
-            return session.answer_call(line, number, &calls.fault, sink);
+            return session.answer_call(line, bytes, number, &calls.fault, sink);
         }
-        self.answer_other(line, name, rest, sink);
+        self.answer_other(line, bytes, name, rest, sink);
     }
 
     /// Answers a line that ends with a newline, and is not too long.
@@ -174,7 +195,7 @@ impl Script {
         let Some((name, rest)) = command_name(bytes) else {
             return;
         };
-        self.answer_command(line, name, rest, sink);
+        self.answer_command(line, bytes, name, rest, sink);
     }
 
     /// Answers one line.
@@ -190,8 +211,8 @@ impl Script {
     {
         match ending {
             Ending::Whole => self.answer_whole(line, bytes, sink),
-            Ending::Long => sink.refused_line(line, &script_code(ScriptFault::LineTooLong)),
-            Ending::Cut => sink.refused_line(line, &script_code(ScriptFault::CutLine)),
+            Ending::Long => sink.unread_line(line, &script_code(ScriptFault::LineTooLong), b""),
+            Ending::Cut => sink.unread_line(line, &script_code(ScriptFault::CutLine), b""),
         }
     }
 }

@@ -4,6 +4,7 @@
 mod answering;
 mod commands;
 mod delegations;
+mod kinds;
 mod laws;
 mod partners;
 mod recording;
@@ -14,6 +15,7 @@ mod running;
 mod serving;
 mod session;
 
+pub use kinds::{TokenKind, is_of_kind};
 pub use l4_text::RunFault;
 pub use laws::the_size_of_pages_stays;
 pub use recording::record;

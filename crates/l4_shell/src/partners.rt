@@ -31,7 +31,7 @@ const NEW: &[u8] = b"new";
 
 /// Reads the number of a thread, below 2^18.
 #[tactic(auto, unfolding(crate::specs::Commands::thread_of))]
-fn thread_number(text: &[u8]) -> Option<u32>
+pub(crate) fn thread_number(text: &[u8]) -> Option<u32>
     ensures { result ≡ thread_of text.now }
 {
     let value = number(text)?;
@@ -40,7 +40,7 @@ fn thread_number(text: &[u8]) -> Option<u32>
 
 /// Reads the number of a thread, or the word `nil`.
 #[tactic(auto, unfolding(crate::specs::Commands::nil_or_thread_of))]
-fn nil_or_thread(token: &[u8]) -> Option<Partner>
+pub(crate) fn nil_or_thread(token: &[u8]) -> Option<Partner>
     ensures { result ≡ nil_or_thread_of token.now }
 {
     if token == NIL {
@@ -51,7 +51,7 @@ fn nil_or_thread(token: &[u8]) -> Option<Partner>
 
 /// Reads the number of a thread, or one of the words `nil` and `any`.
 #[tactic(auto, unfolding(crate::specs::Commands::partner_of))]
-fn any_or_thread(token: &[u8]) -> Option<Partner>
+pub(crate) fn any_or_thread(token: &[u8]) -> Option<Partner>
     ensures { result ≡ partner_of token.now }
 {
     if token == ANY {
@@ -62,7 +62,7 @@ fn any_or_thread(token: &[u8]) -> Option<Partner>
 
 /// Reads the word `new`, or the number of a thread.
 #[tactic(auto, unfolding(crate::specs::Commands::new_space_of))]
-fn new_space(token: &[u8]) -> Option<NewSpace>
+pub(crate) fn new_space(token: &[u8]) -> Option<NewSpace>
     ensures { result ≡ new_space_of token.now }
 {
     if token == NEW {

@@ -27,7 +27,7 @@ fn rights_with(read: bool, write: bool, execute: bool) -> Rights
 
 /// Reads r, w and x in this order, each of them or a hyphen.
 #[tactic(auto, unfolding(crate::specs::Commands::rights_of))]
-fn rights(token: &[u8]) -> Option<Rights>
+pub(crate) fn rights(token: &[u8]) -> Option<Rights>
     ensures { result ≡ rights_of token.now }
 {
     if token.len() != 3 {

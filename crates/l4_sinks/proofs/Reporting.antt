@@ -1,17 +1,18 @@
 -- Answers reported to a teller one after another.
-use Rattle.std.proofs.Common.{◌≡◌, ℕ, Bool, true, false, ◌&&◌, ◌||◌, List, [], ◌∷◌, ◌++◌, Option, Some, None, refl, sym, ap, subst, ◌∙◌}
+use Rattle.std.proofs.Common.{◌≡◌, ℕ, Bool, true, false, cond, ◌||◌, List, [], ◌∷◌, ◌++◌, Option, Some, None, is_some, refl, sym, ap, subst, ◌∙◌}
 use Rattle.std.specs.Prelude.{MatchOption}
+use Rattle.std.proofs.lemmas.Bool.{false≢true}
 use Rattle.std.proofs.lemmas.List.{append-nil}
 use mathlib.Core.List.{append_assoc}
 use Rattle.l4_fpage.specs.declared.sizes.PageSize.{PageSize}
 use Rattle.std.specs.Io.KnownBytes.{Appends}
 use Rattle.l4_text.specs.Streams.{WentOut, HasTold, Tells}
-use Rattle.l4_answers.specs.Reports.{Report, is_refusal, has_refusal, report_text}
+use Rattle.l4_answers.specs.Reports.{Report, is_refusal, report_text}
 use Rattle.l4_sinks.specs.declared.teller.Teller.{Teller}
 use Rattle.l4_decode.specs.Decoded.{IsMessageText}
 use Rattle.l4_threads.specs.declared.Reply.{Reply}
-use Rattle.l4_sinks.specs.Words.{received, reply_says}
-use Rattle.l4_sinks.specs.Texts.{mark, said, Means, Explains, IsAnswerText, AreAnswerTexts, sentence_text}
+use Rattle.l4_sinks.specs.Words.{says, received, reply_says}
+use Rattle.l4_sinks.specs.Texts.{mark, said, Means, Explains, IsAnswerText, AreAnswerTexts, last_refusal, sentence_text}
 use Rattle.l4_sinks.specs.Inside.Tellers.{IsSame, HasReported, HasWritten}
 
 -- one answer more
@@ -26,31 +27,19 @@ texts_more explains (first ∷ told) text report last are is = (
   ap (λ t. t ++ last) are.4 ∙ append_assoc are.0 are.1 last,
 )
 
--- whether a line was refused, with one answer more
-or_false : (b : Bool) → (b || false) ≡ b
-or_false true = refl
-or_false false = refl
+-- what the last refusal says, with one answer more
+refusal_more : (before : Option (List ℕ)) (told : List Report) (report : Report) → last_refusal before (told ++ report ∷ []) ≡ cond (is_refusal report) (Some (says report)) (last_refusal before told)
+refusal_more before [] report = refl
+refusal_more before (first ∷ told) report = refusal_more (cond (is_refusal first) (Some (says first)) before) told report
 
-or_more : (b c d e : Bool) → c ≡ (d || e) → (b || c) ≡ ((b || d) || e)
-or_more true c d e h = refl
-or_more false c d e h = h
-
-refused_more : (told : List Report) (report : Report) → has_refusal (told ++ report ∷ []) ≡ (has_refusal told || is_refusal report)
-refused_more [] report = or_false (is_refusal report)
-refused_more (first ∷ told) report = or_more (is_refusal first) (has_refusal (told ++ report ∷ [])) (has_refusal told) (is_refusal report) (refused_more told report)
-
-or_true : (b : Bool) → (b || true) ≡ true
-or_true true = refl
-or_true false = refl
-
-and_true : (b : Bool) → (b && true) ≡ b
-and_true true = refl
-and_true false = refl
+keeps_none : {A : Type 0} (b : Bool) (x y : Option A) → cond b x (cond b y None) ≡ cond b x None
+keeps_none true x y = refl
+keeps_none false x y = refl
 
 -- ANSWERS
 
 reported : {W : Type 0} (contents : W → Option (List ℕ)) (first old new : Teller W) (told : List Report) (report : Report) (text : List ℕ) → HasReported contents first old told
-    → new.explains ≡ old.explains → new.strict ≡ old.strict → new.refused ≡ (first.strict && has_refusal (told ++ report ∷ []))
+    → new.explains ≡ old.explains → new.strict ≡ old.strict → new.refused ≡ cond first.strict (last_refusal None (told ++ report ∷ [])) None
     → Tells (contents old.writer) (contents new.writer) old.out new.out text → IsAnswerText old.explains report text → HasReported contents first new (told ++ report ∷ [])
 reported contents first old new told report text h explains strict refused tells is =
     let same = h.0 in (
@@ -67,17 +56,37 @@ pub told_more : {W : Type 0} (contents : W → Option (List ℕ)) (first old new
     → is_refusal report ≡ false → new.explains ≡ old.explains → new.strict ≡ old.strict → new.refused ≡ old.refused
     → Tells (contents old.writer) (contents new.writer) old.out new.out text → IsAnswerText old.explains report text → HasReported contents first new (told ++ report ∷ [])
 told_more contents first old new told report text h none explains strict refused tells is =
-    let had : has_refusal (told ++ report ∷ []) ≡ has_refusal told = refused_more told report ∙ ap (λ b. has_refusal told || b) none ∙ or_false (has_refusal told) in
-    reported contents first old new told report text h explains strict (refused ∙ h.0.refused ∙ ap (λ b. first.strict && b) (sym had)) tells is
+    let had : last_refusal None (told ++ report ∷ []) ≡ last_refusal None told = refusal_more None told report ∙ ap (λ b. cond b (Some (says report)) (last_refusal None told)) none in
+    reported contents first old new told report text h explains strict (refused ∙ h.0.refused ∙ ap (λ (o : Option (List ℕ)). cond first.strict o None) (sym had)) tells is
 
 -- a line's refusal
 pub told_refusal : {W : Type 0} (contents : W → Option (List ℕ)) (first old new : Teller W) (told : List Report) (report : Report) (text : List ℕ) → HasReported contents first old told
-    → is_refusal report ≡ true → new.explains ≡ old.explains → new.strict ≡ old.strict → new.refused ≡ old.strict
+    → is_refusal report ≡ true → new.explains ≡ old.explains → new.strict ≡ old.strict → new.refused ≡ cond old.strict (Some (says report)) old.refused
     → Tells (contents old.writer) (contents new.writer) old.out new.out text → IsAnswerText old.explains report text → HasReported contents first new (told ++ report ∷ [])
 told_refusal contents first old new told report text h one explains strict refused tells is =
-    let had : has_refusal (told ++ report ∷ []) ≡ true = refused_more told report ∙ ap (λ b. has_refusal told || b) one ∙ or_true (has_refusal told) in
+    let had : last_refusal None (told ++ report ∷ []) ≡ Some (says report) = refusal_more None told report ∙ ap (λ b. cond b (Some (says report)) (last_refusal None told)) one in
     reported contents first old new told report text h explains strict
-    (refused ∙ h.0.strict ∙ sym (and_true first.strict) ∙ ap (λ b. first.strict && b) (sym had)) tells is
+    (
+    refused
+    ∙ ap (λ b. cond b (Some (says report)) old.refused) h.0.strict
+    ∙ ap (λ (o : Option (List ℕ)). cond first.strict (Some (says report)) o) h.0.refused
+    ∙ keeps_none first.strict (Some (says report)) (last_refusal None told)
+    ∙ ap (λ (o : Option (List ℕ)). cond first.strict o None) (sym had)
+    ) tells is
+
+unwanted : (strict : Bool) (explains : Option PageSize) → false ≡ (strict || is_some explains) → (strict ≡ false) × (explains ≡ None)
+unwanted true explains is = absurd (false≢true is)
+unwanted false None is = (refl, refl)
+unwanted false (Some size) is = absurd (false≢true is)
+
+-- a line's refusal whose reason is not wanted
+pub told_plainly : {W : Type 0} (contents : W → Option (List ℕ)) (first old new : Teller W) (told : List Report) (report : Report) → HasReported contents first old told
+    → is_refusal report ≡ true → false ≡ (old.strict || is_some old.explains) → new.explains ≡ old.explains → new.strict ≡ old.strict → new.refused ≡ old.refused
+    → Tells (contents old.writer) (contents new.writer) old.out new.out (report_text report) → HasReported contents first new (told ++ report ∷ [])
+told_plainly contents first old new told report h one not explains strict refused tells =
+    let no = unwanted old.strict old.explains not in
+    told_refusal contents first old new told report (report_text report) h one explains strict (refused ∙ sym (ap (λ b. cond b (Some (says report)) old.refused) no.0)) tells
+    (subst (λ (e : Option PageSize). IsAnswerText e report (report_text report)) (sym no.1) refl)
 
 -- the line of an answer, and what is said of it
 pub line_said : (explains : Option PageSize) (report : Report) (words : List ℕ) → ((size : PageSize) → Explains size report (sentence_text words))

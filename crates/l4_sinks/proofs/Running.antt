@@ -1,5 +1,5 @@
 -- A run of a script to a teller.
-use Rattle.std.proofs.Common.{◌≡◌, ◌⊎◌, ℕ, Bool, true, false, ◌&&◌, ◌||◌, List, [], ◌∷◌, ◌++◌, length, Option, Some, None, Result, Ok, Err, inl, inr, refl, sym, ap, subst, ◌∙◌}
+use Rattle.std.proofs.Common.{◌≡◌, ◌⊎◌, ℕ, Bool, true, false, cond, ◌||◌, List, [], ◌∷◌, ◌++◌, length, Option, Some, None, is_some, Result, Ok, Err, inl, inr, refl, sym, ap, subst, ◌∙◌}
 use Rattle.std.proofs.lemmas.Bool.{false≢true}
 use Rattle.std.specs.Io.KnownBytes.{Appends}
 use Rattle.l4_fpage.specs.declared.sizes.PageSize.{PageSize}
@@ -7,12 +7,13 @@ use Rattle.l4_text.specs.Streams.{WentOut, HasTold}
 use Rattle.l4_text.specs.declared.faults.RunFault.{RunFault}
 use Rattle.l4_text.specs.declared.faults.RunFault.TheVariants.{Read, Write, Memory}
 use Rattle.l4_text.proofs.Gone.{appends_same}
-use Rattle.l4_answers.specs.Reports.{Report, has_refusal}
+use Rattle.l4_answers.specs.Reports.{Report, is_refusal, has_refusal}
 use Rattle.l4_shell.specs.Scripts.{WasOpen, AnswersFirst as RunsFirst, Runs}
 use Rattle.l4_shell.proofs.OneAnswer.{none_more}
 use Rattle.l4_sinks.specs.declared.scripts.Ended.{Ended}
 use Rattle.l4_sinks.specs.declared.teller.Teller.{Teller}
-use Rattle.l4_sinks.specs.Texts.{AreAnswerTexts}
+use Rattle.l4_sinks.specs.Words.{says}
+use Rattle.l4_sinks.specs.Texts.{AreAnswerTexts, last_refusal}
 use Rattle.l4_sinks.specs.Inside.Tellers.{HasReported, HasWritten, is_over}
 use Rattle.l4_sinks.specs.Scripts.{explains_by, StopsAtRefusal, AnswersFirst, IsWritten, IsBegun, RunsScript}
 
@@ -22,15 +23,15 @@ pub record IsNew {W : Type 0} (teller : Teller W) (writer : W) (strict : Bool) (
   pub out_is : teller.out ≡ ([], false)
   pub explains_is : teller.explains ≡ explains
   pub strict_is : teller.strict ≡ strict
-  pub refused_is : teller.refused ≡ false
+  pub refused_is : teller.refused ≡ None
 
-and_false : (b : Bool) → (b && false) ≡ false
-and_false true = refl
-and_false false = refl
+none_kept : {A : Type 0} (b : Bool) → cond b None None ≡ None {A}
+none_kept true = refl
+none_kept false = refl
 
 nothing_reported : {W : Type 0} (contents : W → Option (List ℕ)) (t : Teller W) (writer : W) (strict : Bool) (explains : Option PageSize) → IsNew t writer strict explains → HasReported contents t t []
 nothing_reported contents t writer strict explains is = (
-  record { explains = refl; strict = refl; refused = is.refused_is ∙ sym (and_false t.strict) },
+  record { explains = refl; strict = refl; refused = is.refused_is ∙ sym (none_kept t.strict) },
   ([], refl, subst (λ (o : List ℕ × Bool). HasTold (contents t.writer) (contents t.writer) o.0 o.1 []) (sym is.out_is) ([], refl, appends_same (contents t.writer))),
 )
 
@@ -38,11 +39,25 @@ over_not : (a b : Bool) → (a || b) ≡ false → b ≡ false
 over_not true b h = absurd (false≢true (sym h))
 over_not false b h = h
 
+or_false : (b : Bool) → b ≡ (b || false)
+or_false true = refl
+or_false false = refl
+
+some_step : (b : Bool) (before : Option (List ℕ)) (words : List ℕ) (more : Bool) → (is_some (cond b (Some words) before) || more) ≡ (is_some before || (b || more))
+some_step true None words more = refl
+some_step true (Some said) words more = refl
+some_step false before words more = refl
+
+-- something was said where a line was refused
+some_said : (before : Option (List ℕ)) (told : List Report) → is_some (last_refusal before told) ≡ (is_some before || has_refusal told)
+some_said before [] = or_false (is_some before)
+some_said before (report ∷ told) = some_said (cond (is_refusal report) (Some (says report)) before) told ∙ some_step (is_refusal report) before (says report) (has_refusal told)
+
 -- an open strict teller has taken no refusal
 open_refused_none : {W : Type 0} (contents : W → Option (List ℕ)) (first now : Teller W) (told : List Report) → HasReported contents first now told → is_over now ≡ false → first.strict ≡ true
     → has_refusal told ≡ false
 open_refused_none contents first now told h opened strict =
-    ap (λ b. b && has_refusal told) (sym strict) ∙ sym h.0.refused ∙ over_not now.out.1 now.refused opened
+    sym (some_said None told) ∙ ap (λ b. is_some (cond b (last_refusal None told) None)) (sym strict) ∙ sym (ap is_some h.0.refused) ∙ over_not now.out.1 (is_some now.refused) opened
 
 -- a strict run ends at a refusal
 stops_at : {W : Type 0} (contents : W → Option (List ℕ)) (t : Teller W) (count : ℕ) (told : List Report) → HasReported contents t t [] → t.strict ≡ true
@@ -53,7 +68,7 @@ stops_at contents t count told fresh strict opened = elim opened [
       let e : has_refusal w.earlier ≡ false = open_refused_none contents t w.between w.earlier (w.adds t [] fresh) w.opened strict in
       elim w.one [
         | inl none ↦ inl (ap has_refusal w.parts ∙ none_more w.earlier w.last e none)
-        | inr one ↦ inr (w.earlier, one.0, e, w.parts ∙ ap (λ (l : List Report). w.earlier ++ l) one.1)
+        | inr one ↦ inr (w.earlier, one.0, one.1, e, w.parts ∙ ap (λ (l : List Report). w.earlier ++ l) one.2)
       ]
 ]
 
@@ -113,8 +128,8 @@ ok_out contents frames size strict explain old new t sent writer ended answered 
       first_of contents frames size strict (explains_by explain size) old new t writer is r.0,
       is_written contents t sent writer strict (explains_by explain size) r.0.told is h,
       r.1,
-      same ∙ h.0.refused ∙ ap (λ b. b && has_refusal r.0.told) is.strict_is,
-      elim r.3 [ inl whole ↦ inl whole | inr over ↦ inr (same ∙ over_is sent.out.1 sent.refused over h.2) ],
+      same ∙ h.0.refused ∙ ap (λ b. cond b (last_refusal None r.0.told) None) is.strict_is,
+      elim r.3 [ inl whole ↦ inl whole | inr over ↦ inr (ap is_some same ∙ over_is sent.out.1 (is_some sent.refused) over h.2) ],
     )
 
 err_out : {W : Type 0} (contents : W → Option (List ℕ)) (frames : ℕ) (size : PageSize) (strict explain : Bool) (old new : Option (List ℕ)) (t sent : Teller W) (writer : W) (answered : Result ℕ RunFault) (fault : RunFault)

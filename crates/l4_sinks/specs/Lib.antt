@@ -1,3 +1,4 @@
+pub mod Stops
 pub mod Words
 pub mod Texts
 pub mod Inside

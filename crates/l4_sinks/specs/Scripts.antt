@@ -1,14 +1,13 @@
 -- A script's run as its text.
-use Rattle.std.specs.Prelude.{ℕ, ◌≡◌, ◌⊎◌, ◌&&◌, Bool, true, false, List, [], ◌∷◌, ◌++◌, length, filter, Option, None, Some, Result, Ok, Err, if◌then◌else◌}
+use Rattle.std.specs.Prelude.{ℕ, ◌≡◌, ◌⊎◌, Bool, true, false, List, [], ◌∷◌, ◌++◌, length, filter, Option, None, Some, is_some, Result, Ok, Err, if◌then◌else◌}
 use Rattle.std.specs.List.{All}
 use Rattle.std.specs.Io.KnownBytes.{Consumes, Appends, IsAtEnd}
 use Rattle.l4_fpage.specs.declared.sizes.PageSize.{PageSize}
-use Rattle.l4_answers.specs.Refusals.{Refusal}
-use Rattle.l4_answers.specs.Reports.{Report, RefusedLine, has_refusal}
+use Rattle.l4_answers.specs.Reports.{Report, IsRefusalOf, has_refusal}
 use Rattle.l4_shell.specs.Lines.{ScriptLine, lines_of}
 use Rattle.l4_shell.specs.Sessions.{IsAnswered}
 use Rattle.l4_sinks.specs.declared.scripts.Ended.{Ended}
-use Rattle.l4_sinks.specs.Texts.{AreAnswerTexts}
+use Rattle.l4_sinks.specs.Texts.{AreAnswerTexts, last_refusal}
 use Rattle.l4_text.specs.Streams.{WentOut}
 use Rattle.l4_text.specs.declared.faults.RunFault.{RunFault}
 use Rattle.l4_text.specs.declared.faults.RunFault.TheVariants.{Read, Write, Memory}
@@ -16,7 +15,7 @@ use Rattle.l4_text.specs.declared.faults.RunFault.TheVariants.{Read, Write, Memo
 -- no line is refused, or the last of so many alone, and its refusal is the last answer
 abbrev pub StopsAtRefusal : ℕ → List Report → Type 0
 StopsAtRefusal count told =
-    (has_refusal told ≡ false) ⊎ ((earlier : List Report) × (refusal : Refusal) × (has_refusal earlier ≡ false) × (told ≡ earlier ++ RefusedLine count refusal ∷ []))
+    (has_refusal told ≡ false) ⊎ ((earlier : List Report) × (report : Report) × IsRefusalOf count report × (has_refusal earlier ≡ false) × (told ≡ earlier ++ report ∷ []))
 
 -- The first lines of what was read were answered, each of them whole unless the input has ended; in a strict run none behind a refused one.
 pub record AnswersFirst (frames : ℕ) (size : PageSize) (strict : Bool) (old new : Option (List ℕ)) : Type 0 where
@@ -42,14 +41,14 @@ IsWritten explains told written now = (text : List ℕ) × AreAnswerTexts explai
 abbrev pub IsBegun : Option PageSize → List Report → Option (List ℕ) → Option (List ℕ) → Type 0
 IsBegun explains told written now = (text : List ℕ) × AreAnswerTexts explains told text × WentOut written now text
 
--- A RUN OF A SCRIPT, which returns how many lines were answered, and whether a refused one ended a strict run: the text of the answers is
+-- A RUN OF A SCRIPT, which returns how many lines were answered, and why a refused one ended a strict run: the text of the answers is
 -- written, of all lines unless it did.
 -- Where a read failed, the text of the whole lines is written; where a write failed, a beginning of the text. Want of memory comes before all else.
 abbrev pub RunsScript : ℕ → PageSize → Bool → Bool → Option (List ℕ) → Option (List ℕ) → Option (List ℕ) → Option (List ℕ) → Result Ended RunFault → Type 0
 RunsScript frames size strict explain old new written now (Ok ended) =
     (a : AnswersFirst frames size strict old new) × IsWritten (explains_by explain size) a.told written now
-    × (ended.lines ≡ length a.lines) × (ended.refused ≡ (strict && has_refusal a.told))
-    × ((IsAtEnd new × (a.lines ≡ lines_of a.read)) ⊎ (ended.refused ≡ true))
+    × (ended.lines ≡ length a.lines) × (ended.refused ≡ (if strict then last_refusal None a.told else None))
+    × ((IsAtEnd new × (a.lines ≡ lines_of a.read)) ⊎ (is_some ended.refused ≡ true))
 RunsScript frames size strict explain old new written now (Err Read) =
     (a : AnswersFirst frames size strict old new) × (a.lines ≡ filter (λ line. line.whole) (lines_of a.read)) × IsWritten (explains_by explain size) a.told written now
 RunsScript frames size strict explain old new written now (Err Write) =

@@ -1,5 +1,5 @@
 -- What answers mean, each in a sentence (this profile's own).
-use Rattle.std.specs.Prelude.{ℕ, ◌==◌, List, [], ◌∷◌, ◌++◌, Option, None, Some, if◌then◌else◌, codes, decimal, bytes_eq}
+use Rattle.std.specs.Prelude.{ℕ, ◌==◌, List, [], ◌∷◌, ◌++◌, length, Option, None, Some, if◌then◌else◌, codes, decimal, bytes_eq}
 use Rattle.l4_ipc.specs.declared.steps.Outcome.{Outcome}
 use Rattle.l4_ipc.specs.declared.steps.Outcome.TheVariants.{Started, Done, NoWindow, Entangled, NoMemory, Expired}
 use Rattle.l4_mapdb.specs.declared.Mapping.{Mapping}
@@ -8,8 +8,15 @@ use Rattle.l4_threads.specs.declared.IpcReply.{IpcReply}
 use Rattle.l4_threads.specs.declared.Reply.{Reply}
 use Rattle.l4_threads.specs.declared.Reply.TheVariants.{Ipc, Hit, Answered, FaultFailed, Unmapped, Controlled, Gone}
 use Rattle.l4_answers.specs.Refusals.{Refusal}
-use Rattle.l4_answers.specs.Reports.{Report, RefusedLine, RefusedAct, Transferred, TimedOut, Waits, Ended, Page, Shown, Parent, AddedRegion, StepCount}
+use Rattle.l4_answers.specs.Reports.{Report, RefusedLine, UnreadLine, RefusedAct, Transferred, TimedOut, Waits, Ended, Page, Shown, Parent, AddedRegion, StepCount}
 use Rattle.l4_refusals.specs.Texts.{texts, text_in, spelled}
+use Rattle.l4_reasons.specs.Reasons.{line_says, token_says, missing_says}
+use Rattle.l4_text.specs.Tokens.{tokens_of}
+use Rattle.l4_shell.specs.declared.kinds.TokenKind.{TokenKind}
+use Rattle.l4_shell.specs.declared.kinds.TokenKind.TheVariants.{ThreadNumber, ThreadOrNew, ThreadOrNil, ThreadNilOrAny, Number, Rights}
+use Rattle.l4_sinks.specs.declared.stops.Expected.{Expected}
+use Rattle.l4_sinks.specs.declared.stops.Expected.TheVariants.{CommandName, Token, NumberOrEnd, LineEnd}
+use Rattle.l4_sinks.specs.Stops.{Place as Stopped, stop_of}
 
 unfoldable pub transfer_says : Outcome → List ℕ
 transfer_says Started = codes "the call started"
@@ -102,9 +109,44 @@ region_says = codes "the region was added to the table"
 unfoldable pub steps_says : List ℕ
 steps_says = codes "the number of steps so far: calls that started, transfers and expiries"
 
+-- what a token of this kind is
+unfoldable pub kind_says : TokenKind → List ℕ
+kind_says ThreadNumber = codes "a thread number"
+kind_says ThreadOrNew = codes "a thread number or \"new\""
+kind_says ThreadOrNil = codes "a thread number or \"nil\""
+kind_says ThreadNilOrAny = codes "a thread number, \"nil\" or \"any\""
+kind_says Number = codes "a number from 0 to 0xffffffff"
+kind_says Rights = codes "rights, as \"rwx\" or \"r--\""
+
+-- what is right at a place of a line
+unfoldable pub expected_says : Expected → List ℕ
+expected_says CommandName = codes "a command"
+expected_says (Token kind) = kind_says kind
+expected_says NumberOrEnd = codes "a number from 0 to 0xffffffff or the end of the line"
+expected_says LineEnd = codes "the end of the line"
+
+-- a token that is not right, or that is missing: its number, and what would be right
+abbrev pub stop_says : ℕ → ℕ → Option (List ℕ) → List ℕ → List ℕ
+stop_says line number None expected = missing_says line number expected
+stop_says line number (Some token) expected = token_says line number token expected
+
+-- why a line is refused
+unfoldable pub line_refusal_says : ℕ → Refusal → List ℕ
+line_refusal_says line refusal = line_says line ++ refusal_says refusal
+
+-- where a line stops being a command, or else why it is refused
+abbrev pub stopped_says : ℕ → Refusal → Option Stopped → List ℕ
+stopped_says line refusal None = line_refusal_says line refusal
+stopped_says line refusal (Some place) = stop_says line place.number place.token (expected_says place.expected)
+
+-- why a line can't be read; of a line that is cut or too long there are no bytes
+abbrev pub unread_says : ℕ → Refusal → List ℕ → List ℕ
+unread_says line refusal bytes = if length bytes == 0 then line_refusal_says line refusal else stopped_says line refusal (stop_of (tokens_of bytes))
+
 -- WHAT AN ANSWER MEANS, but for a message that was received
 abbrev pub says : Report → List ℕ
-says (RefusedLine line refusal) = refusal_says refusal
+says (RefusedLine line refusal) = line_refusal_says line refusal
+says (UnreadLine line refusal bytes) = unread_says line refusal bytes
 says (RefusedAct thread refusal) = refusal_says refusal
 says (Transferred sender receiver outcome) = transfer_says outcome
 says (TimedOut thread) = expired_says

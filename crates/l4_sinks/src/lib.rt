@@ -1,9 +1,12 @@
 //! The sink that writes a script's answers as text, up to the first refused line or each with its explanation.
 #![tactic(auto)]
 
+mod reasons;
 mod scripts;
 mod sentences;
+mod stops;
 mod teller;
 
 pub use scripts::{Ended, Style, answer_script};
+pub use stops::{Expected, Stop, stop_of};
 pub use teller::Teller;

@@ -5,6 +5,7 @@ ghost use Rattle.l4_sinks.specs.Scripts.{explains_by, RunsScript};
 
 use crate::teller::Teller;
 use l4_fpage::PageSize;
+use l4_reasons::Reason;
 use l4_shell::run;
 use l4_text::RunFault;
 use std::alloc::Global;
@@ -20,12 +21,12 @@ pub struct Style {
 }
 
 /// How a script ended that was read without a fault.
-#[derive(Clone, Copy)]
+#[derive(Drop)]
 pub struct Ended {
     /// The number of lines that were answered: empty ones, comments and refused ones too.
     pub lines: u64,
-    /// Whether a refused line ended a strict run.
-    pub refused: bool,
+    /// Why the line was refused that ended a strict run.
+    pub refused: Option<Reason>,
 }
 
 fn explains_by(explain: bool, size: PageSize) -> Option<PageSize>
@@ -51,8 +52,7 @@ pub fn answer_script<R: Read, W: Write>(
 {
     let mut teller = Teller::new(writer, style.strict, explains_by(style.explain, size));
     let answered = run(alloc, frames, size, reader, &mut teller);
-    let refused = teller.has_refused();
-    let writer = teller.into_inner();
+    let (writer, refused) = teller.into_parts();
     match answered {
         Ok(lines) => (writer, Ok(Ended { lines, refused })),
         Err(fault) => (writer, Err(fault)),

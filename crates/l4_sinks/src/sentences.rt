@@ -1,11 +1,13 @@
 //! What answers mean, each in a sentence.
 ghost use Rattle.std.specs.Prelude.{◌≡◌, ◌≤◌, length, bytes_eq};
 ghost use Rattle.l4_refusals.specs.Texts.{spelled};
-ghost use Rattle.l4_sinks.specs.Words.{transfer_says, origin_says, parent_says, failed_says, ipc_says, gone_says, reply_says, code_says, number_name, expired_says, waits_says, page_says, shown_says, region_says, steps_says};
+ghost use Rattle.l4_sinks.specs.Words.{transfer_says, origin_says, parent_says, failed_says, ipc_says, gone_says, reply_says, code_says, number_name, kind_says, expected_says, expired_says, waits_says, page_says, shown_says, region_says, steps_says};
 
+use crate::stops::Expected;
 use l4_ipc::Outcome;
 use l4_mapdb::{Mapping, Place};
 use l4_refusals::text_of;
+use l4_shell::TokenKind;
 use l4_threads::Reply;
 
 /// What happened to a transfer.
@@ -182,6 +184,36 @@ pub(crate) fn steps_says() -> &'static [u8]
     b"the number of steps so far: calls that started, transfers and expiries"
 }
 
+/// What a token of this kind is.
+#[tactic(auto, unfolding(crate::specs::Words::kind_says))]
+fn kind_says(kind: TokenKind) -> &'static [u8]
+    ensures says { result.now ≡ kind_says kind }
+    ensures short { length result.now ≤ 160 }
+{
+    match kind {
+        TokenKind::ThreadNumber => b"a thread number",
+        TokenKind::ThreadOrNew => b"a thread number or \"new\"",
+        TokenKind::ThreadOrNil => b"a thread number or \"nil\"",
+        TokenKind::ThreadNilOrAny => b"a thread number, \"nil\" or \"any\"",
+        TokenKind::Number => b"a number from 0 to 0xffffffff",
+        TokenKind::Rights => b"rights, as \"rwx\" or \"r--\"",
+    }
+}
+
+/// What is right at a place of a line.
+#[tactic(auto, unfolding(crate::specs::Words::expected_says))]
+pub(crate) fn expected_says(expected: Expected) -> &'static [u8]
+    ensures says { result.now ≡ expected_says expected }
+    ensures short { length result.now ≤ 160 }
+{
+    match expected {
+        Expected::CommandName => b"a command",
+        Expected::Token(kind) => kind_says(kind),
+        Expected::NumberOrEnd => b"a number from 0 to 0xffffffff or the end of the line",
+        Expected::LineEnd => b"the end of the line",
+    }
+}
+
 /// The number of a code.
 fn spelled(code: &[u8]) -> u32
     ensures { result ≡ spelled code.now }
@@ -193,11 +225,11 @@ fn spelled(code: &[u8]) -> u32
     }
 }
 
-/// Whether a code is this one.
-fn is(code: &[u8], name: &[u8]) -> bool
-    ensures { result ≡ bytes_eq code.now name.now }
+/// Whether a word is this one.
+pub(crate) fn is(word: &[u8], name: &[u8]) -> bool
+    ensures { result ≡ bytes_eq word.now name.now }
 {
-    code == name
+    word == name
 }
 
 /// What a code means.

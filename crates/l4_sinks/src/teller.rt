@@ -1,18 +1,19 @@
 //! A sink that writes answers as text.
-ghost use Rattle.std.specs.Prelude.{◌≡◌, ◌≤◌, ◌+◌, ◌++◌, ◌∷◌, [], ℕ, List, false, length, option_map};
+ghost use Rattle.std.specs.Prelude.{◌≡◌, ◌≤◌, ◌+◌, ◌++◌, ◌∷◌, [], ◌||◌, ℕ, List, false, Some, None, is_some, if◌then◌else◌, length, option_map};
 ghost use Rattle.std.specs.Option.{option_copied};
 ghost use Rattle.l4_text.specs.Sizes.{held_bytes};
 ghost use Rattle.l4_text.specs.Streams.{Tells};
 ghost use Rattle.l4_answers.specs.Reports.{Ended};
 ghost use Rattle.l4_decode.specs.Decoded.{IsMessageText};
 ghost use Rattle.l4_threads.specs.declared.IpcReply.{IpcReply as AnIpcReply};
-ghost use Rattle.l4_sinks.specs.Words.{number_says, refusal_says, transfer_says, words_of, received};
+ghost use Rattle.l4_sinks.specs.Words.{refusal_says, transfer_says, words_of, received};
 ghost use Rattle.l4_sinks.specs.Texts.{mark, sentence_text, said, Means, IsAnswerText};
 ghost use Rattle.l4_sinks.specs.Inside.Tellers.{HasReported, HasWritten, is_over};
 
+use crate::reasons::{act_reason, refusal_reason, unread_reason};
 use crate::sentences::{
-    code_says, expired_says, gone_says, known_says, number_name, page_says, parent_says,
-    region_says, shown_says, steps_says, transfer_says, waits_says,
+    expired_says, gone_says, known_says, page_says, parent_says, region_says, shown_says,
+    steps_says, transfer_says, waits_says,
 };
 use arrayvec::ArrayVec;
 use l4_answers::{
@@ -23,6 +24,7 @@ use l4_decode::put_message;
 use l4_fpage::PageSize;
 use l4_ipc::Outcome;
 use l4_mapdb::Mapping;
+use l4_reasons::Reason;
 use l4_text::{LineReader, Output, RunFault};
 use l4_threads::{IpcReply, Reply};
 use std::io::Write;
@@ -38,7 +40,7 @@ pub struct Teller<W> {
     writer: W,
     explains: Option<PageSize>,
     strict: bool,
-    refused: bool,
+    refused: Option<Reason>,
 }
 
 /// Adds a sentence in a line that begins with the mark.
@@ -92,52 +94,50 @@ fn say_transfer<W: Write>(
     }
 }
 
-/// Adds what the number is that a code carries.
-#[tactic(auto, unfolding(crate::specs::Words::number_says))]
-fn add_number_says(code: &Code, out: &mut Output)
-    requires { length out.old.0 + 200 ≤ held_bytes }
-    ensures value { out.new ≡ (out.old.0 ++ number_says code.now.name code.now.number, out.old.1) }
-    ensures len { length out.new.0 ≤ length out.old.0 + 200 }
-{
-    let Some(number) = code.number() else {
-        return;
-    };
-    out.add(b" (");
-    out.add(number_name(code.name()));
-    out.add_number(u64::from(number));
-    out.add(b")");
-}
-
-/// Adds what a code and its number mean, in a line that begins with the mark.
-#[tactic(auto, unfolding(crate::specs::Texts::sentence_text, crate::specs::Words::refusal_says))]
-fn add_refusal(code: &Code, out: &mut Output)
-    requires { length out.old.0 + 400 ≤ held_bytes }
-    ensures { out.new ≡ (out.old.0 ++ sentence_text (refusal_says code.now), out.old.1) }
+/// Adds a reason in a line that begins with the mark.
+#[tactic(auto, unfolding(crate::specs::Texts::sentence_text))]
+fn add_reason(reason: &Reason, out: &mut Output)
+    requires { length out.old.0 + 704 ≤ held_bytes }
+    ensures { out.new ≡ (out.old.0 ++ sentence_text reason.now, out.old.1) }
 {
     out.add(b"# ");
-    out.add(code_says(code.name()));
-    add_number_says(code, out);
+    out.add(reason.as_slice());
     out.push(b'\n');
 }
 
-/// Writes what a code and its number mean.
+/// Writes a reason in a line that begins with the mark.
 #[cold]
 #[inline(never)]
-fn put_refusal<W: Write>(code: &Code, out: &mut Output, writer: &mut W)
-    ensures { Tells (W.contents writer.old) (W.contents writer.new) out.old out.new (sentence_text (refusal_says code.now)) }
+fn put_reason<W: Write>(reason: &Reason, out: &mut Output, writer: &mut W)
+    ensures { Tells (W.contents writer.old) (W.contents writer.new) out.old out.new (sentence_text reason.now) }
 {
     out.make_room(writer);
-    add_refusal(code, out);
+    add_reason(reason, out);
+}
+
+/// Writes a reason if answers are explained.
+fn say_reason<W: Write>(
+    explains: Option<PageSize>,
+    reason: &Reason,
+    out: &mut Output,
+    writer: &mut W,
+)
+    ensures { Tells (W.contents writer.old) (W.contents writer.new) out.old out.new (said explains reason.now) }
+{
+    match explains {
+        None => {}
+        Some(_) => put_reason(reason, out, writer),
+    }
 }
 
 /// Writes what a code and its number mean if answers are explained.
 #[inline(always)]
-fn say_refusal<W: Write>(explains: Option<PageSize>, code: &Code, out: &mut Output, writer: &mut W)
+fn say_act<W: Write>(explains: Option<PageSize>, code: &Code, out: &mut Output, writer: &mut W)
     ensures { Tells (W.contents writer.old) (W.contents writer.new) out.old out.new (said explains (refusal_says code.now)) }
 {
     match explains {
         None => {}
-        Some(_) => put_refusal(code, out, writer),
+        Some(_) => put_reason(&act_reason(code), out, writer),
     }
 }
 
@@ -228,36 +228,52 @@ impl<W: Write> Teller<W> {
         ensures out { result.out ≡ ([], false) }
         ensures explains { result.explains ≡ explains }
         ensures strict { result.strict ≡ strict }
-        ensures refused { result.refused ≡ false }
+        ensures refused { result.refused ≡ None }
     {
         Teller {
             out: Output::new(),
             writer,
             explains,
             strict,
-            refused: false,
+            refused: None,
         }
     }
 
-    /// Returns whether it is strict and took a refused line, which is the last line that it took.
-    pub fn has_refused(&self) -> bool
-        ensures { result ≡ self.now.refused }
-    {
-        self.refused
-    }
-
-    /// Returns its writer.
-    pub fn into_inner(self) -> W
-        ensures { result ≡ self.writer }
+    /// Returns its writer, and why the line was refused that ended a strict run.
+    pub fn into_parts(self) -> (W, Option<Reason>)
+        ensures writer { result.0 ≡ self.writer }
+        ensures refused { result.1 ≡ self.refused }
     {
         let Teller {
             out: _,
             writer,
             explains: _,
             strict: _,
-            refused: _,
+            refused,
         } = self;
-        writer
+        (writer, refused)
+    }
+
+    /// Whether it uses the reason of a refusal.
+    fn wants_reasons(&self) -> bool
+        ensures { result ≡ (self.now.strict || is_some self.now.explains) }
+    {
+        self.strict || self.explains.is_some()
+    }
+
+    /// Takes the reason why a line is refused. Writes it if answers are explained, and keeps it if the run is strict.
+    #[cold]
+    #[inline(never)]
+    fn take_reason(&mut self, reason: Reason)
+        ensures told { Tells (W.contents self.old.writer) (W.contents self.new.writer) self.old.out self.new.out (said self.old.explains reason) }
+        ensures explains { self.new.explains ≡ self.old.explains }
+        ensures strict { self.new.strict ≡ self.old.strict }
+        ensures refused { self.new.refused ≡ (if self.old.strict then Some reason else self.old.refused) }
+    {
+        say_reason(self.explains, &reason, &mut self.out, &mut self.writer);
+        if self.strict {
+            self.refused = Some(reason);
+        }
     }
 }
 
@@ -271,15 +287,24 @@ impl<W: Write> Sink for Teller<W> {
     #[inline(never)]
     fn refused_line(&mut self, line: u64, code: &Code) {
         put_refused_line(line, code, &mut self.out, &mut self.writer);
-        say_refusal(self.explains, code, &mut self.out, &mut self.writer);
-        self.refused = self.strict;
+        if self.wants_reasons() {
+            self.take_reason(refusal_reason(line, code));
+        }
+    }
+
+    #[inline(never)]
+    fn unread_line(&mut self, line: u64, code: &Code, bytes: &[u8]) {
+        put_refused_line(line, code, &mut self.out, &mut self.writer);
+        if self.wants_reasons() {
+            self.take_reason(unread_reason(line, code, bytes));
+        }
     }
 
     #[cold]
     #[inline(never)]
     fn refused_act(&mut self, thread: u32, code: &Code) {
         put_refused_act(thread, code, &mut self.out, &mut self.writer);
-        say_refusal(self.explains, code, &mut self.out, &mut self.writer);
+        say_act(self.explains, code, &mut self.out, &mut self.writer);
     }
 
     #[inline(always)]
@@ -356,7 +381,7 @@ impl<W: Write> Sink for Teller<W> {
 
     #[inline(always)]
     fn is_closed(&self) -> bool {
-        self.out.has_failed() | self.refused
+        self.out.has_failed() | self.refused.is_some()
     }
 
     fn finish(&mut self) -> Result<(), RunFault> {

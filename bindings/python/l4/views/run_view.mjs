@@ -24,8 +24,9 @@ function answerRow(answer, line, refusals) {
   return row;
 }
 
-/** A refusal in words, with the token that is wrong where the line can't be read. */
+/** A refusal in words, with the token that is wrong if the line can't be read. The program names that token itself. */
 function refusalText({ code, means }, text) {
+  if (means.startsWith("token ")) return `${means}; see “Commands of a script”`;
   const token = code === "S1" || code === "S2" ? wrongToken(text) : "";
   return token ? `${means}: ${token}; see “Commands of a script”` : means;
 }

@@ -1,17 +1,17 @@
 -- What is known of a teller, the sink that writes answers.
-use Rattle.std.specs.Prelude.{ℕ, ◌≡◌, ◌||◌, ◌&&◌, Bool, false, List, Option}
+use Rattle.std.specs.Prelude.{ℕ, ◌≡◌, ◌||◌, Bool, false, List, Option, None, is_some, if◌then◌else◌}
 use Rattle.std.specs.Io.KnownBytes.{Appends}
 use Rattle.l4_fpage.specs.declared.sizes.PageSize.{PageSize}
 use Rattle.l4_text.specs.Streams.{HasTold}
-use Rattle.l4_answers.specs.Reports.{Report, has_refusal}
+use Rattle.l4_answers.specs.Reports.{Report}
 use Rattle.l4_sinks.specs.declared.teller.Teller.{Teller}
-use Rattle.l4_sinks.specs.Texts.{AreAnswerTexts}
+use Rattle.l4_sinks.specs.Texts.{AreAnswerTexts, last_refusal}
 
--- a teller stayed what it was: it explains or doesn't, it is strict or isn't; and it has refused where it is strict and a line was refused
+-- a teller stayed what it was: it explains or doesn't, it is strict or isn't; and a strict one keeps what the last refusal of a line says
 pub record IsSame {W : Type 0} (first now : Teller W) (told : List Report) : Type 0 where
   pub explains : now.explains ≡ first.explains
   pub strict : now.strict ≡ first.strict
-  pub refused : now.refused ≡ (first.strict && has_refusal told)
+  pub refused : now.refused ≡ (if first.strict then last_refusal None told else None)
 
 -- these answers were reported, and their text is written but for what is held back or lost
 abbrev pub HasReported : {W : Type 0} → (W → Option (List ℕ)) → Teller W → Teller W → List Report → Type 0
@@ -25,4 +25,4 @@ HasWritten contents first now told =
 
 -- a write failed, or a line was refused in a strict run
 abbrev pub is_over : {W : Type 0} → Teller W → Bool
-is_over teller = teller.out.1 || teller.refused
+is_over teller = teller.out.1 || is_some teller.refused

@@ -3,8 +3,8 @@ use Rattle.l4_shell.proofs.StraightLines.{carries_request, faults_as, refuses_li
 use Rattle.l4_shell.proofs.answering.Script.answer_other.Goals as goal
 
 pub returns-in-Ok : goal.returns-in-Ok
-returns-in-Ok g c = carries_request g.S.Sink.has_told _ _ _ _ _ _ _ c.in-Ok.ensures c.carry_out.ensures
+returns-in-Ok g c = carries_request g.S.Sink.has_told _ _ _ c.args.bytes.now _ _ _ _ c.in-Ok.ensures c.carry_out.ensures
 
 pub returns-in-Err : goal.returns-in-Err
 returns-in-Err g c =
-    refuses_line g.S.Sink.has_told (session c.args.self.now.session.kernel c.args.self.now.session.servers) _ c.in-Err.fault _ _ _ _ (faults_as _ _ c.in-Err.ensures) c.script_code.ensures c.refused_line.ensures
+    refuses_line g.S.Sink.has_told (session c.args.self.now.session.kernel c.args.self.now.session.servers) _ c.args.bytes.now c.in-Err.fault _ _ _ _ (faults_as c.args.bytes.now _ _ c.in-Err.ensures) c.script_code.ensures c.unread_line.ensures

@@ -1,4 +1,4 @@
-use Rattle.std.proofs.Common.{Bool, ◌||◌, refl, sym, ap, ◌∙◌}
+use Rattle.std.proofs.Common.{Bool, ◌||◌, is_some, refl, sym, ap, ◌∙◌}
 use Rattle.l4_sinks.proofs.Reporting.{told_out, told_lost}
 use Rattle.l4_sinks.proofs.teller.TellerSink.finish.Goals as goal
 
@@ -8,7 +8,7 @@ returns-in-Ok-clause-ok g c = λ first told h.
 
 pub returns-in-Ok-clause-same : goal.returns-in-Ok-clause-same
 returns-in-Ok-clause-same g c =
-    ap (λ (b : Bool). b || c.args.self.now.refused) (c.in-Ok.ensures.open.1 ∙ sym c.in-Ok.ensures.open.0)
+    ap (λ (b : Bool). b || is_some c.args.self.now.refused) (c.in-Ok.ensures.open.1 ∙ sym c.in-Ok.ensures.open.0)
 
 pub returns-in-Err-clause-err : goal.returns-in-Err-clause-err
 returns-in-Err-clause-err g c = (

@@ -1,11 +1,17 @@
-use Rattle.std.proofs.Common.{refl}
-use Rattle.l4_text.proofs.Telling.{tells_more}
+use Rattle.std.proofs.Common.{ℕ, List, Some, cond, ap, refl, ◌∙◌}
+use Rattle.l4_text.proofs.Telling.{tells_is, tells_more}
 use Rattle.l4_answers.specs.Reports.{RefusedLine}
-use Rattle.l4_sinks.proofs.Reporting.{told_refusal, line_said}
+use Rattle.l4_sinks.specs.Texts.{said}
+use Rattle.l4_sinks.proofs.Reporting.{told_refusal, told_plainly, line_said}
 use Rattle.l4_sinks.proofs.teller.TellerSink.refused_line.Goals as goal
+
+pub returns-then-wants_reasons : goal.returns-then-wants_reasons
+returns-then-wants_reasons g c = λ first told h.
+    told_refusal g.W.Write.contents first _ _ told (RefusedLine c.args.line c.args.code.now) _ h refl c.take_reason.ensures.explains c.take_reason.ensures.strict
+    (c.take_reason.ensures.refused ∙ ap (λ (l : List ℕ). cond c.args.self.now.strict (Some l) c.args.self.now.refused) c.refusal_reason.ensures)
+    (tells_more _ _ _ _ _ _ _ _ c.put_refused_line.ensures (tells_is _ _ _ _ _ _ (ap (λ (l : List ℕ). said c.args.self.now.explains l) c.refusal_reason.ensures) c.take_reason.ensures.told))
+    (line_said c.args.self.now.explains (RefusedLine c.args.line c.args.code.now) _ (λ size. refl))
 
 pub returns : goal.returns
 returns g c = λ first told h.
-    told_refusal g.W.Write.contents first _ _ told (RefusedLine c.args.line c.args.code.now) _ h refl refl refl refl
-    (tells_more _ _ _ _ _ _ _ _ c.put_refused_line.ensures c.say_refusal.ensures)
-    (line_said c.args.self.now.explains (RefusedLine c.args.line c.args.code.now) _ (λ size. refl))
+    told_plainly g.W.Write.contents first _ _ told (RefusedLine c.args.line c.args.code.now) h refl c.if-wants_reasons.ensures refl refl refl c.put_refused_line.ensures
