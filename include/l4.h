@@ -139,6 +139,7 @@ uint32_t l4_version(void);
 #define L4_B2 UINT32_C(0x4232) /* the handle is not empty: free it before you use it again */
 #define L4_B3 UINT32_C(0x4233) /* the kind of call is unknown */
 #define L4_B4 UINT32_C(0x4234) /* the page size must be 4,096 or 1,024 bytes */
+#define L4_B5 UINT32_C(0x4235) /* the line is not a step or query of a step list */
 #define L4_K1 UINT32_C(0x4B31) /* the step is not enabled: this transfer or expiry cannot happen now */
 #define L4_K2 UINT32_C(0x4B32) /* there is no thread with this number */
 #define L4_K3 UINT32_C(0x4B33) /* the thread's previous call has not ended yet */
@@ -349,6 +350,35 @@ l4_reply l4_reply_of(l4_kernel *kernel, uint32_t thread);
  * most 656 bytes, or 160 for a step. */
 size_t l4_reply_text(uint32_t thread, const l4_reply *reply, char *out, size_t room);
 size_t l4_step_text(const l4_step *step, char *out, size_t room);
+
+/* Verdicts on another kernel's answer to a step. */
+#define L4_AGREES UINT32_C(1)
+#define L4_DIFFERS UINT32_C(2)
+#define L4_NOT_ENABLED UINT32_C(3) /* it differs because this kernel refuses the step with K1: another step is enabled, or none */
+
+/* What l4_judge found. place is the number of the first line of the answer that differs, from 0, and length is the length of this kernel's
+ * line at that place. If length is 0, this kernel's answer has no further line. Both are 0 if the answers agree. enabled is the step that
+ * is enabled now, as l4_enabled returns it. */
+typedef struct l4_judgement {
+    uint32_t refusal;
+    uint32_t verdict;
+    uint64_t place;
+    uint64_t length;
+    l4_step enabled;
+    uint32_t reserved[2];
+} l4_judgement;
+
+/* Watches another kernel: executes a step that the other kernel executed, and compares the other kernel's answer with this kernel's, as
+ * `l4 judge` does. The step is a line of a step list without its newline, such as "transfer 4 2" or "reply 3": a step or a query. The
+ * answer has the lines that l4_steps prints for it, such as "done\n4 ipc 00000000 0 00000000\n", of which the last need not end with a
+ * newline. A line "?" stands for any one line. An answer without lines is not compared, and agrees.
+ *
+ * Of this kernel's line at the place of the difference, at most the first `room` - 1 bytes are written to expected, and a 0 after them. A
+ * line has at most 656 bytes. If the answers agree, the text is empty. Nothing is written if room is 0, or after a refusal.
+ *
+ * This kernel executes the step even if the answers differ, so its state follows the definition. Refusals in this order: B1, B5,
+ * NoMemory. After B5 nothing has changed. After NoMemory the step has been executed, but its answer was not compared. */
+l4_judgement l4_judge(l4_kernel *kernel, const char *step, size_t step_length, const char *found, size_t found_length, char *expected, size_t room);
 
 /* The number of a space; `there` is 0 if there is none. */
 typedef struct l4_space {

@@ -753,6 +753,59 @@ static void lines_of_text(void) {
     l4_free(&kernel);
 }
 
+/* What l4_judge finds about this answer to a step; the line that was expected is written to text. */
+static l4_judgement judge(l4_kernel *kernel, const char *step, const char *found, char text[32]) {
+    memset(text, 'x', 32);
+    return l4_judge(kernel, step, strlen(step), found, strlen(found), text, 32);
+}
+
+static int agrees(l4_kernel *kernel, const char *step, const char *found) {
+    char text[32];
+    l4_judgement seen = judge(kernel, step, found, text);
+    return seen.refusal == L4_OK && seen.verdict == L4_AGREES && seen.place == 0 && seen.length == 0 && text[0] == 0;
+}
+
+static int differs(l4_kernel *kernel, const char *step, const char *found, uint64_t place, const char *expected) {
+    char text[32];
+    l4_judgement seen = judge(kernel, step, found, text);
+    return seen.refusal == L4_OK && seen.verdict == L4_DIFFERS && seen.place == place && seen.length == strlen(expected) && strcmp(text, expected) == 0;
+}
+
+static int is_no_step(l4_kernel *kernel, const char *step) {
+    char text[32];
+    l4_judgement seen = judge(kernel, step, "started", text);
+    return seen.refusal == L4_B5 && seen.verdict == 0 && seen.enabled.kind == L4_NONE && text[0] == 'x';
+}
+
+/* Another kernel's answers are compared as `l4 judge` compares them. */
+static void judges(void) {
+    l4_kernel kernel = L4_EMPTY;
+    l4_judgement seen;
+    char text[32];
+    EXPECT(judge(&kernel, "enabled", "", text).refusal == L4_B1 && text[0] == 'x');
+    EXPECT(l4_boot(&kernel, 256) == L4_OK);
+    EXPECT(agrees(&kernel, "start 1 ipc 0x8001 0 0 0 0x70000", "started"));
+    EXPECT(agrees(&kernel, "enabled", "enabled none\n"));
+    EXPECT(agrees(&kernel, "start 2 ipc 0 0xffffffff 0 0", ""));
+    seen = judge(&kernel, "transfer 2 1", "done\n", text);
+    EXPECT(seen.refusal == L4_OK && seen.verdict == L4_NOT_ENABLED && seen.place == 0 && seen.length == 10 && strcmp(text, "refused K1") == 0);
+    EXPECT(seen.enabled.kind == L4_TRANSFER && seen.enabled.thread == 1 && seen.enabled.receiver == 2 && seen.reserved[0] == 0 && seen.reserved[1] == 0);
+    EXPECT(agrees(&kernel, "transfer 2 1", "refused K1"));
+    EXPECT(differs(&kernel, "transfer 2 1", "refused K1\ndone", 1, ""));
+    EXPECT(is_no_step(&kernel, "trnsfer 1 2") && is_no_step(&kernel, "transfer 1 2\n") && is_no_step(&kernel, "# done") && is_no_step(&kernel, ""));
+    EXPECT(l4_judge(&kernel, NULL, 0, NULL, 0, NULL, 0).refusal == L4_B5 && l4_enabled(&kernel).kind == L4_TRANSFER);
+    EXPECT(differs(&kernel, "transfer 1 2", "done\n?\n2 ipc 00070000 0 00000000", 2, "2 ipc 00070000 0 00004001"));
+    EXPECT(l4_enabled(&kernel).kind == L4_NONE && l4_reply_of(&kernel, 2).from == L4_SIGMA0_ID);
+    EXPECT(agrees(&kernel, "reply 2", "?") && differs(&kernel, "reply 2", "\n", 0, "ipc 00070000 0 00004001"));
+    EXPECT(differs(&kernel, "reply 2", "ipc 00070000 0 00004001\nmore", 1, ""));
+    EXPECT(differs(&kernel, "start 2 create 0xc001 0x8001 0", "started\n", 1, "2 controlled"));
+    memset(text, 'x', sizeof text);
+    seen = l4_judge(&kernel, "space 3", 7, "none", 4, text, 6);
+    EXPECT(seen.verdict == L4_DIFFERS && seen.length == 7 && strcmp(text, "space") == 0 && text[6] == 'x');
+    EXPECT(l4_judge(&kernel, "space 3", 7, "none", 4, NULL, 0).length == 7);
+    l4_free(&kernel);
+}
+
 /* Each code with its line, and how texts are cut. */
 static void texts(int shows) {
     char code[160], line[160], cut[3] = {'x', 'x', 'x'};
@@ -771,7 +824,7 @@ static void texts(int shows) {
             }
         }
     }
-    EXPECT(found == 49);
+    EXPECT(found == 50);
     EXPECT(l4_refusal_code(L4_OK, code, sizeof code) == 0 && code[0] == 0);
     EXPECT(l4_refusal_code(0x10000 | L4_K1, code, sizeof code) == 0);
     EXPECT(l4_refusal_code(L4_K1, cut, 2) == 2 && cut[0] == 'K' && cut[1] == 0 && cut[2] == 'x');
@@ -806,6 +859,7 @@ int main(int count, char **words) {
     nulls_of_locks();
     reserved();
     lines_of_text();
+    judges();
     EXPECT(l4_version() == L4_VERSION && L4_VERSION == 1000);
     texts(shows);
     return failures == 0 ? 0 : 1;

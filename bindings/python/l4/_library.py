@@ -45,6 +45,7 @@ L4_B1 = 0x4231
 L4_B2 = 0x4232
 L4_B3 = 0x4233
 L4_B4 = 0x4234
+L4_B5 = 0x4235
 L4_K1 = 0x4B31
 L4_K2 = 0x4B32
 L4_K3 = 0x4B33
@@ -117,6 +118,10 @@ L4_REPLY_UNMAPPED = 5
 L4_REPLY_CONTROLLED = 6
 L4_REPLY_GONE = 7
 
+L4_AGREES = 1
+L4_DIFFERS = 2
+L4_NOT_ENABLED = 3
+
 L4_START = 3
 
 L4_SIGMA0_ID = 0x4001
@@ -155,6 +160,14 @@ class l4_entered(Structure):
 
 class l4_reply(Structure):
     _fields_ = numbers("refusal kind tag error from word_count") + [("words", c_uint32 * L4_MAX_WORDS), ("reserved", c_uint32 * 2)]
+
+
+class l4_judgement(Structure):
+    _fields_ = (
+        numbers("refusal verdict")
+        + [("place", c_uint64), ("length", c_uint64), ("enabled", l4_step)]
+        + [("reserved", c_uint32 * 2)]
+    )
 
 
 class l4_space(Structure):
@@ -270,6 +283,7 @@ STRUCTS = [
     l4_step,
     l4_entered,
     l4_reply,
+    l4_judgement,
     l4_space,
     l4_thread,
     l4_page_size,
@@ -322,6 +336,7 @@ FUNCTIONS: Dict[str, Tuple[Any, List[Any]]] = {
     "l4_next": (l4_step, [KERNEL]),
     "l4_enter": (l4_entered, [KERNEL, c_uint32, POINTER(l4_call), WORDS, c_size_t, POINTER(l4_step), c_size_t]),
     "l4_reply_of": (l4_reply, [KERNEL, c_uint32]),
+    "l4_judge": (l4_judgement, [KERNEL, c_char_p, c_size_t, c_char_p, c_size_t, c_char_p, c_size_t]),
     "l4_space_of": (l4_space, [KERNEL, c_uint32]),
     "l4_next_space": (l4_space, [KERNEL, c_uint64]),
     "l4_next_thread": (l4_thread, [KERNEL, c_uint32]),

@@ -6,8 +6,10 @@ import subprocess
 from dataclasses import dataclass
 from typing import Iterable, Iterator, List, NamedTuple, Optional, Sequence, Tuple, Union
 
+from ._library import L4_AGREES, L4_NOT_ENABLED
 from .kernel import Expire, Kernel, Transfer
-from .lists import Unread, answers_to, enabled_line, whole_line
+from .lists import Unread, enabled_line, whole_line
+from .refusals import Refused
 from .shared import Start, step_line
 
 #: An answer that the other kernel did not report. It stands for any one line.
@@ -63,14 +65,6 @@ def _is_step(line: str) -> bool:
     return bool(line.strip(" ")) and not line.startswith("#")
 
 
-def _first(expected: Sequence[str], found: Sequence[str]) -> Optional[int]:
-    """Returns the place of the first line that differs, or None."""
-    for place, (one, other) in enumerate(zip(expected, found)):
-        if other not in (UNKNOWN, one):
-            return place
-    return None if len(expected) == len(found) else min(len(expected), len(found))
-
-
 class Judge:
     """Watches another kernel, step by step.
 
@@ -95,17 +89,19 @@ class Judge:
         stands for any one line. If there are no lines, nothing is compared. Raises ValueError if the step is not a line of a step list.
         """
         line = step if isinstance(step, str) else step_line(step)
-        expected = answers_to(self.kernel, line.encode("latin-1"))
-        if not expected:
-            raise ValueError(f"not a step or query: {line!r}")
         found = list(answer)
+        try:
+            told, expected = self.kernel._judge(line.encode("latin-1"), "".join(f"{said}\n" for said in found).encode("utf-8", "surrogatepass"))
+        except Refused as refused:
+            if refused.code != "B5":
+                raise
+            raise ValueError(f"not a step or query: {line!r}") from None
         self.steps += line.split()[0].encode() in _STEPS
-        self.answers += sum(told != UNKNOWN for told in found)
-        place = _first(expected, found) if found else None
-        if place is None:
+        self.answers += sum(said != UNKNOWN for said in found)
+        if told.verdict == L4_AGREES:
             return None
-        due, came = (lines[place] if place < len(lines) else None for lines in (expected, found))
-        return Difference(line, place, due, came, enabled_line(self.kernel) if due == "refused K1" else None)
+        came = found[told.place] if told.place < len(found) else None
+        return Difference(line, told.place, expected or None, came, enabled_line(self.kernel) if told.verdict == L4_NOT_ENABLED else None)
 
 
 class _Listed(NamedTuple):

@@ -2,7 +2,7 @@
 from __future__ import annotations
 
 import enum
-from ctypes import byref
+from ctypes import byref, create_string_buffer
 from dataclasses import dataclass
 from typing import Any, Callable, Iterator, Optional, Tuple, Union
 
@@ -371,6 +371,15 @@ class Kernel(Handle):
         """Returns the reply of the thread's last call, which has ended. Returns None if the thread waits, does not exist, or has made no
         call yet."""
         return reply_of(self._told(self._ask(library.l4_reply_of, number(thread, "a thread number"))))
+
+    def _judge(self, step: bytes, found: bytes) -> Tuple[_library.l4_judgement, str]:
+        """Executes a step or query, which is a line of a step list, and compares another kernel's answer. Returns what the library found, and
+        the line that was expected. Raises Refused with B5 if the line is not a step or query, and with NoMemory."""
+        expected = create_string_buffer(_library.TEXT_ROOM)
+        told = self._told(self._ask(library.l4_judge, step, len(step), found, len(found), expected, _library.TEXT_ROOM))
+        if told.refusal:
+            raise Refused(told.refusal)
+        return told, expected.value.decode()
 
     def space_of(self, thread: int) -> Optional[int]:
         """Returns the number of a thread's space, or None if there is no such thread."""

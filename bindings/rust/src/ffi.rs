@@ -92,6 +92,7 @@ constants! {
     L4_B2 = 0x4232;
     L4_B3 = 0x4233;
     L4_B4 = 0x4234;
+    L4_B5 = 0x4235;
     L4_K1 = 0x4B31;
     L4_K2 = 0x4B32;
     L4_K3 = 0x4B33;
@@ -159,6 +160,9 @@ constants! {
     L4_REPLY_UNMAPPED = 5;
     L4_REPLY_CONTROLLED = 6;
     L4_REPLY_GONE = 7;
+    L4_AGREES = 1;
+    L4_DIFFERS = 2;
+    L4_NOT_ENABLED = 3;
     L4_START = 3;
     L4_SIGMA0_ID = 0x4001;
     L4_ROOT_ID = 0x8001;
@@ -221,6 +225,15 @@ structs! {
         from: u32,
         word_count: u32,
         words: [u32; L4_MAX_WORDS as usize],
+        reserved: [u32; 2],
+    }
+
+    struct l4_judgement {
+        refusal: u32,
+        verdict: u32,
+        place: u64,
+        length: u64,
+        enabled: l4_step,
         reserved: [u32; 2],
     }
 
@@ -407,6 +420,7 @@ functions! {
     fn l4_next(kernel: *mut l4_kernel) -> l4_step;
     fn l4_enter(kernel: *mut l4_kernel, thread: u32, call: *const l4_call, words: *const u32, count: usize, steps: *mut l4_step, room: usize) -> l4_entered;
     fn l4_reply_of(kernel: *mut l4_kernel, thread: u32) -> l4_reply;
+    fn l4_judge(kernel: *mut l4_kernel, step: *const c_char, step_length: usize, found: *const c_char, found_length: usize, expected: *mut c_char, room: usize) -> l4_judgement;
     fn l4_space_of(kernel: *mut l4_kernel, thread: u32) -> l4_space;
     fn l4_next_space(kernel: *mut l4_kernel, space: u64) -> l4_space;
     fn l4_next_thread(kernel: *mut l4_kernel, thread: u32) -> l4_thread;
@@ -660,6 +674,28 @@ impl Handle<l4_kernel> {
     pub(crate) fn reply_of(&self, thread: u32) -> l4_reply {
         // SAFETY: as in `enabled`.
         unsafe { l4_reply_of(self.cell.get(), thread) }
+    }
+
+    /// Compares an answer, and returns the line that was expected too.
+    pub(crate) fn judge(&mut self, step: &str, found: &str) -> (l4_judgement, String) {
+        let mut line = [0u8; TEXT_ROOM];
+        let (kernel, room) = (self.cell.get(), line.len());
+        // SAFETY: the handle is live and borrowed alone, so it overlaps neither text, which live as long as their borrows; the line belongs
+        // to this function, and its room is its length.
+        let judgement = unsafe {
+            l4_judge(
+                kernel,
+                step.as_ptr().cast(),
+                step.len(),
+                found.as_ptr().cast(),
+                found.len(),
+                line.as_mut_ptr().cast(),
+                room,
+            )
+        };
+        let length = room.min(judgement.length as usize);
+        let expected = String::from_utf8_lossy(&line[..length]).into_owned();
+        (judgement, expected)
     }
 
     pub(crate) fn space_of(&self, thread: u32) -> l4_space {

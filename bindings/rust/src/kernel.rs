@@ -177,6 +177,44 @@ pub struct Entered {
     pub steps: Vec<Done>,
 }
 
+/// What [`Kernel::judge`] found about another kernel's answer.
+#[derive(Clone, PartialEq, Eq, Debug)]
+pub enum Verdict {
+    /// Every line that was compared is this kernel's.
+    Agrees,
+    /// A line differs.
+    Differs {
+        /// The number of the first line that differs, from 0. If the answer has too few lines, the number of its lines.
+        place: u64,
+        /// This kernel's line at that place, or `None` if its answer has no further line.
+        expected: Option<String>,
+    },
+    /// This kernel refuses the step with K1, and the other kernel answered otherwise.
+    NotEnabled {
+        /// The step that is enabled, or `None` if no step is.
+        enabled: Option<Step>,
+    },
+}
+
+impl Verdict {
+    fn of(told: &ffi::l4_judgement, expected: String) -> Result<Verdict, Refusal> {
+        if told.refusal != ffi::L4_OK {
+            return Err(Refusal::of(told.refusal, 0));
+        }
+        Ok(match told.verdict {
+            ffi::L4_AGREES => Verdict::Agrees,
+            ffi::L4_DIFFERS => Verdict::Differs {
+                place: told.place,
+                expected: (told.length != 0).then_some(expected),
+            },
+            ffi::L4_NOT_ENABLED => Verdict::NotEnabled {
+                enabled: Step::of(&told.enabled),
+            },
+            number => unknown("verdict", number),
+        })
+    }
+}
+
 /// A page of a space.
 #[derive(Clone, Copy, PartialEq, Eq, PartialOrd, Ord, Hash, Debug)]
 pub struct Place {
@@ -355,6 +393,38 @@ impl Kernel {
     /// call yet.
     pub fn reply(&self, thread: u32) -> Option<Reply> {
         Reply::of(&self.handle.reply_of(thread))
+    }
+
+    /// Watches another kernel: executes a step that the other kernel executed, and compares the other kernel's answer with this kernel's,
+    /// as `l4 judge` does.
+    ///
+    /// `step` is a line of a step list without its newline: a step or a query. `found` has the lines that `l4_steps` prints for it; the last
+    /// one may lack its newline. A line `?` stands for any one line. An answer without lines is not compared, and agrees. This kernel
+    /// executes the step even if the answers differ, so its state follows the definition.
+    ///
+    /// # Errors
+    ///
+    /// In this order: B5 if `step` is not a step or query, and nothing has changed; NoMemory if there is no memory for the comparison: the
+    /// step has been executed.
+    ///
+    /// # Examples
+    ///
+    /// ```
+    /// use l4::{Kernel, Step, Verdict};
+    /// let mut kernel = Kernel::boot(1)?;
+    /// assert_eq!(kernel.judge("start 1 ipc 0x8001 0 0 0 0", "started")?, Verdict::Agrees);
+    /// let expected = Some("started".to_string());
+    /// assert_eq!(
+    ///     kernel.judge("start 2 ipc 0 0xffffffff 0 0", "refused K3")?,
+    ///     Verdict::Differs { place: 0, expected },
+    /// );
+    /// let enabled = Some(Step::Transfer { sender: 1, receiver: 2 });
+    /// assert_eq!(kernel.judge("transfer 2 1", "done")?, Verdict::NotEnabled { enabled });
+    /// # Ok::<(), l4::Refusal>(())
+    /// ```
+    pub fn judge(&mut self, step: &str, found: &str) -> Result<Verdict, Refusal> {
+        let (told, expected) = self.handle.judge(step, found);
+        Verdict::of(&told, expected)
     }
 
     /// Returns the numbers of the threads, by rising number.

@@ -92,7 +92,7 @@ mod tables;
 mod words;
 
 pub use calls::{Call, FpageCount, Ipc, Timeout};
-pub use kernel::{Answer, Done, Entered, Kernel, Mapping, Mappings, Outcome, Place, Step};
+pub use kernel::{Answer, Done, Entered, Kernel, Mapping, Mappings, Outcome, Place, Step, Verdict};
 pub use plans::{NoPlan, Plan, Region};
 pub use protocols::{FrameRequest, PageFault};
 pub use refusals::Refusal;

@@ -12,3 +12,4 @@ pub mod Traced
 pub mod Written
 pub mod Versions
 pub mod Descended
+pub mod Watched

@@ -21,6 +21,7 @@ mod stepping;
 mod texts;
 mod tracing;
 mod versions;
+mod watching;
 
 pub use asking::{l4_mapping_of, l4_next_page, l4_page_size_of, l4_space_of};
 pub use checking::{
@@ -51,3 +52,4 @@ pub use stepping::{l4_enabled, l4_expire, l4_next, l4_start, l4_transfer};
 pub use texts::{l4_refusal_code, l4_refusal_text, l4_reply_text, l4_step_text};
 pub use tracing::{l4_lock_check_provenance, l4_lock_provenance};
 pub use versions::l4_version;
+pub use watching::{JudgeResult, l4_judge};

@@ -8,7 +8,7 @@ use l4_c_values::{NextResult, ReplyResult, reply_line, step_line};
 use l4_refusals::text_of;
 
 /// Writes as much of the text as fits, and a 0 after it. Returns the length of the whole text.
-fn write_text(text: &[u8], out: &mut [u8]) -> usize
+pub(crate) fn write_text(text: &[u8], out: &mut [u8]) -> usize
     ensures length { result ≡ length text.now }
     ensures written { out.new ≡ written text.now out.old }
 {

@@ -15,8 +15,8 @@ pub use links::{
     ChainResult, Link, chain_told, fault_detail, fault_number, link_given, link_told, no_chain,
 };
 pub use numbers::{
-    BAD_FRAMES, EMPTY, HELD, NO_MEMORY, NO_SUCH_CALL, NO_SUCH_SIZE, OTHER_ANSWER, OTHER_CHAIN,
-    kernel_detail, kernel_number, message_detail, message_number,
+    BAD_FRAMES, EMPTY, HELD, NO_MEMORY, NO_SUCH_CALL, NO_SUCH_SIZE, NO_SUCH_STEP, OTHER_ANSWER,
+    OTHER_CHAIN, kernel_detail, kernel_number, message_detail, message_number,
 };
 pub use recorded::{
     EntryResult, ReceiptResult, SeatResult, SeatedResult, entered_told, entry_told, lock_detail,

@@ -21,6 +21,9 @@ pub const NO_SUCH_CALL: u32 = 0x4233;
 /// B4: the page size must be 4,096 or 1,024 bytes.
 pub const NO_SUCH_SIZE: u32 = 0x4234;
 
+/// B5: the line is not a step or query of a step list.
+pub const NO_SUCH_STEP: u32 = 0x4235;
+
 /// K6: the number of frames must be from 1 to 4,096.
 pub const BAD_FRAMES: u32 = 0x4b36;
 

@@ -19,7 +19,7 @@ fn meaning(code: &'static [u8], line: &'static [u8]) -> Text
 }
 
 /// Returns the refusals of the library and of the kernel.
-fn kernel_texts() -> [Text; 9]
+fn kernel_texts() -> [Text; 10]
     ensures { map bytes_of result ≡ kernel_texts }
 {
     [
@@ -33,6 +33,7 @@ fn kernel_texts() -> [Text; 9]
         ),
         meaning(b"B3", b"the kind of call is unknown"),
         meaning(b"B4", b"the page size must be 4,096 or 1,024 bytes"),
+        meaning(b"B5", b"the line is not a step or query of a step list"),
         meaning(
             b"K1",
             b"the step is not enabled: this transfer or expiry cannot happen now",

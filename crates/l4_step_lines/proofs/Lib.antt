@@ -7,3 +7,4 @@ mod Pieces
 mod ReadBack
 mod Stopping
 mod Taking
+mod WatchedLines

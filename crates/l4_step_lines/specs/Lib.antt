@@ -7,3 +7,4 @@ pub mod ReadBack
 pub mod Requests
 pub mod Steps
 pub mod Stops
+pub mod Watching

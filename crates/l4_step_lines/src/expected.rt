@@ -54,6 +54,25 @@ fn line_len(bytes: &[u8]) -> usize
     first_newline(bytes).unwrap_or(bytes.len())
 }
 
+/// The first line of a text, without its newline.
+pub(crate) fn first_line(text: &[u8]) -> &[u8]
+    ensures { result.now ≡ first_line text.now }
+{
+    &text[..line_len(text)]
+}
+
+/// The lines after the first one.
+pub(crate) fn later_lines(text: &[u8]) -> &[u8]
+    ensures { result.now ≡ later_lines text.now }
+{
+    let len = line_len(text);
+    if len < text.len() {
+        &text[len + 1..]
+    } else {
+        &[]
+    }
+}
+
 /// Whether an answer is `?`, which matches any line.
 pub(crate) fn is_unknown(said: &[u8]) -> bool
     ensures { result ≡ is_unknown said.now }
@@ -86,8 +105,7 @@ impl DueLines {
     pub(crate) fn first(&self) -> &[u8]
         ensures { result.now ≡ first_line self.now }
     {
-        let rest = self.rest();
-        &rest[..line_len(rest)]
+        first_line(self.rest())
     }
 
     /// Whether an answer is the first of the lines, or matches any line.

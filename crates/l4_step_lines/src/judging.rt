@@ -1,5 +1,5 @@
 //! Step lists with another kernel's answers.
-ghost use Rattle.std.specs.Prelude.{◌≡◌, ◌<◌, ◌+◌, ◌^◌, ◌∷◌, [], ◌++◌, codes, decimal, option_map, IfSome, if◌then◌else◌, ◌||◌, not};
+ghost use Rattle.std.specs.Prelude.{ℕ, List, ◌≡◌, ◌<◌, ◌+◌, ◌^◌, ◌∷◌, [], ◌++◌, codes, decimal, option_map, IfSome, if◌then◌else◌, ◌||◌, not};
 ghost use Rattle.std.specs.Option.{option_copied};
 ghost use Rattle.l4_step_lines.specs.Lists.{Answers};
 ghost use Rattle.l4_text.specs.Streams.{Tells};
@@ -211,7 +211,7 @@ fn put_short<W: Write>(expected: Option<&Expected>, out: &mut Output, writer: &m
 }
 
 /// A copy of a line. None if there is not enough memory.
-fn copied(alloc: Global, line: &[u8]) -> Option<Vec<u8>>
+pub(crate) fn copied(alloc: Global, line: &[u8]) -> Option<Vec<u8>>
     ensures { IfSome result (λ v. v.items ≡ line.now) }
 {
     let mut copy = Vec::new(alloc);
@@ -221,9 +221,10 @@ fn copied(alloc: Global, line: &[u8]) -> Option<Vec<u8>>
     }
 }
 
-/// The text of the answer to a request. None if there is not enough memory.
-fn answered(alloc: Global, kernel: &mut Kernel, request: Request) -> Option<Vec<u8>>
-    ensures { IfSome result (λ text. Answers kernel.old request text.items kernel.new) }
+/// Executes a request. Returns the text of the answer, or None if there is not enough memory for it.
+pub(crate) fn answered(alloc: Global, kernel: &mut Kernel, request: Request) -> Option<Vec<u8>>
+    ensures value { IfSome result (λ text. Answers kernel.old request text.items kernel.new) }
+    ensures done { (text : List ℕ) × Answers kernel.old request text kernel.new }
 {
     let mut text = Vec::new(alloc);
     let mut out = Output::new();

@@ -1,0 +1,19 @@
+use Rattle.std.proofs.Common.{◌≡◌, ℕ, ◌+◌, ◌≤◌, true, false, List, length, sym, ap, ◌∙◌, arith}
+use Rattle.l4_step_lines.specs.Judging.{first_line, later_lines, has_said}
+use Rattle.l4_step_lines.proofs.WatchedLines.{is_some_text, differs_start, differs_here, rest_next}
+use Rattle.l4_step_lines.proofs.watching.first_difference.Goals as goal
+
+pub loop-place-init : goal.loop-place-init
+loop-place-init c = (omega arith, differs_start c.args.due.now c.args.answer.now (is_some_text c.args.answer.now (sym c.is_empty.ensures ∙ c.if-is_empty.false)))
+
+pub returns-then-not-has_said : goal.returns-then-not-has_said
+returns-then-not-has_said c =
+    let other : has_said c.loop-place.due (first_line c.loop-place.rest.now) ≡ false = ap (has_said c.loop-place.due) (sym c.first_line.ensures) ∙ sym c.has_said.ensures ∙ c.if-not-has_said.true in
+    c.loop-place.invariant.1
+    ∙ differs_here c.loop-place.place c.loop-place.due c.loop-place.rest.now (is_some_text c.loop-place.rest.now (sym c.is_empty-in-loop-place.ensures ∙ c.if-is_empty-2.false)) other
+
+pub loop-place-preserved : goal.loop-place-preserved
+loop-place-preserved c =
+    let same : has_said c.loop-place.due (first_line c.loop-place.rest.now) ≡ true = ap (has_said c.loop-place.due) (sym c.first_line.ensures) ∙ sym c.has_said.ensures ∙ c.if-not-has_said.false in
+    rest_next c.loop-place.place (length c.args.answer.now) c.loop-place.due c.loop-place.rest.now c.go_on.new.self c.later_lines-rest.result.now _
+    (is_some_text c.loop-place.rest.now (sym c.is_empty-in-loop-place.ensures ∙ c.if-is_empty-2.false)) same c.go_on.ensures c.later_lines-rest.ensures c.loop-place.invariant
