@@ -8,7 +8,8 @@ use Rattle.l4_fpage.specs.Rights.{RightsSet}
 use Rattle.std.specs.Str.{bytes_eq}
 use Rattle.l4_text.specs.Numbers.{number_of, decimal_of, hex_of, below}
 use Rattle.l4_text.specs.Tokens.{tokens_of, FirstNumber}
-use Rattle.l4_shell.specs.Commands.{◌>>=◌, first_by, no_more, thread_of, nil_or_thread_of, partner_of, last_rights_of, receive_asked, send_asked, ipc_asked, fault_asked, rights_of, command_of}
+use Rattle.l4_text.specs.Grammar.{◌>>=◌}
+use Rattle.l4_shell.specs.Commands.{first_by, no_more, thread_of, nil_or_thread_of, partner_of, last_rights_of, receive_asked, send_asked, ipc_asked, fault_asked, rights_of, command_of}
 use Rattle.l4_shell.specs.declared.partners.Partner.TheVariants.{Nil, Any, Thread}
 use Rattle.l4_shell.specs.declared.commands.ScriptFault.TheVariants.{BadTokens}
 

@@ -4,7 +4,9 @@ use Rattle.std.proofs.lemmas.List.{append-nil}
 use Rattle.std.proofs.lemmas.Bool.Decides.{nat_tests}
 use Rattle.std.specs.Option.{option_and_then}
 use Rattle.l4_text.specs.Numbers.{number_of}
-use Rattle.l4_shell.specs.Commands.{numbers_of, words_of}
+use Rattle.l4_text.specs.Grammar.{numbers_of}
+use Rattle.l4_text.proofs.Grammar.{no_numbers}
+use Rattle.l4_shell.specs.Commands.{words_of}
 
 -- few enough words, and no token left
 pub words_whole : (line rest : List (List ℕ)) (ws : List ℕ) → numbers_of line ≡ option_map (λ ns. ws ++ ns) (numbers_of rest) → rest ≡ [] → length line ≤ 64
@@ -20,9 +22,6 @@ unfolding words_of
 words_many line many =
     let f : nat_le (length line) 64 ≡ false = grind (arith, nat_tests) in
     ap (λ b. cond b (numbers_of line) None) (sym f)
-
-no_numbers : (token : List ℕ) (tokens : List (List ℕ)) → number_of token ≡ None → numbers_of (token ∷ tokens) ≡ None
-no_numbers token tokens none = ap (λ o. option_and_then (λ n. option_and_then (λ ns. Some (n ∷ ns)) (numbers_of tokens)) o) none
 
 -- a token that is no number
 pub words_bad : (line rest : List (List ℕ)) (ws : List ℕ) (token : List ℕ) (tokens : List (List ℕ)) → numbers_of line ≡ option_map (λ ns. ws ++ ns) (numbers_of rest)

@@ -12,8 +12,8 @@ use Rattle.l4_fpage.specs.declared.sizes.PageSize.{PageSize}
 use Rattle.l4_ipc.specs.Machine.{IsBoot}
 use Rattle.l4_record.specs.declared.entries.Entry.{Entry}
 use Rattle.l4_servers.specs.Servers.{Servers, no_servers}
-use Rattle.l4_text.specs.Lines.{NoNewline, kept_of, TakesLine, TakesRest, GivesLine, left_of}
-use Rattle.l4_shell.specs.Lines.{ScriptLine, in_front, lines_of}
+use Rattle.l4_text.specs.Grammar.{TextLine, lines_of}
+use Rattle.l4_text.specs.Lines.{kept_of, TakesLine, TakesRest, GivesLine, left_of}
 use Rattle.l4_shell.specs.Commands.{Command}
 use Rattle.l4_shell.specs.Requests.{Unread, asked_at, asked_of}
 use Rattle.l4_answers.specs.Reports.{Report, AddsAll, Keeps, AllOut}
@@ -27,47 +27,24 @@ use Rattle.l4_text.specs.declared.lines.Ending.TheVariants.{Whole, Long, Cut}
 use Rattle.l4_text.specs.contracts.lines.Ending.{the_type}
 use Rattle.l4_text.specs.declared.faults.RunFault.{RunFault}
 use Rattle.l4_text.specs.declared.faults.RunFault.TheVariants.{Read, Write, Memory}
+use Rattle.l4_text.proofs.Grammar.{lines_more, cut_line, none_whole}
 use Rattle.l4_text.proofs.LineSteps.{consumes_more, consumes_same, empty_list}
 use Rattle.l4_answers.proofs.Adding.{adds_none, adds_more, adds_kept}
 use Rattle.l4_shell.proofs.OneAnswer.{one_answer}
 
--- LINES OF BYTES
-
--- a line that a newline ends comes before the lines of the rest
-lines_more : (bytes rest : List ℕ) → NoNewline bytes → lines_of (bytes ++ (10 ∷ rest)) ≡ record { bytes = bytes; whole = true } ∷ lines_of rest
-lines_more [] rest h = refl
-lines_more (b ∷ bytes) rest h =
-    ap (λ v. cond v (record { bytes = []; whole = true } ∷ lines_of (bytes ++ (10 ∷ rest))) (in_front b (lines_of (bytes ++ (10 ∷ rest))))) h.0
-    ∙ ap (in_front b) (lines_more bytes rest h.1)
-
--- bytes without a newline are one line
-one_line : (bytes : List ℕ) → NoNewline bytes → (b : ℕ) → (b == 10) ≡ false → lines_of (b ∷ bytes) ≡ record { bytes = b ∷ bytes; whole = false } ∷ []
-one_line [] h b e = ap (λ v. cond v (record { bytes = []; whole = true } ∷ []) (in_front b [])) e
-one_line (c ∷ bytes) h b e =
-    ap (λ v. cond v (record { bytes = []; whole = true } ∷ lines_of (c ∷ bytes)) (in_front b (lines_of (c ∷ bytes)))) e
-    ∙ ap (in_front b) (one_line bytes h.1 c h.0)
-
--- the one line of some bytes without a newline
-cut_line : (bytes : List ℕ) → NoNewline bytes → 0 < length bytes → lines_of bytes ≡ record { bytes = bytes; whole = false } ∷ []
-cut_line [] h some = absurd (omega arith)
-cut_line (b ∷ bytes) h some = one_line bytes h.1 b h.0
-
--- of bytes without a newline no line is whole
-none_whole : (bytes : List ℕ) → NoNewline bytes → filter (λ line. line.whole) (lines_of bytes) ≡ []
-none_whole [] h = refl
-none_whole (b ∷ bytes) h = ap (λ lines. filter (λ (line : ScriptLine). line.whole) lines) (one_line bytes h.1 b h.0)
+-- LINES
 
 -- whole lines, and others of which none is
-whole_front : (lines more : List ScriptLine) → All (λ line. line.whole ≡ true) lines → filter (λ line. line.whole) more ≡ [] → lines ≡ filter (λ line. line.whole) (lines ++ more)
+whole_front : (lines more : List TextLine) → All (λ line. line.whole ≡ true) lines → filter (λ line. line.whole) more ≡ [] → lines ≡ filter (λ line. line.whole) (lines ++ more)
 whole_front [] more h none = sym none
 whole_front (line ∷ lines) more h none =
-    ap (λ ls. line ∷ ls) (whole_front lines more (All-tail (λ (l : ScriptLine). l.whole ≡ true) line lines h) none)
-    ∙ sym (ap (λ v. cond v (line ∷ filter (λ (l : ScriptLine). l.whole) (lines ++ more)) (filter (λ (l : ScriptLine). l.whole) (lines ++ more))) (All-head (λ (l : ScriptLine). l.whole ≡ true) line lines h))
+    ap (λ ls. line ∷ ls) (whole_front lines more (All-tail (λ (l : TextLine). l.whole ≡ true) line lines h) none)
+    ∙ sym (ap (λ v. cond v (line ∷ filter (λ (l : TextLine). l.whole) (lines ++ more)) (filter (λ (l : TextLine). l.whole) (lines ++ more))) (All-head (λ (l : TextLine). l.whole ≡ true) line lines h))
 
 -- ANSWERS
 
 -- the answer to one line more
-answers_more : (old between new : Session) (number : ℕ) (lines : List ScriptLine) (told : List Report) (line : ScriptLine) (last : List Report) → AnswersLines old number lines told between
+answers_more : (old between new : Session) (number : ℕ) (lines : List TextLine) (told : List Report) (line : TextLine) (last : List Report) → AnswersLines old number lines told between
     → AnswersLine between (number + length lines) (asked_of line) last new → AnswersLines old number (lines ++ line ∷ []) (told ++ last) new
 answers_more old between new number [] told line last are is = (
   last,
@@ -107,7 +84,7 @@ pub record Answered {T : Type 0} (has_told : T → T → List Report → Type 0)
   pub done : List ℕ
   pub from : Consumes old new read
   pub same : read ≡ done ++ now.0
-  pub lines : List ScriptLine
+  pub lines : List TextLine
   pub front : (more : List ℕ) → lines_of (done ++ more) ≡ lines ++ lines_of more
   pub number_is : number ≡ 1 + length lines
   pub whole : All (λ line. line.whole ≡ true) lines
@@ -137,7 +114,7 @@ answered_none has_told closed m a now s is = record {
 }
 
 -- the line of this number was answered while the sink was open
-opened_before : {T : Type 0} (has_told : T → T → List Report → Type 0) (closed : T → Bool) (old next last : Session) (lines : List ScriptLine) (line : ScriptLine) (number : ℕ) (asked : Result (Option Command) Unread) (before s : T) (earlier told : List Report)
+opened_before : {T : Type 0} (has_told : T → T → List Report → Type 0) (closed : T → Bool) (old next last : Session) (lines : List TextLine) (line : TextLine) (number : ℕ) (asked : Result (Option Command) Unread) (before s : T) (earlier told : List Report)
     → number ≡ 1 + length lines → AnswersLine last number asked told next → AddsAll has_told before s earlier → closed s ≡ false
     → WasOpen has_told closed before (length (lines ++ line ∷ [])) (earlier ++ told)
 opened_before has_told closed old next last lines line number asked before s earlier told number_is is adds opened =
@@ -152,7 +129,7 @@ answered_more : {T : Type 0} (has_told : T → T → List Report → Type 0) (cl
     → (told : List Report) × AnswersLine last number (asked_at ending kept.0) told next × AddsAll has_told s t told
     → Answered has_told closed m old new after (number + 1) next before t
 answered_more has_told closed m last next old mid new now after kept number before s t ending opened a l asks is =
-    let line : ScriptLine = record { bytes = l.bytes; whole = true } in
+    let line : TextLine = record { bytes = l.bytes; whole = true } in
     record {
       read = a.read ++ l.takes.read;
       done = a.done ++ (l.bytes ++ (10 ∷ []));
@@ -163,7 +140,7 @@ answered_more has_told closed m last next old mid new now after kept number befo
           ap lines_of (append_assoc a.done (l.bytes ++ (10 ∷ [])) more ∙ ap (λ x. a.done ++ x) (append_assoc l.bytes (10 ∷ []) more))
           ∙ a.front (l.bytes ++ (10 ∷ more)) ∙ ap (λ x. a.lines ++ x) (lines_more l.bytes more l.plain) ∙ sym (append_assoc a.lines (line ∷ []) (lines_of more));
       number_is = omega (arith, a.number_is, length-append a.lines (line ∷ []));
-      whole = All-push (λ (l : ScriptLine). l.whole ≡ true) a.lines line a.whole refl;
+      whole = All-push (λ (l : TextLine). l.whole ≡ true) a.lines line a.whole refl;
       told = a.told ++ is.0;
       answers = answers_more m last next 1 a.lines a.told line is.0 a.answers
           (subst (λ (n : ℕ). AnswersLine last n (asked_of line) is.0 next) a.number_is (subst (λ (q : Result _ _). AnswersLine last number q is.0 next) asks is.1));
@@ -245,7 +222,7 @@ answered_read has_told closed m last old mid new now after kept number before s 
         was_open = a.was_open;
         adds = a.adds;
       };
-      whole = whole_front a.lines (lines_of l.bytes) a.whole (none_whole l.bytes l.plain) ∙ sym (ap (λ lines. filter (λ (line : ScriptLine). line.whole) lines) parts);
+      whole = whole_front a.lines (lines_of l.bytes) a.whole (none_whole l.bytes l.plain) ∙ sym (ap (λ lines. filter (λ (line : TextLine). line.whole) lines) parts);
     }
 
 -- where nothing is kept of a line there is nothing of it
@@ -302,7 +279,7 @@ after_line has_told closed Cut m last next old mid new now after kept number bef
     let g = subst (λ (o : Option Ending). GivesLine mid new now after kept (Ok o)) is gives in
     let l = g.0 in
     let some : 0 < length (take 4096 l.bytes) = omega (arith, g.2, ap (λ k. length k.0) l.kept_is) in
-    let line : ScriptLine = record { bytes = l.bytes; whole = false } in
+    let line : TextLine = record { bytes = l.bytes; whole = false } in
     let parts = same_rest has_told closed m last old mid new now after kept number before s a l in
     let all : lines_of (a.read ++ l.takes.read) ≡ a.lines ++ line ∷ [] = parts ∙ ap (λ x. a.lines ++ x) (cut_line l.bytes l.plain (something_kept l.bytes some)) in
     record {

@@ -23,7 +23,7 @@ use Rattle.l4_shell.specs.Commands.{Command}
 use Rattle.l4_shell.specs.declared.requests.Request.{Request}
 use Rattle.l4_shell.specs.declared.requests.Request.TheVariants.{Enter, CreateThread, EndThread, SendPlan, ListPages, TellParent, AddRegion, ServeThread, TellSteps}
 use Rattle.l4_answers.specs.Reports.{Report}
-use Rattle.l4_shell.specs.Lines.{ScriptLine}
+use Rattle.l4_text.specs.Grammar.{TextLine}
 use Rattle.l4_shell.specs.Requests.{Unread, request_of, asked_of, root, delete_call}
 use Rattle.l4_record.specs.Seated.{with_number}
 use Rattle.l4_shell.specs.Sessions.{Session, first_session, call_entries, gone_on, Act, act_entries, IsAct, AreActs, StopsActing, Follows, Enters, RegionAdded, RegionRefused, CarriesOut, AnswersLine, AnswersLines}
@@ -171,7 +171,7 @@ line_size size old line (Ok None) told new a h = same_size size old new a.1 h
 line_size size old line (Ok (Some command)) told new a h = carries_size size old line (request_of command) told new a h
 line_size size old line (Err unread) told new a h = same_size size old new a.1 h
 
-pub lines_sized : (size : PageSize) (old : Session) (number : ℕ) (lines : List ScriptLine) (told : List Report) (new : Session) → AnswersLines old number lines told new → HasSize size old → HasSize size new
+pub lines_sized : (size : PageSize) (old : Session) (number : ℕ) (lines : List TextLine) (told : List Report) (new : Session) → AnswersLines old number lines told new → HasSize size old → HasSize size new
 lines_sized size old number [] told new a h = same_size size old new a.1 h
 lines_sized size old number (line ∷ lines) told new a h =
     lines_sized size a.2 (number + 1) lines a.1 new a.4 (line_size size old number (asked_of line) a.0 a.2 a.3 h)

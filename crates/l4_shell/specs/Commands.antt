@@ -1,5 +1,5 @@
 -- The commands of a script, from the tokens of a line (this profile's own).
-use Rattle.std.specs.Prelude.{ℕ, ◌==◌, Bool, true, false, List, [], ◌∷◌, length, nat_le, slice_index, Option, Some, None, Result, Err, option_and_then, ok_or, if◌then◌else◌, codes}
+use Rattle.std.specs.Prelude.{ℕ, ◌==◌, Bool, true, false, List, [], ◌∷◌, length, nat_le, slice_index, Option, Some, None, Result, Err, ok_or, if◌then◌else◌, codes}
 use Rattle.std.specs.Str.{bytes_eq}
 use Rattle.l4_fpage.specs.Rights.{RightsSet}
 use Rattle.l4_msg.specs.Sizes.{max_words}
@@ -13,6 +13,7 @@ use Rattle.l4_shell.specs.declared.partners.NewSpace.{NewSpace}
 use Rattle.l4_shell.specs.declared.partners.NewSpace.TheVariants.{New, Of}
 use Rattle.l4_shell.specs.declared.commands.ScriptFault.{ScriptFault}
 use Rattle.l4_shell.specs.declared.commands.ScriptFault.TheVariants.{UnknownCommand, BadTokens}
+use Rattle.l4_text.specs.Grammar.{◌>>=◌, numbers_of}
 use Rattle.l4_text.specs.Numbers.{below, number_of}
 
 -- A command. Threads are named by their numbers, below 2^18; the first of the words is the tag.
@@ -48,10 +49,6 @@ pub data Command : Type 0 where
   -- how many entries the history has
   Steps : Command
 
-infixl 10 ◌>>=◌
-abbrev pub ◌>>=◌ : {A B : Type 0} → Option A → (A → Option B) → Option B
-o >>= f = option_and_then f o
-
 -- whether a token is this word
 abbrev pub is_word : List ℕ → List ℕ → Bool
 is_word word token = bytes_eq token word
@@ -83,11 +80,6 @@ rights_of token = if length token == 3 then (do
   w ← right_of 119 (slice_index token 1)
   x ← right_of 120 (slice_index token 2)
   Some (record { r = r; w = w; x = x })) else None
-
--- the numbers that the tokens spell, if each of them spells one
-abbrev pub numbers_of : List (List ℕ) → Option (List ℕ)
-numbers_of [] = Some []
-numbers_of (token ∷ tokens) = number_of token >>= λ n. numbers_of tokens >>= λ ns. Some (n ∷ ns)
 
 -- the numbers of words, at most as many as there are message registers
 unfoldable pub words_of : List (List ℕ) → Option (List ℕ)

@@ -2,7 +2,6 @@ pub mod Commands
 pub mod Delegations
 pub mod Histories
 pub mod Kinds
-pub mod Lines
 pub mod Refusals
 pub mod Requests
 pub mod Scripts

@@ -1,5 +1,5 @@
 -- The request of a line, and the call that it enters (this profile's own).
-use Rattle.std.specs.Prelude.{ℕ, ◌+◌, ◌*◌, ◌%◌, ◌==◌, ◌||◌, nat_lt, Bool, true, false, List, [], ◌∷◌, length, Option, Some, None, Result, Ok, Err, if◌then◌else◌}
+use Rattle.std.specs.Prelude.{ℕ, ◌+◌, ◌*◌, ◌%◌, List, [], Option, Some, None, Result, Ok, Err, if◌then◌else◌}
 use Rattle.l4_threads.specs.declared.ThreadId.{ThreadId}
 use Rattle.l4_threads.specs.Threads.{nilthread, anythread}
 use Rattle.l4_threads.specs.Sizes.{versions, word_values}
@@ -15,10 +15,9 @@ use Rattle.l4_shell.specs.declared.requests.Request.{Request}
 use Rattle.l4_shell.specs.declared.requests.Request.TheVariants.{Enter, CreateThread, EndThread, SendPlan, ListPages, TellParent, AddRegion, ServeThread, TellSteps}
 use Rattle.l4_shell.specs.declared.commands.ScriptFault.{ScriptFault}
 use Rattle.l4_shell.specs.declared.commands.ScriptFault.TheVariants.{LineTooLong, CutLine}
-use Rattle.l4_text.specs.Sizes.{line_bytes}
 use Rattle.l4_text.specs.declared.lines.Ending.{Ending}
 use Rattle.l4_text.specs.declared.lines.Ending.TheVariants.{Whole, Long, Cut}
-use Rattle.l4_shell.specs.Lines.{ScriptLine}
+use Rattle.l4_text.specs.Grammar.{TextLine, ending_of, is_silent}
 use Rattle.l4_text.specs.Tokens.{tokens_of}
 use Rattle.l4_shell.specs.Commands.{Command, Thread, SetPager, Delete, Receive, Send, Ipc, Fault, Delegate, Part, Unmap, Show, Parent, Region, Serve, Steps, command_of}
 
@@ -92,23 +91,6 @@ request_of Steps = TellSteps
 
 -- THE REQUEST OF A LINE
 
--- how a line ends
-abbrev pub ending_of : ScriptLine → Ending
-ending_of line = if line.whole then (if nat_lt line_bytes (length line.bytes) then Long else Whole) else Cut
-
--- the first byte is #
-abbrev pub is_comment : List ℕ → Bool
-is_comment [] = false
-is_comment (byte ∷ bytes) = byte == 35
-
-abbrev pub is_empty : List (List ℕ) → Bool
-is_empty [] = true
-is_empty (token ∷ tokens) = false
-
--- a comment, or a line without tokens; it gets no answer
-abbrev pub is_silent : List ℕ → Bool
-is_silent bytes = is_comment bytes || is_empty (tokens_of bytes)
-
 -- why a line can't be read, and its bytes; none of a line that is cut or too long
 pub record Unread : Type 0 where
   pub fault : ScriptFault
@@ -125,5 +107,5 @@ asked_at Cut bytes = Err (record { fault = CutLine; bytes = [] })
 asked_at Long bytes = Err (record { fault = LineTooLong; bytes = [] })
 asked_at Whole bytes = if is_silent bytes then Ok None else some_command bytes (command_of (tokens_of bytes))
 
-abbrev pub asked_of : ScriptLine → Result (Option Command) Unread
+abbrev pub asked_of : TextLine → Result (Option Command) Unread
 asked_of line = asked_at (ending_of line) line.bytes

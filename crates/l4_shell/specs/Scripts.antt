@@ -4,7 +4,7 @@ use Rattle.std.specs.List.{All}
 use Rattle.std.specs.Io.KnownBytes.{Consumes, IsAtEnd}
 use Rattle.l4_fpage.specs.declared.sizes.PageSize.{PageSize}
 use Rattle.l4_answers.specs.Reports.{Report, IsRefusalOf, has_refusal, AddsAll}
-use Rattle.l4_shell.specs.Lines.{ScriptLine, lines_of}
+use Rattle.l4_text.specs.Grammar.{TextLine, lines_of}
 use Rattle.l4_shell.specs.Sessions.{IsAnswered}
 use Rattle.l4_text.specs.declared.faults.RunFault.{RunFault}
 use Rattle.l4_text.specs.declared.faults.RunFault.TheVariants.{Read, Write, Memory}
@@ -28,8 +28,8 @@ pub record WasOpen {T : Type 0} (has_told : T → T → List Report → Type 0) 
 pub record AnswersFirst {T : Type 0} (frames : ℕ) (size : PageSize) (old new : Option (List ℕ)) (has_told : T → T → List Report → Type 0) (closed : T → Bool) (sink : T) : Type 0 where
   pub read : List ℕ
   pub from : Consumes old new read
-  pub lines : List ScriptLine
-  pub later : List ScriptLine
+  pub lines : List TextLine
+  pub later : List TextLine
   pub parts : lines_of read ≡ lines ++ later
   pub sure : All (λ line. line.whole ≡ true) lines ⊎ IsAtEnd new
   pub told : List Report

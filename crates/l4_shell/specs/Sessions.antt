@@ -27,7 +27,7 @@ use Rattle.l4_shell.specs.declared.requests.Request.TheVariants.{Enter, CreateTh
 use Rattle.l4_answers.specs.Reports.{Report, RefusedLine, UnreadLine, RefusedAct, Transferred, TimedOut, Waits, Ended, Page, Shown, Parent, AddedRegion, StepCount, AddsAll}
 use Rattle.l4_answers.specs.Refusals.{kernel_refusal}
 use Rattle.l4_shell.specs.Refusals.{script_refusal, plan_refusal, lacks_memory, call_refusal, region_refusal}
-use Rattle.l4_shell.specs.Lines.{ScriptLine}
+use Rattle.l4_text.specs.Grammar.{TextLine}
 use Rattle.l4_shell.specs.Requests.{Unread, request_of, asked_of, root, send_call, delete_call}
 use Rattle.l4_shell.specs.Delegations.{ArePlanWords, HasNoPlan}
 use Rattle.l4_shell.specs.declared.delegations.Which.{Which}
@@ -328,14 +328,14 @@ AnswersLine old line (Ok (Some command)) told new = CarriesOut old line (request
 AnswersLine old line (Err unread) told new = (told ≡ UnreadLine line (script_refusal unread.fault) unread.bytes ∷ []) × (new ≡ old)
 
 -- the reports of lines, one after another, of which the first has this number
-abbrev pub AnswersLines : Session → ℕ → List ScriptLine → List Report → Session → Type 0
+abbrev pub AnswersLines : Session → ℕ → List TextLine → List Report → Session → Type 0
 AnswersLines old number [] told new = (told ≡ []) × (new ≡ old)
 AnswersLines old number (line ∷ lines) told new =
     (first : List Report) × (rest : List Report) × (between : Session) × AnswersLine old number (asked_of line) first between
     × AnswersLines between (number + 1) lines rest new × (told ≡ first ++ rest)
 
 -- THE ANSWERS TO A SCRIPT'S LINES, over a machine at boot with this number of frames of this size, and without servers
-pub record IsAnswered (frames : ℕ) (size : PageSize) (lines : List ScriptLine) (told : List Report) : Type 0 where
+pub record IsAnswered (frames : ℕ) (size : PageSize) (lines : List TextLine) (told : List Report) : Type 0 where
   pub boot : Machine
   pub boots : IsBoot frames boot
   pub sized : boot.size ≡ size

@@ -6,7 +6,8 @@ ghost use Rattle.l4_text.specs.declared.lines.Ending.TheVariants.{Whole};
 ghost use Rattle.l4_shell.specs.declared.commands.ScriptFault.TheVariants.{BadTokens};
 ghost use Rattle.l4_shell.specs.declared.requests.Request.TheVariants.{Enter};
 ghost use Rattle.l4_shell.specs.Commands.{Command, receive_asked, send_asked, ipc_asked, fault_asked, command_of};
-ghost use Rattle.l4_shell.specs.Requests.{is_comment, some_command, asked_at, request_of};
+ghost use Rattle.l4_text.specs.Grammar.{is_comment};
+ghost use Rattle.l4_shell.specs.Requests.{some_command, asked_at, request_of};
 ghost use Rattle.l4_shell.specs.Sessions.{session, AnswersLine};
 
 use crate::commands::{

@@ -4,7 +4,7 @@ use Rattle.std.specs.List.{All}
 use Rattle.std.specs.Io.KnownBytes.{Consumes, Appends, IsAtEnd}
 use Rattle.l4_fpage.specs.declared.sizes.PageSize.{PageSize}
 use Rattle.l4_answers.specs.Reports.{Report, IsRefusalOf, has_refusal}
-use Rattle.l4_shell.specs.Lines.{ScriptLine, lines_of}
+use Rattle.l4_text.specs.Grammar.{TextLine, lines_of}
 use Rattle.l4_shell.specs.Sessions.{IsAnswered}
 use Rattle.l4_sinks.specs.declared.scripts.Ended.{Ended}
 use Rattle.l4_sinks.specs.Texts.{AreAnswerTexts, last_refusal}
@@ -21,8 +21,8 @@ StopsAtRefusal count told =
 pub record AnswersFirst (frames : ℕ) (size : PageSize) (strict : Bool) (old new : Option (List ℕ)) : Type 0 where
   pub read : List ℕ
   pub from : Consumes old new read
-  pub lines : List ScriptLine
-  pub later : List ScriptLine
+  pub lines : List TextLine
+  pub later : List TextLine
   pub parts : lines_of read ≡ lines ++ later
   pub sure : All (λ line. line.whole ≡ true) lines ⊎ IsAtEnd new
   pub told : List Report

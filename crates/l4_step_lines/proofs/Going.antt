@@ -6,49 +6,24 @@ use Rattle.std.proofs.lemmas.Bool.Decides.{nat_tests}
 use mathlib.Core.List.{append_assoc}
 use Rattle.l4_fpage.specs.declared.sizes.PageSize.{PageSize}
 use Rattle.l4_ipc.specs.Machine.{Machine, IsBoot}
-use Rattle.l4_text.specs.Lines.{NoNewline, kept_of, TakesLine, TakesRest, GivesLine, left_of}
+use Rattle.l4_text.specs.Grammar.{TextLine, lines_of, is_silent}
+use Rattle.l4_text.specs.Lines.{kept_of, TakesLine, TakesRest, GivesLine, left_of}
 use Rattle.l4_text.specs.Streams.{WentOut, HasTold, Tells}
 use Rattle.l4_text.specs.Tokens.{tokens_of}
 use Rattle.l4_text.specs.declared.lines.Ending.{Ending}
 use Rattle.l4_text.specs.declared.lines.Ending.TheVariants.{Whole, Long as TooLong, Cut as IsCut}
 use Rattle.l4_text.specs.declared.faults.RunFault.{RunFault}
 use Rattle.l4_text.specs.declared.faults.RunFault.TheVariants.{Read, Write, Memory}
+use Rattle.l4_text.proofs.Grammar.{lines_more, cut_line, none_whole}
 use Rattle.l4_text.proofs.LineSteps.{consumes_more, consumes_same, empty_list}
 use Rattle.l4_text.proofs.Telling.{nothing_told, tells_none, tells_more, tells_is}
 use Rattle.l4_step_lines.specs.declared.requests.Request.{Request}
 use Rattle.l4_step_lines.specs.declared.running.Fault.{Fault}
 use Rattle.l4_step_lines.specs.declared.running.Fault.TheVariants.{Stopped, Cut, Long, Unread}
-use Rattle.l4_step_lines.specs.Lines.{TextLine, in_front, lines_of}
 use Rattle.l4_step_lines.specs.Requests.{request_of}
 use Rattle.l4_step_lines.specs.Stops.{unread_says}
-use Rattle.l4_step_lines.specs.Lists.{is_comment, is_empty, asked_at, asked_of, AnswersAsked, AnswersLines, Reads, EndsWith, Runs}
+use Rattle.l4_step_lines.specs.Lists.{asked_at, asked_of, AnswersAsked, AnswersLines, Reads, EndsWith, Runs}
 use Rattle.l4_step_lines.specs.Inside.Telling.{TellsLine, TellsFirst, TellsList}
-
--- LINES OF BYTES
-
--- a line that a newline ends comes before the lines of the rest
-pub lines_more : (bytes rest : List ℕ) → NoNewline bytes → lines_of (bytes ++ (10 ∷ rest)) ≡ record { bytes = bytes; whole = true } ∷ lines_of rest
-lines_more [] rest h = refl
-lines_more (b ∷ bytes) rest h =
-    ap (λ v. cond v (record { bytes = []; whole = true } ∷ lines_of (bytes ++ (10 ∷ rest))) (in_front b (lines_of (bytes ++ (10 ∷ rest))))) h.0
-    ∙ ap (in_front b) (lines_more bytes rest h.1)
-
--- bytes without a newline are one line
-one_line : (bytes : List ℕ) → NoNewline bytes → (b : ℕ) → (b == 10) ≡ false → lines_of (b ∷ bytes) ≡ record { bytes = b ∷ bytes; whole = false } ∷ []
-one_line [] h b e = ap (λ v. cond v (record { bytes = []; whole = true } ∷ []) (in_front b [])) e
-one_line (c ∷ bytes) h b e =
-    ap (λ v. cond v (record { bytes = []; whole = true } ∷ lines_of (c ∷ bytes)) (in_front b (lines_of (c ∷ bytes)))) e
-    ∙ ap (in_front b) (one_line bytes h.1 c h.0)
-
--- the one line of some bytes without a newline
-pub cut_line : (bytes : List ℕ) → NoNewline bytes → 0 < length bytes → lines_of bytes ≡ record { bytes = bytes; whole = false } ∷ []
-cut_line [] h some = absurd (omega arith)
-cut_line (b ∷ bytes) h some = one_line bytes h.1 b h.0
-
--- of bytes without a newline no line is whole
-pub none_whole : (bytes : List ℕ) → NoNewline bytes → filter (λ line. line.whole) (lines_of bytes) ≡ []
-none_whole [] h = refl
-none_whole (b ∷ bytes) h = ap (λ lines. filter (λ (line : TextLine). line.whole) lines) (one_line bytes h.1 b h.0)
 
 -- ANSWERS
 
@@ -240,7 +215,7 @@ names_at : (number : ℕ) (ending : Ending) (bytes : List ℕ) → Names (asked_
 names_at number IsCut bytes = tt
 names_at number TooLong bytes = tt
 names_at number Whole bytes =
-    elim (is_comment bytes || is_empty (tokens_of bytes)) as (λ b. Names (cond b (Ok None) (ok_or (option_map Some (request_of (tokens_of bytes))) (Unread number (unread_says number (tokens_of bytes)))))) [
+    elim (is_silent bytes) as (λ b. Names (cond b (Ok None) (ok_or (option_map Some (request_of (tokens_of bytes))) (Unread number (unread_says number (tokens_of bytes)))))) [
       | true ↦ tt
       | false ↦ elim (request_of (tokens_of bytes)) as (λ o. Names (ok_or (option_map Some o) (Unread number (unread_says number (tokens_of bytes))))) [ None ↦ tt | Some request ↦ tt ]
     ]

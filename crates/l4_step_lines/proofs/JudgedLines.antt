@@ -21,11 +21,12 @@ use Rattle.l4_step_lines.specs.declared.requests.Request.{Request}
 use Rattle.l4_step_lines.specs.declared.requests.Request.TheVariants.{Do, Enabled, Reply, Space, Pages}
 use Rattle.l4_step_lines.specs.declared.running.Fault.{Fault}
 use Rattle.l4_step_lines.specs.declared.running.Fault.TheVariants.{Stopped, Cut, Long, Unread}
-use Rattle.l4_step_lines.specs.Lines.{TextLine, lines_of}
-use Rattle.l4_step_lines.specs.Lists.{asked_at, ending_of}
+use Rattle.l4_text.specs.Grammar.{TextLine, lines_of, ending_of}
+use Rattle.l4_step_lines.specs.Lists.{asked_at}
 use Rattle.l4_step_lines.specs.Judging.{said_in, has_said, is_unknown, lacks, lack_of, after_answer, difference, with_answer, IsExpected, answer_count, step_count, is_short, short_text, verdict, stops, JudgesAnswer, JudgesAsked, JudgesSaid, JudgesAt, JudgesLines, IsStart, JudgesFirst, EndsAt, EndsJudging, Concludes, Judges}
 use Rattle.l4_step_lines.specs.Inside.Judged.{MatchesAnswer, TellsRequest, TellsJudged, EndsBy, TellsEnd, JudgesSome, TellsLines}
-use Rattle.l4_step_lines.proofs.Going.{cut_line, none_whole, line_of_more, rest_is, nothing_kept, something_kept}
+use Rattle.l4_text.proofs.Grammar.{cut_line, none_whole}
+use Rattle.l4_step_lines.proofs.Going.{line_of_more, rest_is, nothing_kept, something_kept}
 use Rattle.l4_step_lines.proofs.Taking.{Taken, taken_none, taken_more, taken_parts, taken_with}
 
 -- ONE LINE

@@ -10,7 +10,9 @@ use Rattle.l4_ipc.specs.declared.steps.Step.TheVariants.{Start}
 use Rattle.l4_text.specs.Numbers.{number_of}
 use Rattle.l4_step_lines.specs.declared.requests.Request.{Request}
 use Rattle.l4_step_lines.specs.declared.requests.Request.TheVariants.{Do, Enabled}
-use Rattle.l4_step_lines.specs.Requests.{numbers_of, only_of, ipc_of, fault_of, unmap_of, create_of, set_pager_of, transfer_of, control_of, call_of, start_of, named_of, request_of}
+use Rattle.l4_text.specs.Grammar.{numbers_of}
+use Rattle.l4_text.proofs.Grammar.{no_numbers}
+use Rattle.l4_step_lines.specs.Requests.{only_of, ipc_of, fault_of, unmap_of, create_of, set_pager_of, transfer_of, control_of, call_of, start_of, named_of, request_of}
 use Rattle.l4_step_lines.specs.Inside.Numbers.{HaveNoFew}
 
 -- READING
@@ -33,9 +35,6 @@ numbers_whole line rest ns read none = read ∙ ap (λ r. option_map (λ more. n
 -- more than 68 tokens
 pub numbers_many : (line : List (List ℕ)) → 68 < length line → HaveNoFew line
 numbers_many line many ns is = omega (arith, many, numbers_len line ns is)
-
-no_numbers : (token : List ℕ) (tokens : List (List ℕ)) → number_of token ≡ None → numbers_of (token ∷ tokens) ≡ None
-no_numbers token tokens none = ap (λ o. option_and_then (λ n. option_and_then (λ ns. Some (n ∷ ns)) (numbers_of tokens)) o) none
 
 -- a token that is no number
 pub numbers_bad : {A : Type 0} (result : Option A) (items : A → List ℕ) (line rest : List (List ℕ)) (ns : List ℕ) (token : List ℕ) (tokens : List (List ℕ)) → result ≡ None → numbers_of line ≡ option_map (λ more. ns ++ more) (numbers_of rest)

@@ -26,12 +26,12 @@ use Rattle.l4_text.proofs.Spelled.{number_back, word_back}
 use Rattle.l4_step_lines.specs.declared.requests.Request.TheVariants.{Do}
 use Rattle.l4_step_lines.specs.declared.running.Fault.TheVariants.{Unread}
 use Rattle.l4_step_lines.specs.Steps.{hex_text, hex_texts, call_words, step_line}
-use Rattle.l4_step_lines.specs.Lines.{TextLine, lines_of}
-use Rattle.l4_step_lines.specs.Requests.{numbers_of, call_of, named_of, request_of}
-use Rattle.l4_step_lines.specs.Lists.{is_comment, is_empty, asked_at, asked_of}
+use Rattle.l4_text.specs.Grammar.{TextLine, lines_of, is_comment, is_empty, is_silent, numbers_of}
+use Rattle.l4_step_lines.specs.Requests.{call_of, named_of, request_of}
+use Rattle.l4_step_lines.specs.Lists.{asked_at, asked_of}
 use Rattle.l4_step_lines.specs.Stops.{unread_says}
 use Rattle.l4_step_lines.specs.ReadBack.{AreWords, IsStep, ReadsBack}
-use Rattle.l4_step_lines.proofs.Going.{lines_more}
+use Rattle.l4_text.proofs.Grammar.{lines_more}
 
 -- TOKENS
 
@@ -93,7 +93,7 @@ reads_line name ts text number step h hs few is plain asks =
     let bytes = name ++ spaced ts in
     let len : length bytes ≤ 4096 = omega (arith, few, h.short, short_spaced ts hs, length-append name (spaced ts)) in
     let short : nat_lt 4096 (length bytes) ≡ false = grind (arith, nat_tests) in
-    let silent : (is_comment bytes || is_empty (tokens_of bytes)) ≡ false = (λ i. plain i || is_empty (tokens_spaced name ts h hs i)) in (
+    let silent : is_silent bytes ≡ false = (λ i. plain i || is_empty (tokens_spaced name ts h hs i)) in (
       record { bytes = bytes; whole = true },
       ap lines_of is ∙ lines_more bytes [] (no_newline name (spaced ts) h.plain (none_spaced ts hs)),
       ap (λ v. asked_at number (cond v TooLong Whole) bytes) short

@@ -4,8 +4,8 @@ use Rattle.std.specs.Io.KnownBytes.{Consumes}
 use mathlib.Core.List.{append_assoc}
 use Rattle.l4_text.specs.Lines.{TakesLine, left_of}
 use Rattle.l4_text.proofs.LineSteps.{consumes_more, consumes_same}
-use Rattle.l4_step_lines.specs.Lines.{TextLine, lines_of}
-use Rattle.l4_step_lines.proofs.Going.{lines_more}
+use Rattle.l4_text.specs.Grammar.{TextLine, lines_of}
+use Rattle.l4_text.proofs.Grammar.{lines_more}
 
 -- these lines were taken, and the next one has this number
 pub record Taken (old new : Option (List ℕ)) (now : List ℕ × ℕ) (number : ℕ) (lines : List TextLine) : Type 0 where

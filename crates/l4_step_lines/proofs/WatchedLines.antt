@@ -3,7 +3,7 @@ use Rattle.std.proofs.Common.{◌≡◌, ℕ, suc, ◌+◌, ◌-◌, ◌==◌, �
 use Rattle.std.proofs.lemmas.List.{length-drop}
 use Rattle.std.proofs.lemmas.Bool.Decides.{nat_tests}
 use Rattle.std.specs.List.{position_or_len, prefix_len}
-use Rattle.l4_step_lines.specs.Lines.{TextLine, in_front, lines_of}
+use Rattle.l4_text.specs.Grammar.{TextLine, in_front, lines_of}
 use Rattle.l4_step_lines.specs.Judging.{first_line, later_lines, has_said}
 use Rattle.l4_step_lines.specs.Watching.{said_lines, differs_from, difference_at}
 

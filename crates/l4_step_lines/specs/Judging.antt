@@ -21,8 +21,8 @@ use Rattle.l4_step_lines.specs.declared.requests.Request.TheVariants.{Do}
 use Rattle.l4_step_lines.specs.declared.running.Fault.{Fault}
 use Rattle.l4_step_lines.specs.declared.running.Fault.TheVariants.{Stopped}
 use Rattle.l4_step_lines.specs.Answers.{next_name}
-use Rattle.l4_step_lines.specs.Lines.{TextLine, lines_of}
-use Rattle.l4_step_lines.specs.Lists.{asked_at, ending_of, Answers}
+use Rattle.l4_text.specs.Grammar.{TextLine, lines_of, ending_of}
+use Rattle.l4_step_lines.specs.Lists.{asked_at, Answers}
 
 -- AN ANSWER OF THE LIST
 

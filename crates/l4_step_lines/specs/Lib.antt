@@ -1,7 +1,6 @@
 pub mod Answers
 pub mod Inside
 pub mod Judging
-pub mod Lines
 pub mod Lists
 pub mod ReadBack
 pub mod Requests

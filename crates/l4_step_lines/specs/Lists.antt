@@ -1,5 +1,5 @@
 -- What a list of steps and questions is answered (this profile's own).
-use Rattle.std.specs.Prelude.{ℕ, ◌≡◌, ◌+◌, ◌<◌, ◌↔◌, ◌==◌, ◌||◌, nat_lt, Bool, true, false, List, [], ◌∷◌, ◌++◌, length, filter, Contains, Option, Some, None, option_map, ok_or, MatchOption, Result, Ok, Err, if◌then◌else◌}
+use Rattle.std.specs.Prelude.{ℕ, ◌≡◌, ◌+◌, ◌<◌, ◌↔◌, List, [], ◌∷◌, ◌++◌, length, filter, Contains, Option, Some, None, option_map, ok_or, MatchOption, Result, Ok, Err, if◌then◌else◌}
 use Rattle.std.specs.List.{flat_map, AllPairs}
 use Rattle.std.specs.Option.{option_map_or}
 use Rattle.std.specs.Io.KnownBytes.{Consumes, Appends, IsAtEnd}
@@ -14,7 +14,6 @@ use Rattle.l4_ipc.specs.Machine.{Machine, IsBoot}
 use Rattle.l4_ipc.specs.Reading.{reply_of}
 use Rattle.l4_ipc.specs.Steps.{Steps, IsNext, IsIdle}
 use Rattle.l4_answers.specs.Pages.{shown_text}
-use Rattle.l4_text.specs.Sizes.{line_bytes}
 use Rattle.l4_text.specs.Streams.{WentOut}
 use Rattle.l4_text.specs.Tokens.{tokens_of}
 use Rattle.l4_text.specs.declared.lines.Ending.{Ending}
@@ -25,30 +24,18 @@ use Rattle.l4_step_lines.specs.declared.requests.Request.TheVariants.{Do, Enable
 use Rattle.l4_step_lines.specs.declared.running.Fault.{Fault}
 use Rattle.l4_step_lines.specs.declared.running.Fault.TheVariants.{Stopped, Cut, Long, Unread}
 use Rattle.l4_step_lines.specs.Answers.{answer_lines, enabled_line, reply_line, space_line, page_line}
-use Rattle.l4_step_lines.specs.Lines.{TextLine, lines_of}
+use Rattle.l4_text.specs.Grammar.{TextLine, lines_of, ending_of, is_silent}
 use Rattle.l4_step_lines.specs.Requests.{request_of}
 use Rattle.l4_step_lines.specs.Stops.{unread_says}
 
 -- WHAT A LINE ASKS FOR
-
--- the first byte is #
-abbrev pub is_comment : List ℕ → Bool
-is_comment [] = false
-is_comment (byte ∷ bytes) = byte == 35
-
-abbrev pub is_empty : List (List ℕ) → Bool
-is_empty [] = true
-is_empty (token ∷ tokens) = false
 
 -- what the line of this number and ending asks for, None where it is empty or a comment, or why the list ends with it
 abbrev pub asked_at : ℕ → Ending → List ℕ → Result (Option Request) Fault
 asked_at number IsCut bytes = Err (Cut number)
 asked_at number TooLong bytes = Err (Long number)
 asked_at number Whole bytes =
-    if is_comment bytes || is_empty (tokens_of bytes) then Ok None else ok_or (option_map Some (request_of (tokens_of bytes))) (Unread number (unread_says number (tokens_of bytes)))
-
-abbrev pub ending_of : TextLine → Ending
-ending_of line = if line.whole then (if nat_lt line_bytes (length line.bytes) then TooLong else Whole) else IsCut
+    if is_silent bytes then Ok None else ok_or (option_map Some (request_of (tokens_of bytes))) (Unread number (unread_says number (tokens_of bytes)))
 
 abbrev pub asked_of : ℕ → TextLine → Result (Option Request) Fault
 asked_of number line = asked_at number (ending_of line) line.bytes

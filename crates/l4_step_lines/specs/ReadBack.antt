@@ -9,7 +9,7 @@ use Rattle.l4_ipc.specs.declared.steps.Step.{Step}
 use Rattle.l4_ipc.specs.declared.steps.Step.TheVariants.{Start, Transfer, Expire}
 use Rattle.l4_step_lines.specs.declared.requests.Request.TheVariants.{Do}
 use Rattle.l4_step_lines.specs.Steps.{step_line}
-use Rattle.l4_step_lines.specs.Lines.{TextLine, lines_of}
+use Rattle.l4_text.specs.Grammar.{TextLine, lines_of}
 use Rattle.l4_step_lines.specs.Lists.{asked_of}
 
 -- each number is a word of 32 bits

@@ -1,5 +1,5 @@
 -- What a line of a list asks for (this profile's own).
-use Rattle.std.specs.Prelude.{ℕ, nat_le, nat_lt, List, [], ◌∷◌, length, Option, Some, None, option_and_then, option_map, if◌then◌else◌, codes}
+use Rattle.std.specs.Prelude.{ℕ, nat_le, nat_lt, List, [], ◌∷◌, length, Option, Some, None, option_map, if◌then◌else◌, codes}
 use Rattle.std.specs.Str.{bytes_eq}
 use Rattle.l4_fpage.specs.Rights.{RightsSet, set_of_bits}
 use Rattle.l4_msg.specs.Sizes.{max_words}
@@ -11,16 +11,8 @@ use Rattle.l4_ipc.specs.declared.steps.Step.{Step}
 use Rattle.l4_ipc.specs.declared.steps.Step.TheVariants.{Start, Transfer, Expire}
 use Rattle.l4_step_lines.specs.declared.requests.Request.{Request}
 use Rattle.l4_step_lines.specs.declared.requests.Request.TheVariants.{Do, Enabled, Reply, Space, Pages}
+use Rattle.l4_text.specs.Grammar.{◌>>=◌, numbers_of}
 use Rattle.l4_text.specs.Numbers.{number_of}
-
-infixl 10 ◌>>=◌
-abbrev pub ◌>>=◌ : {A B : Type 0} → Option A → (A → Option B) → Option B
-o >>= f = option_and_then f o
-
--- the numbers that all tokens spell
-abbrev pub numbers_of : List (List ℕ) → Option (List ℕ)
-numbers_of [] = Some []
-numbers_of (token ∷ tokens) = number_of token >>= λ n. numbers_of tokens >>= λ ns. Some (n ∷ ns)
 
 -- the only number
 abbrev pub only_of : List ℕ → Option ℕ

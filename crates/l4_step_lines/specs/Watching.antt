@@ -8,7 +8,7 @@ use Rattle.l4_step_lines.specs.declared.watching.Difference.{Difference}
 use Rattle.l4_step_lines.specs.declared.watching.Judgement.{Judgement}
 use Rattle.l4_step_lines.specs.declared.watching.Unjudged.{Unjudged}
 use Rattle.l4_step_lines.specs.declared.watching.Unjudged.TheVariants.{Unread, Memory}
-use Rattle.l4_step_lines.specs.Lines.{lines_of}
+use Rattle.l4_text.specs.Grammar.{lines_of}
 use Rattle.l4_step_lines.specs.Lists.{Answers}
 use Rattle.l4_step_lines.specs.Requests.{request_of}
 use Rattle.l4_step_lines.specs.Judging.{first_line, later_lines, has_said}

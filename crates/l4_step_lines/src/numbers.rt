@@ -1,6 +1,6 @@
 ghost use Rattle.std.specs.Prelude.{◌≡◌, Some, MatchOption};
 ghost use Rattle.l4_text.specs.Tokens.{tokens_of};
-ghost use Rattle.l4_step_lines.specs.Requests.{numbers_of};
+ghost use Rattle.l4_text.specs.Grammar.{numbers_of};
 ghost use Rattle.l4_step_lines.specs.Inside.Numbers.{HaveNoFew};
 
 use arrayvec::ArrayVec;

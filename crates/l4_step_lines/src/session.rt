@@ -1,13 +1,13 @@
 //! The lines of a list, executed on a kernel.
-ghost use Rattle.std.specs.Prelude.{◌≡◌, ◌≤◌, ◌||◌, length, ℕ, List, Result, Ok};
+ghost use Rattle.std.specs.Prelude.{◌≡◌, ◌≤◌, length, ℕ, List, Result, Ok};
 ghost use Rattle.std.specs.Option.{option_copied};
 ghost use Rattle.l4_ipc.specs.declared.steps.Answer.{Answer as AnAnswer};
 ghost use Rattle.l4_ipc.specs.declared.steps.Refused.{Refused};
 ghost use Rattle.l4_ipc.specs.Steps.{Steps};
 ghost use Rattle.l4_step_lines.specs.Answers.{ended_lines, answer_lines, reply_line};
-ghost use Rattle.l4_step_lines.specs.Lists.{is_comment, is_empty, asked_at, place_line, ListsPages, Answers};
+ghost use Rattle.l4_step_lines.specs.Lists.{asked_at, place_line, ListsPages, Answers};
 ghost use Rattle.l4_step_lines.specs.Inside.Telling.{TellsPages, TellsLine};
-ghost use Rattle.l4_text.specs.Tokens.{tokens_of};
+ghost use Rattle.l4_text.specs.Grammar.{is_comment, is_silent};
 ghost use Rattle.l4_text.specs.declared.lines.Ending.TheVariants.{Whole};
 ghost use Rattle.l4_text.specs.Streams.{Tells};
 
@@ -154,7 +154,7 @@ fn is_comment(line: &[u8]) -> bool
 
 /// Whether a line is a comment, or has no token.
 pub(crate) fn is_silent(line: &[u8]) -> bool
-    ensures { result ≡ is_comment line.now || is_empty (tokens_of line.now) }
+    ensures { result ≡ is_silent line.now }
 {
     is_comment(line) || next_token(line).is_none()
 }

@@ -3,6 +3,7 @@ pub mod DigitTable
 pub mod DecimalTable
 pub mod Ended
 pub mod Gone
+pub mod Grammar
 pub mod Hundreds
 pub mod LineSteps
 pub mod Names

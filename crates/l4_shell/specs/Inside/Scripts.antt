@@ -2,7 +2,7 @@
 use Rattle.std.specs.Prelude.{ℕ, ◌≡◌, ◌⊎◌, Bool, true, List, [], ◌∷◌, ◌++◌, length, filter, Option, Result, Ok, Err}
 use Rattle.std.specs.List.{All}
 use Rattle.std.specs.Io.KnownBytes.{Consumes, IsAtEnd}
-use Rattle.l4_shell.specs.Lines.{ScriptLine, lines_of}
+use Rattle.l4_text.specs.Grammar.{TextLine, lines_of}
 use Rattle.l4_answers.specs.Reports.{Report, AddsAll}
 use Rattle.l4_fpage.specs.declared.sizes.PageSize.{PageSize}
 use Rattle.l4_ipc.specs.Machine.{IsBoot}
@@ -16,8 +16,8 @@ use Rattle.l4_text.specs.declared.faults.RunFault.TheVariants.{Read, Write, Memo
 pub record TellsBeginning {T : Type 0} (m last : Session) (old new : Option (List ℕ)) (has_told : T → T → List Report → Type 0) (closed : T → Bool) (before after : T) : Type 0 where
   pub read : List ℕ
   pub from : Consumes old new read
-  pub lines : List ScriptLine
-  pub later : List ScriptLine
+  pub lines : List TextLine
+  pub later : List TextLine
   pub parts : lines_of read ≡ lines ++ later
   pub sure : All (λ line. line.whole ≡ true) lines ⊎ IsAtEnd new
   pub told : List Report

@@ -12,7 +12,7 @@ use Rattle.l4_step_lines.specs.declared.judging.JudgeFault.{JudgeFault}
 use Rattle.l4_step_lines.specs.declared.judging.JudgeFault.TheVariants.{List as OfList, Empty}
 use Rattle.l4_step_lines.specs.declared.requests.Request.{Request}
 use Rattle.l4_step_lines.specs.declared.running.Fault.TheVariants.{Stopped, Cut, Long}
-use Rattle.l4_step_lines.specs.Lines.{TextLine, lines_of}
+use Rattle.l4_text.specs.Grammar.{TextLine, lines_of}
 use Rattle.l4_step_lines.specs.Judging.{JudgesAnswer, JudgesRequest, JudgesAt, JudgesLines, EndsAt, EndsJudging, Concludes, is_short, short_text, verdict}
 
 -- an answer was judged, unless there is no step above it

@@ -1,6 +1,6 @@
 -- Numbers that no line has (this profile's own).
 use Rattle.std.specs.Prelude.{ℕ, ◌≡◌, ◌<◌, List, length, Some}
-use Rattle.l4_step_lines.specs.Requests.{numbers_of}
+use Rattle.l4_text.specs.Grammar.{numbers_of}
 
 -- the tokens spell no numbers, or more than the longest line has behind its words, an Ipc's
 abbrev pub HaveNoFew : List (List ℕ) → Type 0

@@ -9,7 +9,7 @@ use Rattle.l4_text.specs.declared.faults.RunFault.TheVariants.{Read, Write, Memo
 use Rattle.l4_step_lines.specs.declared.requests.Request.{Request}
 use Rattle.l4_step_lines.specs.declared.running.Fault.{Fault}
 use Rattle.l4_step_lines.specs.declared.running.Fault.TheVariants.{Stopped}
-use Rattle.l4_step_lines.specs.Lines.{TextLine, lines_of}
+use Rattle.l4_text.specs.Grammar.{TextLine, lines_of}
 use Rattle.l4_step_lines.specs.Lists.{place_in, place_line, AnswersAsked, AnswersLines, EndsWith}
 
 -- the present pages of the space were told, and there are so many

@@ -1,7 +1,7 @@
 use Rattle.std.proofs.Common.{◌≡◌, ◌+◌, ◌++◌, length, option_map, length}
 use Rattle.arrayvec.specs.ArrayVec.{array_vec_len}
 use Rattle.l4_text.specs.Tokens.{tokens_of}
-use Rattle.l4_step_lines.specs.Requests.{numbers_of}
+use Rattle.l4_text.specs.Grammar.{numbers_of}
 use Rattle.l4_step_lines.proofs.numbers.numbers.Given as goal
 
 abbrev pub invariant-loop-count : goal.invariant-loop-count
