@@ -53,7 +53,7 @@ fn of_region<'a>(
             alloc,
             "rights",
             "RIGHTS",
-            "The rights, such as rwx or r_x; _ leaves a right out",
+            "The rights, such as rwx or r_x; write _ for each missing right",
         ))?
         .arg(size_option(alloc))
 }
@@ -354,8 +354,8 @@ fn requested<'a, S: AsStr>(alloc: Global, words: &'a [S]) -> Result<Options, Opt
 /// `--page-size BYTES` where that is wanted, `--help`, `help` or `--version`. N is 256 and BYTES 4096 where they are left out; READING is
 /// message, fpage, window or id.
 ///
-/// `Memory` comes only where an allocation was refused. Every other fault names the word that is not understood, and where it stands for
-/// a number or rights the argument too.
+/// Returns `Memory` if an allocation fails. Every other fault names the word that is not understood, and the argument too if the word stands
+/// for a number or for rights.
 pub fn options<'a, S: AsStr>(alloc: Global, words: &'a [S]) -> Result<Options, OptionFault>
     ensures asked { IfOk result (IsAsked (map S.text words.entry.now)) }
     ensures range { IfOk result IsInRange }

@@ -2,9 +2,10 @@
 pub(crate) const ABOUT: &str = "An L4 X.2 kernel core in user space.";
 
 pub(crate) const PLAN: &str = "\
-Prints the shortest list of map items that moves a region: the COUNT pages from
-page SOURCE on go to the pages from TARGET on, with these rights, and no other
-page moves. Numbers are decimal, or hexadecimal with a 0x prefix.
+Prints the shortest list of map items that moves a region: the COUNT pages that
+start at page SOURCE move to the pages that start at page TARGET, with these
+rights. No other page moves. Numbers are decimal, or hexadecimal with a 0x
+prefix.
 
 Each item is printed with one of its pages. No map item that stays within the
 region could move two of the printed pages, so no list is shorter.
@@ -36,7 +37,7 @@ invalid, 3 if a read or a write failed.";
 
 pub(crate) const HISTORY: &str = "\
 Runs a script from FILE, or from standard input if FILE is omitted, as 'l4 run'
-does. Once the script has ended, prints the kernel steps that it took, instead
+does. Once the script has ended, prints the kernel steps it executed, instead
 of the script's answers. Each step is a line that l4_steps can read: the start
 of a call, or a transfer or expiry that followed it. l4_steps repeats these
 steps if it has the same --frames and --page-size.
@@ -45,7 +46,7 @@ steps if it has the same --frames and --page-size.
 
 With --answers, each step is followed by the answer that it got in the script,
 in the words of l4_steps. These lines begin with '# ', so l4_steps skips them. A
-refused line of the script takes no step and is not reported. Use
+refused line of the script executes no step and is not reported. Use
 'l4 run --strict' to see refused lines.
 
 Exit status: as for 'l4 run', but never 1. With --answers, 4 also if a step gets
@@ -96,7 +97,7 @@ boot, and then each transfer in order. Refused lines are not reported here. Use
                              the transfer that is entry E of the history, counted
                              from 0: an item in the message of thread S moved
                              page SOURCE of S's space to page TARGET of R's.
-                             KIND is map, or grant if S gave the page away. The
+                             KIND is map, or grant if S lost the page. The
                              first RIGHTS are those of S's page just before the
                              transfer, the second are those in the item
   page P frame F RIGHTS      the page at the end of the script
@@ -148,10 +149,10 @@ are decimal, or hexadecimal with a 0x prefix. A shell takes > for a redirection,
 so put quotes around an item.
 
   tag:LABEL                  the tag, with this label (0 to 65535). Its counts are
-                             those of the tokens behind it
+                             those of the tokens that follow it
   NUMBER                     an untyped word
   map:FIRST+COUNT>BASE:RIGHTS
-                             a map item: the COUNT pages from page FIRST on, with
+                             a map item: COUNT pages that start at page FIRST, with
                              the send base at page BASE. COUNT is a power of two,
                              and FIRST a multiple of it; for one page, +COUNT can
                              be omitted. RIGHTS are r, w and x in this order, with
@@ -184,8 +185,8 @@ lines that begin with #, are skipped.
                          pages anywhere
   send N TO WORD..       N sends these words, the tag first, to thread TO
   delegate N TO SOURCE TARGET COUNT RIGHTS
-                         N sends the COUNT pages from page SOURCE of its space on
-                         to the pages from TARGET on in the space of thread TO.
+                         N maps COUNT of its pages, starting at page SOURCE, to
+                         the pages of thread TO's space that start at TARGET.
                          The receiver gets those of RIGHTS (such as r-x) that N's
                          own pages have. N sends the map items that l4 plan
                          prints. If they need more than one message, use part
@@ -208,8 +209,9 @@ lines that begin with #, are skipped.
                          fault message, and N continues when the pager replies
   region P FIRST SOURCE COUNT RIGHTS
                          adds a region to P's table: P answers a fault in the
-                         COUNT pages from FIRST on by its own pages from SOURCE
-                         on, with RIGHTS. A table has at most 64 regions
+                         COUNT pages that start at FIRST with its own pages,
+                         which start at SOURCE, and RIGHTS. A table has at most
+                         64 regions
   serve P                P receives from any thread, and from then on answers
                          each message by itself, on the line that delivers it. P
                          answers a fault from its table. Thread 1, sigma0,
@@ -217,7 +219,7 @@ lines that begin with #, are skipped.
                          frame to one space. A nil map item answers any other
                          message
   show N FIRST COUNT     lists the present pages of N's space among the COUNT
-                         pages from FIRST on
+                         pages that start at page FIRST
   parent N PAGE          prints the parent of a page of N's space: the page from
                          which it was mapped. A granted page keeps its parent
   steps                  prints the number of steps so far: calls that started,
@@ -292,7 +294,7 @@ l4 plan, l4 check, l4 decode and l4_steps print these codes too:
   K6         the number of frames must be from 1 to 4,096
   P1         the region overlaps another region in the table
   P2         no region in the table covers this page with the requested access: a
-             served thread answers by a nil map item
+             served thread answers with a nil map item
   P3         the table is full: it has 64 regions
   P4         the region has no pages or no rights, or one of its pages or source
              pages is beyond the end of the space

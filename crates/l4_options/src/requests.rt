@@ -93,7 +93,7 @@ pub enum OptionFault {
     #[error("error: invalid value '{0}' for '<RIGHTS>': expected r, w and x in this order, with _ for each right that is left out")]
     Rights(String),
     /// Rights that begin with `-` were taken for an option. `instead` is what to write.
-    #[error("error: '{word}' was taken for an option: for '<RIGHTS>', write {instead}, with _ in place of -")]
+    #[error("error: '{word}' was read as an option: for '<RIGHTS>', write {instead}, with _ instead of -")]
     Hyphens { word: String, instead: &'static str },
     /// A word is not a number.
     #[error("error: invalid value '{0}' for '<WORD>...': expected a number up to 4294967295, decimal or hexadecimal with a 0x prefix")]

@@ -32,7 +32,7 @@ pub(crate) enum Expected {
     LineEnd,
 }
 
-/// The tokens after a name: these in turn, and then at most so many numbers.
+/// The tokens after a name: these in turn, and then at most this many numbers.
 #[derive(Clone, Copy)]
 pub(crate) struct Form {
     kinds: &'static [Expected],
@@ -180,7 +180,7 @@ fn fits(expected: Expected, token: &[u8]) -> bool
     }
 }
 
-/// Where a text stops that has at most so many numbers and nothing else. Its first token has this number.
+/// Where a text stops that has at most this many numbers and nothing else. Its first token has this number.
 fn words_stop(first: u64, words: usize, line: &[u8]) -> Option<Stop<'_>>
     requires { first + words ≤ 200 }
     ensures { option_map place_in result ≡ words_stop first words (tokens_of line.now) }
@@ -209,7 +209,7 @@ fn words_stop(first: u64, words: usize, line: &[u8]) -> Option<Stop<'_>>
     })
 }
 
-/// Where a text stops that has tokens of these kinds and then at most so many numbers. Its first token has this number.
+/// Where a text stops that has tokens of these kinds and then at most this many numbers. Its first token has this number.
 fn kinds_stop<'a>(first: u64, kinds: &[Expected], words: usize, line: &'a [u8]) -> Option<Stop<'a>>
     requires start { first ≤ 10 }
     requires few { length kinds.now + words ≤ 100 }
