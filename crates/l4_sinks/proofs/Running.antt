@@ -25,13 +25,13 @@ pub record IsNew {W : Type 0} (teller : Teller W) (writer : W) (strict : Bool) (
   pub strict_is : teller.strict ≡ strict
   pub refused_is : teller.refused ≡ None
 
-none_kept : {A : Type 0} (b : Bool) → cond b None None ≡ None {A}
-none_kept true = refl
-none_kept false = refl
+one_of_both : {A : Type 0} (b : Bool) (x : A) → cond b x x ≡ x
+one_of_both true x = refl
+one_of_both false x = refl
 
 nothing_reported : {W : Type 0} (contents : W → Option (List ℕ)) (t : Teller W) (writer : W) (strict : Bool) (explains : Option PageSize) → IsNew t writer strict explains → HasReported contents t t []
 nothing_reported contents t writer strict explains is = (
-  record { explains = refl; strict = refl; refused = is.refused_is ∙ sym (none_kept t.strict) },
+  record { explains = refl; strict = refl; refused = is.refused_is ∙ sym (one_of_both t.strict None) },
   ([], refl, subst (λ (o : List ℕ × Bool). HasTold (contents t.writer) (contents t.writer) o.0 o.1 []) (sym is.out_is) ([], refl, appends_same (contents t.writer))),
 )
 

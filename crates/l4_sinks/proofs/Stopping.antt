@@ -7,10 +7,11 @@ use Rattle.std.proofs.lemmas.Bool.Decides.{nat_tests}
 use Rattle.std.specs.Option.{option_and_then}
 use Rattle.l4_fpage.specs.Rights.{RightsSet}
 use Rattle.l4_msg.specs.declared.regions.Region.{Region as Delegated}
+use Rattle.l4_text.specs.Grammar.{numbers_of}
 use Rattle.l4_text.specs.Numbers.{number_of, decimal_of}
 use Rattle.l4_shell.specs.declared.kinds.TokenKind.{TokenKind}
 use Rattle.l4_shell.specs.declared.kinds.TokenKind.TheVariants.{ThreadNumber, ThreadOrNew, ThreadOrNil, ThreadNilOrAny, Number, Rights}
-use Rattle.l4_shell.specs.Commands.{Command, Thread, SetPager, Delete, Receive, Send, Ipc, Fault, Delegate, Part, Unmap, Show, Parent, Region, Serve, Steps, thread_of, nil_or_thread_of, partner_of, new_space_of, rights_of, numbers_of, words_of, ◌▹◌, no_more, all_by, last_rights_of, region_of, thread_asked, set_pager_asked, delete_asked, receive_asked, send_asked, ipc_asked, delegate_asked, part_asked, unmap_asked, show_asked, parent_asked, fault_asked, region_asked, serve_asked, steps_asked, pager_command_of, command_of, is_word}
+use Rattle.l4_shell.specs.Commands.{Command, Thread, SetPager, Delete, Receive, Send, Ipc, Fault, Delegate, Part, Unmap, Show, Parent, Region, Serve, Steps, thread_of, nil_or_thread_of, partner_of, new_space_of, rights_of, words_of, ◌▹◌, no_more, all_by, last_rights_of, region_of, thread_asked, set_pager_asked, delete_asked, receive_asked, send_asked, ipc_asked, delegate_asked, part_asked, unmap_asked, show_asked, parent_asked, fault_asked, region_asked, serve_asked, steps_asked, pager_command_of, command_of, is_word}
 use Rattle.l4_shell.specs.Kinds.{is_of}
 use Rattle.l4_sinks.specs.declared.stops.Expected.TheVariants.{Token, NumberOrEnd, LineEnd}
 use Rattle.l4_sinks.specs.Stops.{Shape, Place, wrong, shape_of, pager_shape_of, words_stop, kinds_stop, shape_stop, stop_of, BeginsCommand, StopsThere, IsStop}

@@ -12,6 +12,6 @@ returns-then-wants_reasons g c = λ first told h.
     (tells_more _ _ _ _ _ _ _ _ c.put_refused_line.ensures (tells_is _ _ _ _ _ _ (ap (λ (l : List ℕ). said c.args.self.now.explains l) c.refusal_reason.ensures) c.take_reason.ensures.told))
     (line_said c.args.self.now.explains (RefusedLine c.args.line c.args.code.now) _ (λ size. refl))
 
-pub returns : goal.returns
-returns g c = λ first told h.
+pub returns-else-wants_reasons : goal.returns-else-wants_reasons
+returns-else-wants_reasons g c = λ first told h.
     told_plainly g.W.Write.contents first _ _ told (RefusedLine c.args.line c.args.code.now) h refl c.if-wants_reasons.ensures refl refl refl c.put_refused_line.ensures
