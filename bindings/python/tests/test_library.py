@@ -18,6 +18,7 @@ TYPES = {
     "uint64_t": ctypes.c_uint64,
     "size_t": ctypes.c_size_t,
     "char *": ctypes.c_char_p,
+    "const char *": ctypes.c_char_p,
     "uint32_t *": ctypes.POINTER(ctypes.c_uint32),
     "const uint32_t *": ctypes.POINTER(ctypes.c_uint32),
     **{struct.__name__: struct for struct in _library.STRUCTS},
