@@ -12,7 +12,7 @@ from .lists import Unread, enabled_line, whole_line
 from .refusals import Refused
 from .shared import Start, step_line
 
-#: An answer that the other kernel did not report. It stands for any one line.
+#: An answer that the other kernel did not report. It matches any one line.
 UNKNOWN = "?"
 
 _STEPS = (b"start", b"transfer", b"expire")
@@ -86,7 +86,7 @@ class Judge:
         """Executes a step or query on the proved kernel, and compares the other kernel's answer with it. Returns None if they agree.
 
         `step` is a line of a step list, or a value that prints as one. `answer` has the lines that `l4_steps` would print. A line `UNKNOWN`
-        stands for any one line. If there are no lines, nothing is compared. Raises ValueError if the step is not a line of a step list.
+        matches any one line. If there are no lines, nothing is compared. Raises ValueError if the step is not a line of a step list.
         """
         line = step if isinstance(step, str) else step_line(step)
         found = list(answer)

@@ -399,7 +399,7 @@ impl Kernel {
     /// as `l4 judge` does.
     ///
     /// `step` is a line of a step list without its newline: a step or a query. `found` has the lines that `l4_steps` prints for it; the last
-    /// one may lack its newline. A line `?` stands for any one line. An answer without lines is not compared, and agrees. This kernel
+    /// one may lack its newline. A line `?` matches any one line. An answer without lines is not compared, and agrees. This kernel
     /// executes the step even if the answers differ, so its state follows the definition.
     ///
     /// # Errors

@@ -21,7 +21,7 @@ pub enum Expected {
     LineEnd,
 }
 
-/// The tokens behind a command's name: these in turn, and then at most so many numbers.
+/// The tokens behind a command's name: these in turn, and then at most this many numbers.
 #[derive(Clone, Copy)]
 pub(crate) struct Form {
     kinds: &'static [TokenKind],
@@ -189,7 +189,7 @@ fn form_of(name: &[u8]) -> Option<Form>
     pager_form(name)
 }
 
-/// Where a text stops that has at most so many numbers and no more. Its first token has this number.
+/// Where a text stops that has at most this many numbers and no more. Its first token has this number.
 fn words_stop(first: u64, words: usize, line: &[u8]) -> Option<Stop<'_>>
     requires { first + words ≤ 200 }
     ensures { option_map place_in result ≡ words_stop first words (tokens_of line.now) }
@@ -218,7 +218,7 @@ fn words_stop(first: u64, words: usize, line: &[u8]) -> Option<Stop<'_>>
     })
 }
 
-/// Where a text stops that has tokens of these kinds and then at most so many numbers. Its first token is the line's second.
+/// Where a text stops that has tokens of these kinds and then at most this many numbers. Its first token is the line's second.
 fn kinds_stop<'a>(kinds: &[TokenKind], words: usize, line: &'a [u8]) -> Option<Stop<'a>>
     requires { length kinds.now + words ≤ 100 }
     ensures { option_map place_in result ≡ kinds_stop 2 kinds.now words (tokens_of line.now) }
