@@ -178,11 +178,11 @@ uint32_t l4_version(void);
 #define L4_P4 UINT32_C(0x5034) /* the region has no pages or no rights, or one of its pages or source pages is beyond the end of the space */
 #define L4_L1 UINT32_C(0x4C31) /* the history is full: no call can start once it has more than 999,871 steps */
 #define L4_L3 UINT32_C(0x4C33) /* the reply to an earlier call of this seat has not been taken yet */
-#define L4_L4 UINT32_C(0x4C34) /* the seat of this number was already handed out */
+#define L4_L4 UINT32_C(0x4C34) /* the seat of this number was already given out */
 #define L4_L6 UINT32_C(0x4C36) /* a transfer (entry detail, from 0) that ran out of memory in the history succeeded when the history was replayed */
 #define L4_L7 UINT32_C(0x4C37) /* the given links do not match the way the page got there */
-#define L4_X1 UINT32_C(0x5831) /* the seat of this number (detail) was handed out, but was not returned */
-#define L4_X2 UINT32_C(0x5832) /* the seat of this number (detail) was never handed out, or was returned twice */
+#define L4_X1 UINT32_C(0x5831) /* the seat of this number (detail) was given out, but was not returned */
+#define L4_X2 UINT32_C(0x5832) /* the seat of this number (detail) was never given out, or was returned twice */
 #define L4_X3 UINT32_C(0x5833) /* the seat of this number (detail) does not match the lock's records */
 #define L4_NO_MEMORY UINT32_C(0x4E6F) /* there was not enough memory */
 

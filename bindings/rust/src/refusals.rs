@@ -113,11 +113,11 @@ refusals! {
     BadRegion = L4_P4 "P4" "the region has no pages or no rights, or one of its pages or source pages is beyond the end of the space";
     HistoryFull = L4_L1 "L1" "the history is full: no call can start once it has more than 999,871 steps";
     ReplyWaiting = L4_L3 "L3" "the reply to an earlier call of this seat has not been taken yet";
-    SeatTaken = L4_L4 "L4" "the seat of this number was already handed out";
+    SeatTaken = L4_L4 "L4" "the seat of this number was already given out";
     MemoryFoundSince(u32) = L4_L6 "L6" "a transfer that ran out of memory in the history succeeded when the history was replayed";
     OtherProvenance = L4_L7 "L7" "the given links do not match the way the page got there";
-    SeatMissing(u32) = L4_X1 "X1" "the seat of this number was handed out, but was not returned";
-    SeatForeign(u32) = L4_X2 "X2" "the seat of this number was never handed out, or was returned twice";
+    SeatMissing(u32) = L4_X1 "X1" "the seat of this number was given out, but was not returned";
+    SeatForeign(u32) = L4_X2 "X2" "the seat of this number was never given out, or was returned twice";
     SeatWrong(u32) = L4_X3 "X3" "the seat of this number does not match the lock's records";
     NoMemory = L4_NO_MEMORY "NoMemory" "there was not enough memory";
 }

@@ -330,7 +330,7 @@ impl fmt::Debug for SharedKernel {
 ///     kernel.close(Vec::new())?;
 ///     Ok(())
 /// }
-/// let text = "the kernel was not closed: X1 2: the seat of this number was handed out, but was not returned";
+/// let text = "the kernel was not closed: X1 2: the seat of this number was given out, but was not returned";
 /// assert_eq!(close_without_its_seat().unwrap_err().to_string(), text);
 /// ```
 #[derive(Debug)]

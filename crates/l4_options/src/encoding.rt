@@ -36,7 +36,7 @@ fn refused(alloc: Global, token: &str, reason: Reason) -> OptionFault {
     }
 }
 
-/// The message with these tokens behind its own.
+/// The message with these tokens after its own.
 fn with_tokens(
     alloc: Global,
     begun: SymbolicMessage,

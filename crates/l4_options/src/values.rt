@@ -145,7 +145,7 @@ fn small(number: u64) -> Option<u32>
     }
 }
 
-/// The number with one more digit behind it, below 2^32.
+/// The number with one more digit at its end, below 2^32.
 fn with_digit(number: u32, byte: u8) -> Option<u32>
     ensures { result ≡ below (2 ^ 32) (option_map (λ d. number * 10 + d) (digit_of byte)) }
 {
@@ -436,7 +436,7 @@ fn not_a_word(alloc: Global, text: &str) -> OptionFault {
     }
 }
 
-/// The fault of a word to explain behind as many as a message can have.
+/// The fault of a word to explain after as many as a message can have.
 fn one_too_many(alloc: Global, text: &str) -> OptionFault {
     match String::from_str(alloc, text) {
         Ok(text) => OptionFault::TooMany(text),

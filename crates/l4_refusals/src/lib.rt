@@ -175,7 +175,7 @@ fn table_texts() -> [Text; 13]
             b"L3",
             b"the reply to an earlier call of this seat has not been taken yet",
         ),
-        meaning(b"L4", b"the seat of this number was already handed out"),
+        meaning(b"L4", b"the seat of this number was already given out"),
         meaning(
             b"L6",
             b"a transfer that ran out of memory in the history succeeded when the history was replayed",
@@ -186,11 +186,11 @@ fn table_texts() -> [Text; 13]
         ),
         meaning(
             b"X1",
-            b"the seat of this number was handed out, but was not returned",
+            b"the seat of this number was given out, but was not returned",
         ),
         meaning(
             b"X2",
-            b"the seat of this number was never handed out, or was returned twice",
+            b"the seat of this number was never given out, or was returned twice",
         ),
         meaning(
             b"X3",

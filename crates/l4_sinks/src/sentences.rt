@@ -124,7 +124,7 @@ pub(crate) fn known_says(reply: &Reply) -> &'static [u8]
         Reply::Hit => b"the page is present with the requested rights",
         Reply::Answered => b"the pager answered the fault",
         Reply::FaultFailed(code) => failed_says(*code),
-        Reply::Unmapped => b"the Unmap ended",
+        Reply::Unmapped => b"the Unmap completed",
         Reply::Controlled => b"root's call ended",
         Reply::Gone => gone_says(),
     }

@@ -52,7 +52,7 @@ abbrev pub ItemFull : Message → Reason → Type 0
 ItemFull m Full = max_untyped < words_in m + 2
 ItemFull m reason = ⊥
 
--- WHY A TOKEN CANNOT FOLLOW: it is a word behind an item, there is no room, or it names no item
+-- WHY A TOKEN CANNOT FOLLOW: it is a word after an item, there is no room, or it names no item
 abbrev pub AddRefused : PageSize → List ℕ → Message → Reason → Type 0
 AddRefused size token m reason =
     ((word : ℕ) × (number_of token ≡ Some word) × WordRefused m reason)

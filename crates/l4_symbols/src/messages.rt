@@ -22,7 +22,7 @@ pub struct SymbolicMessage {
     pub ghost whole: { All (λ item. base_of item % base_unit ≡ 0) message.items.items },
 }
 
-/// Adds an element behind the others.
+/// Adds an element at the end.
 fn push_to<T: Copy, const COUNT: usize>(list: &mut ArrayVec<T, COUNT>, element: T)
     requires { array_vec_len list.old < COUNT }
     ensures { list.new.items ≡ list.old.items ++ element ∷ [] }
@@ -85,7 +85,7 @@ impl SymbolicMessage {
         Ok(())
     }
 
-    /// Adds a token behind those before it: a number, which is an untyped word, or an item. The words must stand before the items. A refused
+    /// Adds a token at the end: a number, which is an untyped word, or an item. The words must stand before the items. A refused
     /// token changes nothing.
     ///
     /// Returns `Behind` for a number after an item, `Full` if there is no room, and otherwise the reason why the token is no item.

@@ -14,7 +14,7 @@ pub enum Reason {
     #[error("expected a number up to 4294967295, map:FIRST+COUNT>BASE:RIGHTS or grant:FIRST+COUNT>BASE:RIGHTS")]
     Unknown,
     /// An item without a send base.
-    #[error("an item needs > and the page of its send base behind its pages, as in map:16+4>32:rwx")]
+    #[error("an item needs > and the page of its send base after its pages, as in map:16+4>32:rwx")]
     NoBase,
     /// An item without rights.
     #[error("an item needs : and its rights at its end, as in map:16+4>32:rwx")]
@@ -37,10 +37,10 @@ pub enum Reason {
     /// A send base beyond the end of the space.
     #[error("the send base must be a page of the space, which ends at page 1048575, or at page 4194303 with pages of 1024 bytes")]
     Base,
-    /// A plain word behind an item.
+    /// A plain word after an item.
     #[error("plain words must stand before the items")]
     Behind,
     /// A word or an item for which the message has no room.
-    #[error("a message has at most 63 words behind its tag; an item takes two")]
+    #[error("a message has at most 63 words after its tag; an item takes two")]
     Full,
 }
