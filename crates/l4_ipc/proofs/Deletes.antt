@@ -17,14 +17,14 @@ use Rattle.l4_threads.specs.declared.ThreadId.{ThreadId}
 use Rattle.l4_threads.specs.declared.ThreadFault.{ThreadFault}
 use Rattle.l4_threads.specs.declared.ThreadFault.TheVariants.{NoPrivilege, Unknown, Kept}
 use Rattle.l4_threads.specs.Threads.{Threads, thread_at, state_of, number_of, runs, is_running, out_of_queue, end_call, IsConsistent}
-use Rattle.l4_threads.specs.Control.{delete_test, is_privileged, freed, Deletes, waits, IsEndedBy, IsEndedList, HasEnded, TellsEnd}
+use Rattle.l4_threads.specs.Control.{delete_test, is_privileged, freed, Deletes, waits, IsEndedList, HasEnded, TellsEnd}
 use Rattle.l4_ipc.specs.declared.calls.Call.TheVariants.{Control as Controls}
 use Rattle.l4_ipc.specs.declared.calls.Control.TheVariants.{Delete}
 use Rattle.l4_ipc.specs.declared.steps.Answer.{Answer}
 use Rattle.l4_ipc.specs.declared.steps.Outcome.TheVariants.{Started}
 use Rattle.l4_ipc.specs.declared.steps.Step.TheVariants.{Start}
 use Rattle.l4_ipc.specs.Machine.{machine}
-use Rattle.l4_ipc.specs.Steps.{IsDeleteList, Steps}
+use Rattle.l4_ipc.specs.Steps.{Steps}
 use Rattle.l4_ipc.proofs.Threads.{past, running_thread, state_other}
 use Rattle.l4_fpage.specs.declared.sizes.PageSize.{PageSize}
 
@@ -112,18 +112,14 @@ waits_there t n waiting none =
     let k : ◌≡◌ {A = Option Bool} None (Some false) = ap (λ (o : Option Thread). option_map is_running (option_map (λ (x : Thread). x.state) o)) (sym none) ∙ waiting in
     cc
 
-ended_waits : (old left : Threads) (victim n : ℕ) → IsEndedBy old left victim n → waits old n
-ended_waits old left victim n (inl own) = own.1
-ended_waits old left victim n (inr other) = other.1
-
 -- with the caller they are at most 64
-pub few_ended : (old left : Threads) (caller victim : ℕ) (others : List ℕ) → IsConsistent old → IsTrue (runs old caller) → IsEndedList old left victim others → length others < 64
-few_ended old left caller victim others consistent h ended =
+pub few_ended : (old left : Threads) (caller : ℕ) (others : List ℕ) → IsConsistent old → IsTrue (runs old caller) → IsEndedList old left others → length others < 64
+few_ended old left caller others consistent h ended =
     let there = running_thread old caller h in
     let rest : length others ≤ fin.len (fin.remove old.threads caller) =
     few_numbers (fin.remove old.threads caller) others (AllPairs-from_increasing others ended.rising) (λ k d within none.
     let q : ℕ = slice_index_or others k d in
-    let waiting : waits old q = ended_waits old left victim q ((ended.each q).0 (k, within, same_default others k d q within)) in
+    let waiting : waits old q = ((ended.each q).0 (k, within, same_default others k d q within)).0 in
     let e : fin.get (fin.remove old.threads caller) q ≡ thread_at old q =
     fin.get-remove nat_cmp_total old.threads caller q ∙ ap (λ b. cond b None (thread_at old q)) (unsigned_tied q caller ∙ differs q caller (waits_apart old caller q h waiting)) in
     waits_there old q waiting (sym e ∙ none)) in
@@ -138,28 +134,18 @@ few_ended old left caller victim others consistent h ended =
 
 -- WHAT A DELETE DOES
 
-delete_list : (size : PageSize) (old left : Threads) (s new : Mappings) (caller victim : ℕ) (others : List ℕ) → IsTrue (runs old caller) → IsEndedList old left victim others
-    → IsDeleteList caller victim (machine size old s) (machine size (end_call left caller Controlled) new) (caller ∷ others)
-delete_list size old left s new caller victim others h ended = record {
-  others = others;
-  list = refl;
+-- what the caller's end changes are not the others
+ended_list : (old left : Threads) (caller : ℕ) (others : List ℕ) → IsTrue (runs old caller) → IsEndedList old left others → IsEndedList old (end_call left caller Controlled) others
+ended_list old left caller others h ended = record {
   rising = ended.rising;
-  each = λ n. (λ among. goes n ((ended.each n).0 among), λ by. (ended.each n).1 (comes n by));
+  each = λ n. (
+    λ among. let by = (ended.each n).0 among in (by.0, λ waiting. by.1 (sym (same n by.0) ∙ waiting)),
+    λ by. (ended.each n).1 (by.0, λ waiting. by.1 (same n by.0 ∙ waiting)),
+  );
 } where
-  after : Threads
-  after = end_call left caller Controlled
-
-  same : (n : ℕ) → waits old n → option_map is_running (state_of after n) ≡ option_map is_running (state_of left n)
+  same : (n : ℕ) → waits old n → option_map is_running (state_of (end_call left caller Controlled) n) ≡ option_map is_running (state_of left n)
   same n waiting = ap (λ (o : Option Thread). option_map is_running (option_map (λ (x : Thread). x.state) o))
       (state_other (out_of_queue left caller) caller (Running (Some Controlled)) n (waits_apart old caller n h waiting))
-
-  goes : (n : ℕ) → IsEndedBy old left victim n → IsEndedBy old after victim n
-  goes n (inl own) = inl own
-  goes n (inr other) = inr (other.0, other.1, same n other.1 ∙ other.2)
-
-  comes : (n : ℕ) → IsEndedBy old after victim n → IsEndedBy old left victim n
-  comes n (inl own) = inl own
-  comes n (inr other) = inr (other.0, other.1, sym (same n other.1) ∙ other.2)
 
 space_goes : (t left : Threads) (victim : ℕ) (thread : Thread) (s new : Mappings) (space : Option ℕ) → thread_at t victim ≡ Some thread → TellsEnd t left victim space
     → MatchOption space (new ≡ s) (λ ended. EndsSpace ended s new)
@@ -171,7 +157,7 @@ space_goes t left victim thread s new (Some space) at tells ends =
     inl (subst (HasEnded left) same tells.1, subst (λ (k : ℕ). EndsSpace k s new) same ends)
 
 pub deleted : (size : PageSize) (t left after : Threads) (s new : Mappings) (n : ℕ) (id : ThreadId) (victim : ℕ) (others : List ℕ) (space : Option ℕ) (answer : Answer)
-    → IsTrue (runs t n) → delete_test t n id ≡ Ok victim → Deletes victim t left → IsEndedList t left victim others → TellsEnd t left victim space
+    → IsTrue (runs t n) → delete_test t n id ≡ Ok victim → Deletes victim t left → IsEndedList t left others → TellsEnd t left victim space
     → MatchOption space (new ≡ s) (λ ended. EndsSpace ended s new) → after ≡ end_call left n Controlled → answer.outcome ≡ Started → answer.ended.items ≡ n ∷ others
     → Steps (machine size t s) (Start n (Controls (Delete id))) (Ok answer) (machine size after new)
 deleted size t left after s new n id victim others space answer h test deletes ended tells goes is outcome list =
@@ -186,8 +172,7 @@ deleted size t left after s new n id victim others space answer h test deletes e
         gone.0,
         test,
         gone.1.0,
-        subst (λ (v : Threads). IsDeleteList n victim (machine size t s) (machine size v new) answer.ended.items) (sym is)
-            (subst (IsDeleteList n victim (machine size t s) (machine size (end_call left n Controlled) new)) (sym list) (delete_list size t left s new n victim others h ended)),
+        (others, list, subst (λ (v : Threads). IsEndedList t v others) (sym is) (ended_list t left n others h ended)),
         record { left = left; size = refl; deleted = deletes; threads = is; mappings = space_goes t left victim gone.0 s new space gone.1.0 tells goes },
       ),
     )

@@ -1,5 +1,5 @@
 -- Small cases of the definitions over runs: of each main one, one that it holds of, and one that it doesn't.
-use Rattle.std.proofs.Common.{◌≡◌, ℕ, zero, suc, ◌+◌, ◌<◌, ◌≤◌, true, false, cond, List, [], ◌∷◌, Option, Some, None, Ok, Err, IsTrue, is_some, refl, sym, ap, ◌∙◌, subst, inl, inr, ◌⊎◌, option_and_then, slice_get, slice_index, slice_index_or, lit≤, lit<, arith}
+use Rattle.std.proofs.Common.{◌≡◌, ℕ, zero, suc, ◌<◌, ◌≤◌, true, false, cond, List, [], ◌∷◌, Option, Some, None, Ok, Err, IsTrue, is_some, refl, sym, ap, ◌∙◌, subst, inl, inr, ◌⊎◌, option_and_then, slice_get, slice_index, slice_index_or, lit≤, lit<, arith}
 use Rattle.std.specs.Ordering.{eq_by_cmp, is_eq}
 use Rattle.std.specs.declared.cmp.Ordering.{Ordering}
 use Rattle.std.specs.declared.cmp.Ordering.TheVariants.{Less, Equal, Greater}
@@ -23,7 +23,7 @@ use Rattle.l4_mapdb.specs.declared.Place.{Place}
 use Rattle.l4_mapdb.specs.declared.Mapping.{Mapping}
 use Rattle.l4_mapdb.specs.Mappings.{place_cmp, Mappings, shown, parent_of, Chain, child, further, Descends, IsPresent, rights_at}
 use Rattle.l4_mapdb.specs.Losing.{LosesRights}
-use Rattle.l4_mapdb.specs.Transfer.{PageMove, IsGranted, IsEntangled, ParentLater, Becomes, Moved, IsCut}
+use Rattle.l4_mapdb.specs.Transfer.{PageMove, IsEntangled, Becomes, Moved, IsCut, Transfers}
 use Rattle.l4_mapdb.proofs.Filled.{BecomesBy, by_kind}
 use Rattle.l4_mapdb.proofs.Unique.{same_rights}
 use Rattle.l4_mapdb.proofs.Places.{places_total, exact_places}
@@ -42,14 +42,15 @@ use Rattle.l4_ipc.specs.declared.steps.Step.TheVariants.{Start, Transfer, Expire
 use Rattle.l4_ipc.specs.declared.steps.Outcome.TheVariants.{Started, Done}
 use Rattle.l4_ipc.specs.declared.steps.Refused.TheVariants.{NotEnabled}
 use Rattle.l4_ipc.specs.Machine.{Machine, machine}
-use Rattle.l4_ipc.specs.Moving.{IsUsedBy}
+use Rattle.l4_ipc.specs.Moving.{IsUsedMove, IsUsedBy}
 use Rattle.l4_ipc.specs.Runs.{Run}
 use Rattle.l4_ipc.specs.Steps.{Meets, after_transfer}
 use Rattle.l4_ipc.specs.Events.{Event, Follow, IsTrace, IsDelivery}
 use Rattle.l4_ipc.proofs.Lasting.{one_delivery}
 use Rattle.l4_ipc.specs.Provenance.{Link, Brings, LeavesAlone, HasProvenance, Flushes, NoneThroughFlushed}
 use Rattle.l4_ipc.proofs.OneState.{same_value}
-use Rattle.l4_ipc.specs.Delegation.{source_at, target_at, IsNewPlace, IsReplaced, Delegates, IsDelegation}
+use Rattle.l4_ipc.specs.Delegation.{Delegates, IsDelegation}
+use Rattle.l4_ipc.proofs.Delegating.{not_granted, parent_kept, parent_same, delivers as delivers_plan}
 use Rattle.l4_fpage.specs.declared.sizes.PageSize.TheVariants.{Kib4}
 
 -- MAPPINGS OF FEW PLACES
@@ -157,20 +158,21 @@ with_f old new = record {
   ok = refl;
   caller = sigma0;
   caller_at = sigma0_there;
-  own = refl;
   fpages = page_5 ∷ [];
   reads = record { there = lit≤ tt; count = refl; each = one_register };
-  space = refl;
-  named = λ right. (page_5, (0, lit< tt, refl), each_right right, record { «from» = lit≤ tt; below = lit≤ tt });
+  loses = λ right. (page_5, (0, lit< tt, refl), each_right right, (5, record { «from» = lit≤ tt; below = lit≤ tt }, inl (refl, refl)));
 }
 
--- without f it doesn't
-pub without_f : (old new : Mappings) → ¬ (Flushes (unmaps 0 0x50c7 old new) (page_of 0 5))
-without_f old new h =
+-- without f it doesn't, because the page descends from no other
+pub without_f : (new : Mappings) → ¬ (Flushes (unmaps 0 0x50c7 of_sigma0 new) (page_of 0 5))
+without_f new h =
     let call : UnmapCall = record { control = 0; words = record { items = 0x50c7 ∷ [] } } in
     let both : Start 1 (Unmap call) ≡ Start h.number (Unmap h.call) = h.step in
     let one : call ≡ h.call = cc in
-    false≢true (ap (λ (x : UnmapCall). with_own x.control) one ∙ h.own)
+    elim (h.loses Read).3.2 [
+      | inl own ↦ false≢true (ap (λ (x : UnmapCall). with_own x.control) one ∙ own.0)
+      | inr chain ↦ no_parent of_sigma0 (page_of 0 5) _ (ap (option_and_then (λ (m : Mapping). m.parent)) there) chain
+    ]
 
 -- if the page is left after the Unmap, then something has a provenance through it
 pub spared : ¬ (NoneThroughFlushed (unmaps 0x40 0x50c7 of_sigma0 of_sigma0 ∷ []) of_sigma0)
@@ -212,67 +214,173 @@ handed rights = record { frame = 5; rights = rights; parent = Some (page_of 0 5)
 none_before : (page : ℕ) → shown of_sigma0 (page_of 1 page) ≡ None
 none_before page = shown_with nothing (page_of 0 5) frame_5 (page_of 1 page) ∙ shows_nothing (page_of 1 page)
 
-never_replaced : (place : Place) → ¬ (IsReplaced of_sigma0 0 1 region place)
-never_replaced place x = false≢true (sym (ap is_some (none_before (6 + x.index))) ∙ x.present)
-
-new_page : IsNewPlace of_sigma0 0 1 region (page_of 1 6) (handed region.rights)
-new_page = record {
-  index = 0;
-  shows = frame_5;
-  handed_on = record { within = lit< tt; at = there; some_right = λ none. false≢true (sym (ap (λ (a : RightsSet). a.r) none)) };
-  place_is = refl;
-  frame = refl;
-  rights = refl;
-  parent = refl;
-}
-
-new_is : (place : Place) (m : Mapping) → IsNewPlace of_sigma0 0 1 region place m → (place ≡ page_of 1 6) × (m ≡ handed region.rights)
-new_is place m n =
-    let index : n.index ≡ 0 = omega (arith, n.handed_on.within) in
-    let was : shown of_sigma0 (page_of 0 5) ≡ Some n.shows = ap (λ (k : ℕ). shown of_sigma0 (source_at 0 region k)) (sym index) ∙ n.handed_on.at in
-    let shows : frame_5 ≡ n.shows = same_value (sym there ∙ was) in
-    let frame : m.frame ≡ 5 = n.frame ∙ ap (λ (x : Mapping). x.frame) (sym shows) in
-    let rights : m.rights ≡ region.rights = n.rights ∙ ap (λ (x : Mapping). common x.rights region.rights) (sym shows) in
-    let parent : m.parent ≡ Some (page_of 0 5) = n.parent ∙ ap (λ (k : ℕ). Some (source_at 0 region k)) index in
-    (n.place_is ∙ ap (target_at 1 region) index, λ i. record { frame = frame i; rights = rights i; parent = parent i })
-
 abbrev delegated : RightsSet → Mappings
 delegated rights = with_place of_sigma0 (page_of 1 6) (handed rights)
 
 here : (rights : RightsSet) → shown (delegated rights) (page_of 1 6) ≡ Some (handed rights)
 here rights = shown_with of_sigma0 (page_of 1 6) (handed rights) (page_of 1 6)
 
--- the page with the common rights at its new place, and all else as it was: the region is delegated
-pub with_common_rights : Delegates of_sigma0 0 1 region (delegated region.rights)
-with_common_rights = record {
-  spaces = refl;
-  places = λ place m. (
-    λ at.
-        elim (eq_by_cmp place_cmp place (page_of 1 6)) as (λ b. eq_by_cmp place_cmp place (page_of 1 6) ≡ b → IsNewPlace of_sigma0 0 1 region place m ⊎ ((shown of_sigma0 place ≡ Some m) × ¬ (IsReplaced of_sigma0 0 1 region place))) [
-          | true ↦ λ e.
-              let at_6 : place ≡ page_of 1 6 = same place (page_of 1 6) e in
-              let k : handed region.rights ≡ m = same_value (sym (here region.rights) ∙ ap (shown (delegated region.rights)) (sym at_6) ∙ at) in
-              inl (subst (λ (x : Mapping). IsNewPlace of_sigma0 0 1 region place x) k (subst (λ (q : Place). IsNewPlace of_sigma0 0 1 region q (handed region.rights)) (sym at_6) new_page))
-          | false ↦ λ e. inr (sym (shown_with of_sigma0 (page_of 1 6) (handed region.rights) place ∙ ap (λ b. cond b (Some (handed region.rights)) (shown of_sigma0 place)) e) ∙ at, never_replaced place)
-        ] refl,
-    λ then. elim then [
-      | inl n ↦
-          let is = new_is place m n in
-          ap (shown (delegated region.rights)) is.0 ∙ here region.rights ∙ ap (λ (x : Mapping). Some x) (sym is.1)
-      | inr k ↦ elim (eq_by_cmp place_cmp place (page_of 1 6)) as (λ b. eq_by_cmp place_cmp place (page_of 1 6) ≡ b → shown (delegated region.rights) place ≡ Some m) [
-        | true ↦ λ e. absurd (let j : ◌≡◌ {A = Option Mapping} None (Some m) = sym (none_before 6) ∙ ap (shown of_sigma0) (sym (same place (page_of 1 6) e)) ∙ k.0 in cc)
-        | false ↦ λ e. shown_with of_sigma0 (page_of 1 6) (handed region.rights) place ∙ ap (λ b. cond b (Some (handed region.rights)) (shown of_sigma0 place)) e ∙ k.0
-      ] refl
-    ],
+-- without f, an Unmap of the page flushes the page that descends from it
+pub below_without_f : (rights : RightsSet) (new : Mappings) → Flushes (unmaps 0 0x50c7 (delegated rights) new) (page_of 1 6)
+below_without_f rights new = record {
+  number = 1;
+  call = record { control = 0; words = record { items = 0x50c7 ∷ [] } };
+  step = refl;
+  answer = record { outcome = Started; ended = record { items = 1 ∷ [] } };
+  ok = refl;
+  caller = sigma0;
+  caller_at = sigma0_there;
+  fpages = page_5 ∷ [];
+  reads = record { there = lit≤ tt; count = refl; each = one_register };
+  loses = λ right. (
+    page_5,
+    (0, lit< tt, refl),
+    each_right right,
+    (5, record { «from» = lit≤ tt; below = lit≤ tt }, inr (child (ap (option_and_then (λ (m : Mapping). m.parent)) (here rights)))),
   );
 }
 
+abbrev moves_5_to_6 : PageMove
+moves_5_to_6 = record { item = 0; source = page_of 0 5; target = page_of 1 6; grant = false; shows = frame_5; rights = region.rights }
+
+abbrev OfRegion : PageMove → Type 0
+OfRegion = IsUsedMove of_sigma0 0 1 (RegionMoves region) false region.rights
+
+-- the move is one of the region
+pub of_region : OfRegion moves_5_to_6
+of_region = record {
+  from_space = refl;
+  to_space = refl;
+  pages = record { index = 0; within = lit< tt; source_is = refl; target_is = refl };
+  grant_is = refl;
+  present = there;
+  rights_are = refl;
+  some_right = λ none. false≢true (sym (ap (λ (a : RightsSet). a.r) none));
+}
+
+-- no other is
+one_of_region : (move : PageMove) → OfRegion move → move ≡ record moves_5_to_6 { item = move.item }
+one_of_region move u =
+    let source_page : move.source.page ≡ 5 = omega (arith, u.pages.within, u.pages.source_is) in
+    let target_page : move.target.page ≡ 6 = omega (arith, u.pages.within, u.pages.target_is) in
+    let source : move.source ≡ page_of 0 5 = λ i. record { space = u.from_space i; page = source_page i } in
+    let target : move.target ≡ page_of 1 6 = λ i. record { space = u.to_space i; page = target_page i } in
+    let grant : move.grant ≡ false = u.grant_is in
+    let shows : move.shows ≡ frame_5 = same_value (sym u.present ∙ ap (shown of_sigma0) source ∙ there) in
+    let rights : move.rights ≡ region.rights = u.rights_are ∙ ap (λ (x : Mapping). common x.rights region.rights) shows in
+    λ i. record { item = move.item; source = source i; target = target i; grant = grant i; shows = shows i; rights = rights i }
+
+region_maps : (move : PageMove) → OfRegion move → ¬ (IsTrue move.grant)
+region_maps move u h = false≢true (sym u.grant_is ∙ h)
+
+same_mapping : (a b : Mapping) → a.frame ≡ b.frame → a.rights ≡ b.rights → a.parent ≡ b.parent → a ≡ b
+same_mapping a b f r p = λ i. record { frame = f i; rights = r i; parent = p i }
+
+-- the new place, or one that was there
+abbrev ShowsAfter : Place → Mapping → Type 0
+ShowsAfter place m = ((place ≡ page_of 1 6) × (m ≡ handed region.rights)) ⊎ (shown of_sigma0 place ≡ Some m)
+
+shows_after : (place : Place) (m : Mapping) → shown (delegated region.rights) place ≡ Some m → ShowsAfter place m
+shows_after place m at =
+    elim (eq_by_cmp place_cmp place (page_of 1 6)) as (λ b. eq_by_cmp place_cmp place (page_of 1 6) ≡ b → ShowsAfter place m) [
+      | true ↦ λ e.
+          let at_6 : place ≡ page_of 1 6 = same place (page_of 1 6) e in
+          inl (at_6, same_value (sym at ∙ ap (shown (delegated region.rights)) at_6 ∙ here region.rights))
+      | false ↦ λ e. inr (sym (shown_with of_sigma0 (page_of 1 6) (handed region.rights) place ∙ ap (λ b. cond b (Some (handed region.rights)) (shown of_sigma0 place)) e) ∙ at)
+    ] refl
+
+after_shows : (place : Place) (m : Mapping) → ShowsAfter place m → shown (delegated region.rights) place ≡ Some m
+after_shows place m (inl is) = ap (shown (delegated region.rights)) is.0 ∙ here region.rights ∙ ap (λ (x : Mapping). Some x) (sym is.1)
+after_shows place m (inr at) = elim (eq_by_cmp place_cmp place (page_of 1 6)) as (λ b. eq_by_cmp place_cmp place (page_of 1 6) ≡ b → shown (delegated region.rights) place ≡ Some m) [
+  | true ↦ λ e. absurd (let j : ◌≡◌ {A = Option Mapping} None (Some m) = sym (none_before 6) ∙ ap (shown of_sigma0) (sym (same place (page_of 1 6) e)) ∙ at in cc)
+  | false ↦ λ e. shown_with of_sigma0 (page_of 1 6) (handed region.rights) place ∙ ap (λ b. cond b (Some (handed region.rights)) (shown of_sigma0 place)) e ∙ at
+] refl
+
+becomes : (place : Place) (m : Mapping) → ShowsAfter place m → Becomes OfRegion of_sigma0 place m
+becomes place m (inl is) = inl (record {
+  move = moves_5_to_6;
+  used = of_region;
+  target = sym is.0;
+  frame = ap (λ (x : Mapping). x.frame) is.1;
+  rights = ap (λ (x : Mapping). x.rights) is.1;
+  parent = inl (λ g. false≢true g, ap (λ (x : Mapping). x.parent) is.1);
+})
+becomes place m (inr at) = inr (record {
+  before = m;
+  at = at;
+  not_gone = λ g. false≢true (ap is_some (sym (none_before 6) ∙ ap (λ (u : PageMove). shown of_sigma0 u.target) (sym (one_of_region g.move g.used))) ∙ g.present);
+  not_granted = not_granted OfRegion region_maps place;
+  frame = refl;
+  rights = refl;
+  parent = parent_same OfRegion region_maps m.parent;
+})
+
+shows_by : (place : Place) (m : Mapping) → BecomesBy OfRegion of_sigma0 place m → ShowsAfter place m
+shows_by place m (inl a) =
+    let is : a.move ≡ record moves_5_to_6 { item = a.move.item } = one_of_region a.move a.used in
+    let frame : m.frame ≡ 5 = a.frame ∙ ap (λ (u : PageMove). u.shows.frame) is in
+    let rights : m.rights ≡ region.rights = a.rights ∙ ap (λ (u : PageMove). u.rights) is in
+    let parent : m.parent ≡ Some (page_of 0 5) = a.parent ∙ ap (λ (u : PageMove). Some u.source) is in
+    inl (sym a.target ∙ ap (λ (u : PageMove). u.target) is, same_mapping m (handed region.rights) frame rights parent)
+shows_by place m (inr (inl h)) = absurd (region_maps h.move h.used h.grant)
+shows_by place m (inr (inr s)) =
+    let kept : m.parent ≡ s.before.parent = parent_kept OfRegion region_maps s.before.parent m.parent s.parent in
+    inr (s.at ∙ ap (λ (x : Mapping). Some x) (same_mapping s.before m (sym s.frame) (sym s.rights) (sym kept)))
+
+shows : (place : Place) (m : Mapping) → Becomes OfRegion of_sigma0 place m → ShowsAfter place m
+shows place m b = shows_by place m (by_kind b)
+
+moved : Moved OfRegion of_sigma0 (delegated region.rights)
+moved = record {
+  spaces = refl;
+  places = λ place m. (λ at. becomes place m (shows_after place m at), λ b. after_shows place m (shows place m b));
+}
+
+-- of_sigma0 shows one page
+one_page_there : (place : Place) (m : Mapping) → shown of_sigma0 place ≡ Some m → frame_5 ≡ m
+one_page_there place m at =
+    elim (eq_by_cmp place_cmp place (page_of 0 5)) as (λ b. eq_by_cmp place_cmp place (page_of 0 5) ≡ b → frame_5 ≡ m) [
+      | true ↦ λ e. same_value (sym (shown_with nothing (page_of 0 5) frame_5 place ∙ ap (λ b. cond b (Some frame_5) (shown nothing place)) e) ∙ at)
+      | false ↦ λ e. absurd (let k : ◌≡◌ {A = Option Mapping} None (Some m) = sym (shown_with nothing (page_of 0 5) frame_5 place ∙ ap (λ b. cond b (Some frame_5) (shown nothing place)) e ∙ shows_nothing place) ∙ at in cc)
+    ] refl
+
+has_right : (place : Place) (m : Mapping) → ShowsAfter place m → ¬ (m.rights ≡ no_rights)
+has_right place m (inl is) none = false≢true (sym (ap (λ (a : RightsSet). a.r) (ap (λ (x : Mapping). x.rights) (sym is.1) ∙ none)))
+has_right place m (inr at) none = false≢true (sym (ap (λ (a : RightsSet). a.r) (ap (λ (x : Mapping). x.rights) (one_page_there place m at) ∙ none)))
+
+-- nothing is granted, so nothing is cut
+uncut : LosesRights (IsCut OfRegion (delegated region.rights)) (delegated region.rights) (delegated region.rights)
+uncut = record {
+  spaces = refl;
+  places = λ place m. (
+    λ at. (
+      m,
+      at,
+      record {
+        frame = refl;
+        parent = refl;
+        rights = λ right. (λ h. (h, λ c. region_maps c.move c.used c.grant), λ h. h.0);
+        some_right = has_right place m (shows_after place m at);
+      },
+    ),
+    λ l. l.1 ∙ ap (λ (x : Mapping). Some x) (same_mapping l.0 m (sym l.2.frame)
+        (same_rights l.0.rights m.rights (λ right. (λ h. (l.2.rights right).1 (h, λ c. region_maps c.move c.used c.grant), λ h. ((l.2.rights right).0 h).0)))
+        (sym l.2.parent)),
+  );
+}
+
+-- the page with the common rights at its new place, and all else as it was: the region is delegated
+pub with_common_rights : Delegates of_sigma0 0 1 region (delegated region.rights)
+with_common_rights = record { middle = delegated region.rights; moved = moved; cut = uncut }
+
 -- with the rights of the page, where the region names fewer, it isn't
 pub with_all_rights : ¬ (Delegates of_sigma0 0 1 region (delegated all_rights))
-with_all_rights d = elim ((d.places (page_of 1 6) (handed all_rights)).0 (here all_rights)) [
-  | inl n ↦ false≢true (sym (ap (λ (m : Mapping). m.rights.w) (new_is (page_of 1 6) (handed all_rights) n).1))
-  | inr k ↦ (let j : ◌≡◌ {A = Option Mapping} None (Some (handed all_rights)) = sym (none_before 6) ∙ k.0 in cc)
-]
+with_all_rights d =
+    let l = (d.cut.places (page_of 1 6) (handed all_rights)).0 (here all_rights) in
+    elim (shows (page_of 1 6) l.0 ((d.moved.places (page_of 1 6) l.0).0 l.1)) [
+      | inl is ↦ false≢true (ap (λ (m : Mapping). m.rights.w) (sym is.1) ∙ ((l.2.rights Write).0 refl).0)
+      | inr at ↦ (let j : ◌≡◌ {A = Option Mapping} None (Some l.0) = sym (none_before 6) ∙ at in cc)
+    ]
 
 -- A RUN
 
@@ -347,26 +455,25 @@ delivers new = record {
 delivery : (new : Mappings) → IsDelivery (delivers new) sender receiver sends_page takes_all
 delivery new = record { sender = 1; receiver = 2; step = refl; meets = meets; answer = record { outcome = Done; ended = record { items = 1 ∷ 2 ∷ [] } }; ok = refl; done = refl }
 
-abbrev moves_5_to_6 : PageMove
-moves_5_to_6 = record { item = 0; source = page_of 0 5; target = page_of 1 6; grant = false; shows = frame_5; rights = region.rights }
-
 -- the move is used
 pub used : IsUsedBy Kib4 of_sigma0 0 1 (item ∷ []) (Complete no_rights) moves_5_to_6
 used = record {
   by = item;
   item = refl;
-  from_space = refl;
-  to_space = refl;
-  pages = (lit≤ tt, record { index = 0; within = lit< tt; source_is = refl; target_is = refl });
-  grant = refl;
-  present = there;
-  rights = refl;
-  some_right = λ none. false≢true (sym (ap (λ (a : RightsSet). a.r) none));
+  moves = record {
+    from_space = refl;
+    to_space = refl;
+    pages = (lit≤ tt, record { index = 0; within = lit< tt; source_is = refl; target_is = refl });
+    grant_is = refl;
+    present = there;
+    rights_are = refl;
+    some_right = λ none. false≢true (sym (ap (λ (a : RightsSet). a.r) none));
+  };
 }
 
 -- where the sender has no page it isn't
 pub absent : (move : PageMove) → ¬ (IsUsedBy Kib4 nothing 0 1 (item ∷ []) (Complete no_rights) move)
-absent move u = false≢true (ap is_some (sym (shows_nothing move.source) ∙ u.present))
+absent move u = false≢true (ap is_some (sym (shows_nothing move.source) ∙ u.moves.present))
 
 item_is : (k : ℕ) (by : Item) → slice_get (item ∷ []) k ≡ Some by → (k ≡ 0) × (item ≡ by)
 item_is zero by at = (refl, same_value at)
@@ -376,14 +483,14 @@ item_is (suc k) by at = absurd (let lt : suc k < 1 = slice_get_within (item ∷ 
 one_move : (move : PageMove) → IsUsedBy Kib4 of_sigma0 0 1 (item ∷ []) (Complete no_rights) move → move ≡ moves_5_to_6
 one_move move u =
     let by = item_is move.item u.by u.item in
-    let pages : ItemMoves Kib4 item (Complete no_rights) move.source.page move.target.page = subst (λ (x : Item). ItemMoves Kib4 x (Complete no_rights) move.source.page move.target.page) (sym by.1) u.pages in
+    let pages : ItemMoves Kib4 item (Complete no_rights) move.source.page move.target.page = subst (λ (x : Item). ItemMoves Kib4 x (Complete no_rights) move.source.page move.target.page) (sym by.1) u.moves.pages in
     let source_page : move.source.page ≡ 5 = omega (arith, pages.1.within, pages.1.source_is) in
     let target_page : move.target.page ≡ 6 = omega (arith, pages.1.within, pages.1.target_is) in
-    let source : move.source ≡ page_of 0 5 = λ i. record { space = u.from_space i; page = source_page i } in
-    let target : move.target ≡ page_of 1 6 = λ i. record { space = u.to_space i; page = target_page i } in
-    let grant : move.grant ≡ false = u.grant ∙ ap is_grant (sym by.1) in
-    let shows : move.shows ≡ frame_5 = same_value (sym u.present ∙ ap (shown of_sigma0) source ∙ there) in
-    let rights : move.rights ≡ region.rights = u.rights ∙ ap (λ (x : Mapping). common x.rights (rights_of (fpage_of u.by))) shows ∙ ap (λ (x : Item). common all_rights (rights_of (fpage_of x))) (sym by.1) in
+    let source : move.source ≡ page_of 0 5 = λ i. record { space = u.moves.from_space i; page = source_page i } in
+    let target : move.target ≡ page_of 1 6 = λ i. record { space = u.moves.to_space i; page = target_page i } in
+    let grant : move.grant ≡ false = u.moves.grant_is ∙ ap is_grant (sym by.1) in
+    let shows : move.shows ≡ frame_5 = same_value (sym u.moves.present ∙ ap (shown of_sigma0) source ∙ there) in
+    let rights : move.rights ≡ region.rights = u.moves.rights_are ∙ ap (λ (x : Mapping). common x.rights (rights_of (fpage_of u.by))) shows ∙ ap (λ (x : Item). common all_rights (rights_of (fpage_of x))) (sym by.1) in
     λ i. record { item = by.0 i; source = source i; target = target i; grant = grant i; shows = shows i; rights = rights i }
 
 abbrev through : Link
@@ -489,12 +596,6 @@ two_pages new pages number d =
 abbrev Used : PageMove → Type 0
 Used = IsUsedBy Kib4 of_sigma0 0 1 (item ∷ []) (Complete no_rights)
 
-no_grant : (u : PageMove) → Used u → ¬ (IsTrue u.grant)
-no_grant u is h = false≢true (sym (ap (λ (m : PageMove). m.grant) (one_move u is)) ∙ h)
-
-not_granted : (place : Place) → ¬ (IsGranted Used place)
-not_granted place g = no_grant g.move g.used g.grant
-
 target_absent : (u : PageMove) → Used u → ¬ (IsPresent of_sigma0 u.target)
 target_absent u is present = false≢true (ap is_some (sym (none_before 6) ∙ ap (λ (m : PageMove). shown of_sigma0 m.target) (sym (one_move u is))) ∙ present)
 
@@ -504,105 +605,13 @@ not_entangled e = elim e.clash [
   | inr c ↦ target_absent e.one e.one_used c.0
 ]
 
-parent_same : (p : Option Place) → ParentLater Used p p
-parent_same None = refl
-parent_same (Some p) = (p, inr (not_granted p, refl), refl)
-
-parent_kept : (p later : Option Place) → ParentLater Used p later → later ≡ p
-parent_kept None later h = h
-parent_kept (Some p) later h =
-    elim h.1 [
-      | inl g ↦ absurd (no_grant g.0 g.1 g.2)
-      | inr n ↦ h.2 ∙ ap (λ (q : Place). Some q) (sym n.1)
-    ]
-
-same_mapping : (a b : Mapping) → a.frame ≡ b.frame → a.rights ≡ b.rights → a.parent ≡ b.parent → a ≡ b
-same_mapping a b f r p = λ i. record { frame = f i; rights = r i; parent = p i }
-
-abbrev ShowsAfter : Place → Mapping → Type 0
-ShowsAfter place m = IsNewPlace of_sigma0 0 1 region place m ⊎ ((shown of_sigma0 place ≡ Some m) × ¬ (IsReplaced of_sigma0 0 1 region place))
-
-becomes : (place : Place) (m : Mapping) → ShowsAfter place m → Becomes Used of_sigma0 place m
-becomes place m (inl n) =
-    let is = new_is place m n in
-    inl (record {
-      move = moves_5_to_6;
-      used = used;
-      target = sym is.0;
-      frame = ap (λ (x : Mapping). x.frame) is.1;
-      rights = ap (λ (x : Mapping). x.rights) is.1;
-      parent = inl (λ g. false≢true g, ap (λ (x : Mapping). x.parent) is.1);
-    })
-becomes place m (inr k) = inr (record {
-  before = m;
-  at = k.0;
-  not_gone = λ g. target_absent g.move g.used g.present;
-  not_granted = not_granted place;
-  frame = refl;
-  rights = refl;
-  parent = parent_same m.parent;
-})
-
-shows_by : (place : Place) (m : Mapping) → BecomesBy Used of_sigma0 place m → ShowsAfter place m
-shows_by place m (inl a) =
-    let is : a.move ≡ moves_5_to_6 = one_move a.move a.used in
-    let place_is : page_of 1 6 ≡ place = ap (λ (u : PageMove). u.target) (sym is) ∙ a.target in
-    let frame : m.frame ≡ 5 = a.frame ∙ ap (λ (u : PageMove). u.shows.frame) is in
-    let rights : m.rights ≡ region.rights = a.rights ∙ ap (λ (u : PageMove). u.rights) is in
-    let parent : m.parent ≡ Some (page_of 0 5) = a.parent ∙ ap (λ (u : PageMove). Some u.source) is in
-    let shows_is : handed region.rights ≡ m = same_mapping (handed region.rights) m (sym frame) (sym rights) (sym parent) in
-    inl (subst (λ (x : Mapping). IsNewPlace of_sigma0 0 1 region place x) shows_is (subst (λ (q : Place). IsNewPlace of_sigma0 0 1 region q (handed region.rights)) place_is new_page))
-shows_by place m (inr (inl h)) = absurd (no_grant h.move h.used h.grant)
-shows_by place m (inr (inr s)) =
-    let same_one : s.before ≡ m = same_mapping s.before m (sym s.frame) (sym s.rights) (sym (parent_kept s.before.parent m.parent s.parent)) in
-    inr (s.at ∙ ap (λ (x : Mapping). Some x) same_one, never_replaced place)
-
-shows : (place : Place) (m : Mapping) → Becomes Used of_sigma0 place m → ShowsAfter place m
-shows place m b = shows_by place m (by_kind b)
-
-moved : Moved Used of_sigma0 (delegated region.rights)
-moved = record {
-  spaces = refl;
-  places = λ place m. (λ at. becomes place m ((with_common_rights.places place m).0 at), λ b. (with_common_rights.places place m).1 (shows place m b));
-}
-
--- of_sigma0 shows one page
-one_page_there : (place : Place) (m : Mapping) → shown of_sigma0 place ≡ Some m → frame_5 ≡ m
-one_page_there place m at =
-    elim (eq_by_cmp place_cmp place (page_of 0 5)) as (λ b. eq_by_cmp place_cmp place (page_of 0 5) ≡ b → frame_5 ≡ m) [
-      | true ↦ λ e. same_value (sym (shown_with nothing (page_of 0 5) frame_5 place ∙ ap (λ b. cond b (Some frame_5) (shown nothing place)) e) ∙ at)
-      | false ↦ λ e. absurd (let k : ◌≡◌ {A = Option Mapping} None (Some m) = sym (shown_with nothing (page_of 0 5) frame_5 place ∙ ap (λ b. cond b (Some frame_5) (shown nothing place)) e ∙ shows_nothing place) ∙ at in cc)
-    ] refl
-
-has_right : (place : Place) (m : Mapping) → ShowsAfter place m → ¬ (m.rights ≡ no_rights)
-has_right place m (inl n) none = false≢true (sym (ap (λ (a : RightsSet). a.r) (ap (λ (x : Mapping). x.rights) (sym (new_is place m n).1) ∙ none)))
-has_right place m (inr k) none = false≢true (sym (ap (λ (a : RightsSet). a.r) (ap (λ (x : Mapping). x.rights) (one_page_there place m k.0) ∙ none)))
-
--- nothing is granted, so nothing is cut
-uncut : LosesRights (IsCut Used (delegated region.rights)) (delegated region.rights) (delegated region.rights)
-uncut = record {
-  spaces = refl;
-  places = λ place m. (
-    λ at. (
-      m,
-      at,
-      record {
-        frame = refl;
-        parent = refl;
-        rights = λ right. (λ h. (h, λ c. no_grant c.move c.used c.grant), λ h. h.0);
-        some_right = has_right place m ((with_common_rights.places place m).0 at);
-      },
-    ),
-    λ l. l.1 ∙ ap (λ (x : Mapping). Some x) (same_mapping l.0 m (sym l.2.frame)
-        (same_rights l.0.rights m.rights (λ right. (λ h. (l.2.rights right).1 (h, λ c. no_grant c.move c.used c.grant), λ h. ((l.2.rights right).0 h).0)))
-        (sym l.2.parent)),
-  );
-}
+transfers : Transfers Used of_sigma0 (delegated region.rights)
+transfers = delivers_plan Kib4 of_sigma0 0 1 region (item ∷ []) (5 ∷ []) no_rights (one_page (delegated region.rights)).plan (delegated region.rights) with_common_rights
 
 -- so the event follows from the state in which both wait: with the page's provenance above, a run that leads to it
 pub delivered : Follow (machine Kib4 partners of_sigma0) (delivers (delegated region.rights) ∷ []) (machine Kib4 (after_transfer true partners 1 2 sender sends_page takes_all) (delegated region.rights))
 delivered = (
   refl,
-  (sender, receiver, sends_page, takes_all, meets, ((λ l. let k : Complete no_rights ≡ Nil = l.1 in cc), not_entangled, record { middle = delegated region.rights; moved = moved; cut = uncut }), refl, refl, refl),
+  (sender, receiver, sends_page, takes_all, meets, ((λ l. let k : Complete no_rights ≡ Nil = l.1 in cc), not_entangled, transfers), refl, refl, refl),
   refl,
 )

@@ -15,6 +15,7 @@ pub mod Provenances
 pub mod Descending
 pub mod Flushing
 pub mod Delegating
+pub mod Placed
 pub mod OneChain
 pub mod Examples
 pub mod SizeStays

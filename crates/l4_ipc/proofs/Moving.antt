@@ -95,13 +95,15 @@ module _ (size : PageSize) (s : Mappings) (from to : ℕ) (items : List Item) (w
         | inl m ↦ record {
           by = at.0;
           item = at.1.0;
-          from_space = u.from_space;
-          to_space = u.to_space;
-          pages = (m.0 move.source.page move.target.page).0 u.pages;
-          grant = u.grant ∙ at.1.1.grant;
-          present = u.present;
-          rights = u.rights ∙ ap (common move.shows.rights) m.1;
-          some_right = u.some_right;
+          moves = record {
+            from_space = u.from_space;
+            to_space = u.to_space;
+            pages = (m.0 move.source.page move.target.page).0 u.pages;
+            grant_is = u.grant ∙ at.1.1.grant;
+            present = u.present;
+            rights_are = u.rights ∙ ap (common move.shows.rights) m.1;
+            some_right = u.some_right;
+          };
         }
         | inr none ↦ absurd (u.some_right (u.rights ∙ ap (common move.shows.rights) none.1 ∙ common_none move.shows.rights))
       ]
@@ -113,15 +115,15 @@ module _ (size : PageSize) (s : Mappings) (from to : ℕ) (items : List Item) (w
         | inl m ↦ record {
           by = at.0;
           item = at.1.0;
-          from_space = u.from_space;
-          to_space = u.to_space;
-          pages = (m.0 move.source.page move.target.page).1 u.pages;
-          grant = u.grant ∙ sym at.1.1.grant;
-          present = u.present;
-          rights = u.rights ∙ ap (common move.shows.rights) (sym m.1);
-          some_right = u.some_right;
+          from_space = u.moves.from_space;
+          to_space = u.moves.to_space;
+          pages = (m.0 move.source.page move.target.page).1 u.moves.pages;
+          grant = u.moves.grant_is ∙ sym at.1.1.grant;
+          present = u.moves.present;
+          rights = u.moves.rights_are ∙ ap (common move.shows.rights) (sym m.1);
+          some_right = u.moves.some_right;
         }
-        | inr none ↦ absurd (none.0 move.source.page move.target.page u.pages)
+        | inr none ↦ absurd (none.0 move.source.page move.target.page u.moves.pages)
       ]
 
   abbrev CanMove : Type 0

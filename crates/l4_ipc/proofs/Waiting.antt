@@ -15,7 +15,7 @@ use Rattle.l4_threads.specs.declared.Thread.{Thread}
 use Rattle.l4_threads.specs.declared.ThreadId.{ThreadId}
 use Rattle.l4_threads.specs.declared.ThreadFault.TheVariants.{NoPrivilege, BadId, Taken}
 use Rattle.l4_threads.specs.Threads.{Threads, thread_at, state_of, is_running, with_state, out_of_queue, end_call, failed, number_of}
-use Rattle.l4_threads.specs.Control.{create_test, created, is_privileged, is_bad_id, with_pager, without_partner, freed, waits_for, Deletes}
+use Rattle.l4_threads.specs.Control.{create_test, created, is_privileged, is_bad_id, with_pager, without_partner, freed, waits_for, Deletes, waits}
 use Rattle.l4_ipc.specs.declared.calls.Call.{Call}
 use Rattle.l4_ipc.specs.declared.calls.Call.TheVariants.{Ipc, Fault, Unmap, Control as Controls}
 use Rattle.l4_ipc.specs.declared.calls.Control.TheVariants.{Create, SetPager, Delete}
@@ -148,19 +148,21 @@ left_state old left victim n d other waits =
       )
     ] refl waits
 
-over_deleted : (old left new : Threads) (caller victim n : ℕ) → Deletes victim old left → new ≡ end_call left caller Controlled
-    → ((n ≡ victim) × (option_map is_running (state_of old n) ≡ Some false)) ⊎ ((n ≢ victim) × (option_map is_running (state_of old n) ≡ Some false) × (option_map is_running (state_of new n) ≡ Some true))
-    → IsOver (state_of new n)
-over_deleted old left new caller victim n d is why =
+not_false : (b : Bool) → ¬ (b ≡ false) → b ≡ true
+not_false true h = refl
+not_false false h = absurd (h refl)
+
+over_deleted : (old left new : Threads) (caller victim n : ℕ) → Deletes victim old left → new ≡ end_call left caller Controlled → waits old n × ¬ (waits new n) → IsOver (state_of new n)
+over_deleted old left new caller victim n d is ended =
     elim (eqb_tells n caller) [
       | inl same ↦ over_at left new caller n Controlled same.1 is
       | inr other ↦
           let e : state_of new n ≡ state_of left n = ap (λ (t : Threads). state_of t n) is ∙ elsewhere (out_of_queue left caller) caller (Running (Some Controlled)) n other.1 in
-          elim why [
-            | inl own ↦ subst IsOver (sym (e ∙ ap state_in (d.threads n ∙ ap (λ b. if b then None else option_map (freed victim) (thread_at old n)) (eq-eqb n victim own.0)))) tt
-            | inr freed' ↦
-                let st = left_state old left victim n d freed'.0 freed'.1 in
-                let now : is_running (without_partner victim st.0) ≡ true = same_some _ true (sym (ap (option_map is_running) (e ∙ st.2)) ∙ freed'.2) in
+          elim (eqb_tells n victim) [
+            | inl own ↦ subst IsOver (sym (e ∙ ap state_in (d.threads n ∙ ap (λ b. if b then None else option_map (freed victim) (thread_at old n)) own.0))) tt
+            | inr alive ↦
+                let st = left_state old left victim n d alive.1 ended.0 in
+                let now : is_running (without_partner victim st.0) ≡ true = not_false _ (λ still. ended.1 (ap (option_map is_running) (e ∙ st.2) ∙ ap (λ b. Some b) still)) in
                 subst IsOver (sym (e ∙ st.2)) (freed_over victim st.0 st.1 now)
           ]
     ]
@@ -188,10 +190,10 @@ over old new (Start k (Controls (SetPager c))) answer n s among =
     over_at (with_pager old.threads s.4.0 c.pager) new.threads k n Controlled (only k n (subst (λ (xs : List ℕ). Contains xs n) s.4.2 among)) (ap (λ (m : Machine). m.threads) s.4.3)
 over old new (Start k (Controls (Delete id))) answer n s among =
     let d = s.4.5 in
-    let list = s.4.4 in
-    elim (first_or k list.others n (subst (λ (xs : List ℕ). Contains xs n) list.list among)) [
+    let others = s.4.4 in
+    elim (first_or k others.0 n (subst (λ (xs : List ℕ). Contains xs n) others.1 among)) [
       | inl is ↦ over_at d.left new.threads k n Controlled is d.threads
-      | inr c ↦ over_deleted old.threads d.left new.threads k s.4.0 n d.deleted d.threads ((list.each n).0 c)
+      | inr c ↦ over_deleted old.threads d.left new.threads k s.4.0 n d.deleted d.threads ((others.2.each n).0 c)
     ]
 over old new (Transfer a b) answer n s among =
     let next : Next = sender_next (is_done answer.outcome) old.threads s.2 in
@@ -256,6 +258,11 @@ pager_else t k pager n waits =
       ]
     ] refl
 
+settled : (o : Option Bool) → ¬ (¬ (o ≡ Some false)) → o ≡ Some false
+settled None h = absurd (h (λ e. let k : ◌≡◌ {A = Option Bool} None (Some false) = e in cc))
+settled (Some true) h = absurd (h (λ e. false≢true (sym (same_some true false e))))
+settled (Some false) h = refl
+
 -- a thread that waits and isn't listed waits on
 pub still_waits : (old new : Machine) (step : Step) (answer : Answer) (n : ℕ) → Steps old step (Ok answer) new → Waits old n → ¬ (Contains answer.ended.items n) → Waits new n
 still_waits old new (Start k (Ipc call)) answer n s waits left =
@@ -272,17 +279,9 @@ still_waits old new (Start k (Controls (Create c))) answer n s waits left =
 still_waits old new (Start k (Controls (SetPager c))) answer n s waits left =
     waits_else (with_pager old.threads s.4.0 c.pager) new.threads k Controlled n (ap (λ (m : Machine). m.threads) s.4.3) (waits_apart old.threads k n s.0 s.1 s.2 waits) (pager_else old.threads s.4.0 c.pager n waits)
 still_waits old new (Start k (Controls (Delete id))) answer n s waits left =
-    let d = s.4.5 in
-    let list = s.4.4 in
-    let not_listed : ¬ (Contains list.others n) = λ c. left (subst (λ (xs : List ℕ). Contains xs n) (sym list.list) (in_rest k list.others n c)) in
-    let other : n ≢ k = waits_apart old.threads k n s.0 s.1 s.2 waits in
-    let alive : n ≢ s.4.0 = λ same. not_listed ((list.each n).1 (inl (same, waits))) in
-    let e : state_of new.threads n ≡ state_of d.left n = ap (λ (t : Threads). state_of t n) d.threads ∙ elsewhere (out_of_queue d.left k) k (Running (Some Controlled)) n other in
-    let st = left_state old.threads d.left s.4.0 n d.deleted alive waits in
-    elim (is_running (without_partner s.4.0 st.0)) as (λ b. is_running (without_partner s.4.0 st.0) ≡ b → Waits new n) [
-      | true ↦ λ runs. absurd (not_listed ((list.each n).1 (inr (alive, waits, ap (option_map is_running) (e ∙ st.2) ∙ ap (λ b. Some b) runs))))
-      | false ↦ λ still. ap (option_map is_running) (e ∙ st.2) ∙ ap (λ b. Some b) still
-    ] refl
+    let others = s.4.4 in
+    let not_listed : ¬ (Contains others.0 n) = λ c. left (subst (λ (xs : List ℕ). Contains xs n) (sym others.1) (in_rest k others.0 n c)) in
+    settled (option_map is_running (state_of new.threads n)) (λ ended. not_listed ((others.2.each n).1 (waits, ended)))
 still_waits old new (Transfer a b) answer n s waits left =
     let next : Next = sender_next (is_done answer.outcome) old.threads s.2 in
     let reply : Reply = receiver_reply (is_done answer.outcome) s.0 s.2 s.3 in
@@ -311,4 +310,4 @@ starts_waiting old new (Fault call) answer n s left =
 starts_waiting old new (Unmap call) answer n s left = absurd (left (subst (λ (xs : List ℕ). Contains xs n) (sym s.4.2) (in_first n [] n refl)))
 starts_waiting old new (Controls (Create c)) answer n s left = absurd (left (subst (λ (xs : List ℕ). Contains xs n) (sym s.4.2) (in_first n [] n refl)))
 starts_waiting old new (Controls (SetPager c)) answer n s left = absurd (left (subst (λ (xs : List ℕ). Contains xs n) (sym s.4.2) (in_first n [] n refl)))
-starts_waiting old new (Controls (Delete id)) answer n s left = absurd (left (subst (λ (xs : List ℕ). Contains xs n) (sym s.4.4.list) (in_first n s.4.4.others n refl)))
+starts_waiting old new (Controls (Delete id)) answer n s left = absurd (left (subst (λ (xs : List ℕ). Contains xs n) (sym s.4.4.1) (in_first n s.4.4.0 n refl)))

@@ -1,9 +1,9 @@
 -- How the mapping of a present place got there: the chain of moves that led to it, defined by the steps of a run and not by the parents of
 -- places (this profile's own).
-use Rattle.std.specs.Prelude.{◌≡◌, ◌≢◌, ℕ, ◌⊎◌, List, [], ◌∷◌, ◌++◌, Some, Ok, Contains, IsTrue, slice_get}
+use Rattle.std.specs.Prelude.{◌≡◌, ◌≢◌, ℕ, ◌⊎◌, List, [], ◌∷◌, ◌++◌, Some, Ok, slice_get}
 use Rattle.std.specs.List.{All}
-use Rattle.l4_fpage.specs.Rights.{Right, has, Within}
-use Rattle.l4_fpage.specs.Fpages.{rights_of, HoldsPage}
+use Rattle.l4_fpage.specs.Rights.{Right, Within}
+use Rattle.l4_fpage.specs.Fpages.{rights_of}
 use Rattle.l4_fpage.specs.declared.fpages.Fpage.{Fpage}
 use Rattle.l4_msg.specs.Moves.{fpage_of}
 use Rattle.l4_msg.specs.declared.items.Item.{Item}
@@ -11,7 +11,7 @@ use Rattle.l4_mapdb.specs.declared.Place.{Place}
 use Rattle.l4_mapdb.specs.declared.Mapping.{Mapping}
 use Rattle.l4_mapdb.specs.Mappings.{Mappings, shown, IsPresent, Descends, rights_at}
 use Rattle.l4_mapdb.specs.Transfer.{PageMove}
-use Rattle.l4_unmap.specs.Unmap.{UnmapReads, with_own}
+use Rattle.l4_unmap.specs.Unmap.{UnmapReads, with_own, LosesTo}
 use Rattle.l4_threads.specs.declared.Receiving.{Receiving}
 use Rattle.l4_threads.specs.declared.Sending.{Sending}
 use Rattle.l4_threads.specs.declared.Thread.{Thread}
@@ -77,7 +77,7 @@ HaveProvenance start events now = (place : Place) (shows : Mapping) → shown no
 
 -- WHAT A FLUSH ENDS
 
--- the event is an Unmap with f that names the place, in the caller's own space, with every right
+-- the event is an Unmap that removes every right of the place, and so the place
 pub record Flushes (event : Event) (place : Place) : Type 0 where
   pub number : ℕ
   pub call : UnmapCall
@@ -86,11 +86,9 @@ pub record Flushes (event : Event) (place : Place) : Type 0 where
   pub ok : event.answer ≡ Ok answer
   pub caller : Thread
   pub caller_at : thread_at event.before.threads number ≡ Some caller
-  pub own : IsTrue (with_own call.control)
   pub fpages : List Fpage
   pub reads : UnmapReads call.control call.words.items fpages
-  pub space : place.space ≡ caller.space
-  pub named : (right : Right) → (fpage : Fpage) × Contains fpages fpage × IsTrue (has (rights_of fpage) right) × HoldsPage event.before.size fpage place.page
+  pub loses : (right : Right) → LosesTo event.before.size event.before.mappings caller.space (with_own call.control) fpages place right
 
 -- Links lead to the last place through this one, as it was before `rest`: no event of `since` removed this place or wrote it again, and
 -- further links lead on from it. How this place got its page does not matter.
@@ -99,8 +97,8 @@ pub record LeadsThrough (since rest : List Event) (through last : Place) : Type 
   pub further : List Link
   pub on : Leads (since ++ rest) through further last
 
--- after a flush, no present place has a provenance through a place that the flush named, as that place was just before
+-- after a flush, no present place has a provenance through a place that was flushed, as that place was just before
 abbrev pub NoneThroughFlushed : List Event → Mappings → Type 0
 NoneThroughFlushed events now =
     (earlier since later : List Event) (event : Event) → events ≡ earlier ++ (since ++ event ∷ later)
-    → (named : Place) → Flushes event named → (place : Place) → IsPresent now place → ¬ (LeadsThrough since (event ∷ later) named place)
+    → (flushed : Place) → Flushes event flushed → (place : Place) → IsPresent now place → ¬ (LeadsThrough since (event ∷ later) flushed place)

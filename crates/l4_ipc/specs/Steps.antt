@@ -1,7 +1,6 @@
 -- The machine's steps. From one state, a step may give an answer or a refusal, and lead to another state (L4 X.2 manual: IPC,
 -- ThreadControl, Unmap; that a step is one atomic event is this profile's own).
-use Rattle.std.specs.Prelude.{◌≡◌, ℕ, ◌⊎◌, Bool, true, false, if◌then◌else◌, List, [], ◌∷◌, ◌++◌, drop, slice_index, ◌↔◌, Contains, IsTrue, Some, Result, Ok, Err}
-use Rattle.std.specs.List.Sorted.{IsStrictlyIncreasing}
+use Rattle.std.specs.Prelude.{◌≡◌, ℕ, ◌⊎◌, Bool, true, false, if◌then◌else◌, List, [], ◌∷◌, ◌++◌, drop, slice_index, IsTrue, Some, Result, Ok, Err}
 use Rattle.std.specs.FinSet as set
 use Rattle.l4_fpage.specs.declared.fpages.Fpage.{Fpage}
 use Rattle.l4_mapdb.specs.Mappings.{Mappings}
@@ -15,7 +14,7 @@ use Rattle.l4_threads.specs.declared.State.{State}
 use Rattle.l4_threads.specs.declared.State.TheVariants.{Running, Sending as IsSender, Receiving as IsReceiver}
 use Rattle.l4_threads.specs.declared.Thread.{Thread}
 use Rattle.l4_threads.specs.Threads.{Threads, thread_at, runs, is_running, failed, end_call}
-use Rattle.l4_threads.specs.Control.{create_test, created, asks_new, set_pager_test, with_pager, delete_test, Deletes, waits, IsEndedBy, HasEnded}
+use Rattle.l4_threads.specs.Control.{create_test, created, asks_new, set_pager_test, with_pager, delete_test, Deletes, waits, IsEndedList, HasEnded}
 use Rattle.l4_threads.specs.Enabled.{IsFirstSender, CanExpire, IsNextTransfer, IsNextExpiry}
 use Rattle.l4_ipc.specs.declared.calls.Call.{Call}
 use Rattle.l4_ipc.specs.declared.calls.Call.TheVariants.{Ipc, Fault, Unmap, Control as Controls}
@@ -41,13 +40,6 @@ use Rattle.l4_ipc.specs.Moving.{Moves}
 abbrev pub Waits : Machine → ℕ → Type 0
 Waits m n = waits m.threads n
 
--- the ended calls of a Delete: the caller, then the others by rising number
-pub record IsDeleteList (caller victim : ℕ) (old new : Machine) (ended : List ℕ) : Type 0 where
-  pub others : List ℕ
-  pub list : ended ≡ caller ∷ others
-  pub rising : IsStrictlyIncreasing others
-  pub each : (n : ℕ) → Contains others n ↔ IsEndedBy old.threads new.threads victim n
-
 -- the thread is deleted, and its space is deleted with its last thread
 pub record DeletesThread (caller victim space : ℕ) (old new : Machine) : Type 0 where
   pub left : Threads
@@ -62,7 +54,7 @@ pub record DeletesThread (caller victim space : ℕ) (old new : Machine) : Type 
 abbrev pub with_space : Mappings → Bool → ℕ → Mappings
 with_space s new space = if new then record s { spaces = set.insert s.spaces space } else s
 
--- the effect of a call that is not refused, and the calls that end in it
+-- the effect of a call that is not refused, and the calls that end in it; in a Delete they are the caller's, and then the others
 abbrev pub Starts : Machine → ℕ → Thread → Call → List ℕ → Machine → Type 0
 Starts old n caller (Ipc call) ended new =
     (sent : Sent) × (window : Fpage) × IsAccepted call sent window
@@ -84,7 +76,8 @@ Starts old n caller (Controls (SetPager c)) ended new =
     × (new ≡ record old { threads = end_call (with_pager old.threads other c.pager) n Controlled })
 Starts old n caller (Controls (Delete id)) ended new =
     (victim : ℕ) × (thread : Thread) × (delete_test old.threads n id ≡ Ok victim) × (thread_at old.threads victim ≡ Some thread)
-    × IsDeleteList n victim old new ended × DeletesThread n victim thread.space old new
+    × ((others : List ℕ) × (ended ≡ n ∷ others) × IsEndedList old.threads new.threads others)
+    × DeletesThread n victim thread.space old new
 
 -- only a Create of a new space that no refusal prevents can run out of memory
 abbrev pub LacksMemory : Machine → ℕ → Call → Type 0

@@ -88,13 +88,15 @@ carried_brings before after entry link does done c =
     let used : IsUsedBy before.size before.mappings p.giver.space p.taker.space p.sends.items.items p.takes.window move = record {
       by = item;
       item = item_at;
-      from_space = by.from_space ∙ p.from_is;
-      to_space = by.to_space ∙ p.to_is;
-      pages = in_window.pages;
-      grant = by.grant;
-      present = by.at;
-      rights = refl;
-      some_right = by.some_right;
+      moves = record {
+        from_space = by.from_space ∙ p.from_is;
+        to_space = by.to_space ∙ p.to_is;
+        pages = in_window.pages;
+        grant_is = by.grant;
+        present = by.at;
+        rights_are = refl;
+        some_right = by.some_right;
+      };
     } in
     record {
       brought = record { move = move; item = item };
@@ -137,17 +139,17 @@ brings_carried before after entry number l b =
     let meets = b.delivery.meets in
     let same : b.used.by ≡ l.item = same_value (sym b.used.item ∙ b.item) in
     let rights : l.move.rights ≡ common l.move.shows.rights (rights_of (fpage_of l.item)) =
-    b.used.rights ∙ ap (λ (i : Item). common l.move.shows.rights (rights_of (fpage_of i))) same in
+    b.used.moves.rights_are ∙ ap (λ (i : Item). common l.move.shows.rights (rights_of (fpage_of i))) same in
     let carried : IsCarriedBy before.size before.mappings b.«from».space b.to.space b.takes.window l.item (told number l) = record {
-      from_space = b.used.from_space;
-      to_space = b.used.to_space;
-      pages = subst (λ (i : Item). ItemMoves before.size i b.takes.window l.move.source.page l.move.target.page) same b.used.pages;
-      grant = b.used.grant ∙ ap is_grant same;
+      from_space = b.used.moves.from_space;
+      to_space = b.used.moves.to_space;
+      pages = subst (λ (i : Item). ItemMoves before.size i b.takes.window l.move.source.page l.move.target.page) same b.used.moves.pages;
+      grant = b.used.moves.grant_is ∙ ap is_grant same;
       shows = l.move.shows;
-      at = b.used.present;
+      at = b.used.moves.present;
       source_rights = refl;
       item_rights = refl;
-      some_right = λ none. b.used.some_right (rights ∙ none);
+      some_right = λ none. b.used.moves.some_right (rights ∙ none);
     } in
     let parties : AreParties before entry.step b.«from».space b.to.space b.sends.items.items b.takes.window = record {
       sender = b.delivery.sender;

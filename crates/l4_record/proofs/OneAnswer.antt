@@ -20,7 +20,7 @@ use Rattle.l4_threads.specs.declared.Receiving.{Receiving}
 use Rattle.l4_threads.specs.declared.Reply.TheVariants.{Controlled}
 use Rattle.l4_threads.specs.declared.Sending.{Sending}
 use Rattle.l4_threads.specs.declared.Thread.{Thread}
-use Rattle.l4_threads.specs.Control.{Deletes, IsEndedBy}
+use Rattle.l4_threads.specs.Control.{Deletes, IsEndedList}
 use Rattle.l4_threads.specs.Threads.{Threads, thread_at, sends, is_sending, is_running, end_call}
 use Rattle.l4_threads.proofs.QueuePairs.{pairs_total, exact_number_pairs}
 use Rattle.l4_ipc.specs.declared.calls.Call.{Call}
@@ -37,7 +37,7 @@ use Rattle.l4_ipc.specs.declared.sent.Sent.{Sent}
 use Rattle.l4_ipc.specs.Machine.{Machine}
 use Rattle.l4_ipc.specs.Moving.{Moves}
 use Rattle.l4_ipc.specs.Start.{has_send, has_receive, ipc_next, ended_by, IsSent, IsWindow, CallRefuses, RefusesIn, StartRefuses}
-use Rattle.l4_ipc.specs.Steps.{Steps, Starts, IsDeleteList, DeletesThread, is_done, ended_in_transfer}
+use Rattle.l4_ipc.specs.Steps.{Steps, Starts, DeletesThread, is_done, ended_in_transfer}
 use Rattle.l4_ipc.proofs.OneState.{same_value, one_meeting}
 use Rattle.l4_record.specs.Replays.{RanOut}
 
@@ -101,14 +101,19 @@ one_left n old a b f g =
     let next : a.next_space ≡ b.next_space = f.next_space ∙ sym g.next_space in
     λ i. record { threads = threads i; before = before i; next_space = next i }
 
-one_delete_list : (old a b : Machine) (n victim s t : ℕ) (xs ys : List ℕ) → DeletesThread n victim s old a → DeletesThread n victim t old b → IsDeleteList n victim old a xs → IsDeleteList n victim old b ys → xs ≡ ys
+-- the calls that end beside the caller's
+abbrev Others : Machine → Machine → ℕ → List ℕ → Type 0
+Others old new n ended = (others : List ℕ) × (ended ≡ n ∷ others) × IsEndedList old.threads new.threads others
+
+one_delete_list : (old a b : Machine) (n victim s t : ℕ) (xs ys : List ℕ) → DeletesThread n victim s old a → DeletesThread n victim t old b → Others old a n xs → Others old b n ys → xs ≡ ys
 one_delete_list old a b n victim s t xs ys x y u v =
     let left : x.left ≡ y.left = one_left victim old.threads x.left y.left x.deleted y.deleted in
     let threads : a.threads ≡ b.threads = x.threads ∙ ap (λ (l : Threads). end_call l n Controlled) left ∙ sym y.threads in
-    let others : u.others ≡ v.others = one_rising u.others v.others (sorted_from_strictly_increasing u.others u.rising) (sorted_from_strictly_increasing v.others v.rising)
-    (λ z c. (v.each z).1 (subst (λ (l : Threads). IsEndedBy old.threads l victim z) threads ((u.each z).0 c)))
-    (λ z c. (u.each z).1 (subst (λ (l : Threads). IsEndedBy old.threads l victim z) (sym threads) ((v.each z).0 c))) in
-    u.list ∙ ap (λ (ns : List ℕ). n ∷ ns) others ∙ sym v.list
+    let again : IsEndedList old.threads b.threads u.0 = subst (λ (l : Threads). IsEndedList old.threads l u.0) threads u.2 in
+    let others : u.0 ≡ v.0 = one_rising u.0 v.0 (sorted_from_strictly_increasing u.0 again.rising) (sorted_from_strictly_increasing v.0 v.2.rising)
+    (λ z c. (v.2.each z).1 ((again.each z).0 c))
+    (λ z c. (again.each z).1 ((v.2.each z).0 c)) in
+    u.1 ∙ ap (λ (ns : List ℕ). n ∷ ns) others ∙ sym v.1
 
 -- START
 
@@ -138,8 +143,7 @@ one_ended old n caller (Controls (SetPager c)) xs ys a b x y = x.2 ∙ sym y.2
 one_ended old n caller (Controls (Delete id)) xs ys a b x y =
     let both : Ok x.0 ≡ Ok y.0 = sym x.2 ∙ y.2 in
     let victim : x.0 ≡ y.0 = cc in
-    one_delete_list old a b n y.0 x.1.space y.1.space xs ys (subst (λ (v : ℕ). DeletesThread n v x.1.space old a) victim x.5) y.5
-    (subst (λ (v : ℕ). IsDeleteList n v old a xs) victim x.4) y.4
+    one_delete_list old a b n y.0 x.1.space y.1.space xs ys (subst (λ (v : ℕ). DeletesThread n v x.1.space old a) victim x.5) y.5 x.4 y.4
 
 -- a call that is accepted is not refused
 not_refused : (old : Machine) (n : ℕ) (caller : Thread) (call : Call) (ended : List ℕ) (new : Machine) (e : Refused) → Starts old n caller call ended new → ¬ (CallRefuses old n call e)

@@ -13,7 +13,7 @@ use Rattle.l4_threads.specs.declared.State.{State}
 use Rattle.l4_threads.specs.declared.State.TheVariants.{Running, Sending as Sends, Receiving as Receives}
 use Rattle.l4_threads.specs.Threads.{Threads, thread_at, state_of, space_of, number_of, is_sending, is_running, failed}
 use Rattle.l4_threads.specs.Inside.Ending.{frees, freed_reply, ends_at}
-use Rattle.l4_threads.specs.Control.{freed, waits_for, without_partner, Deletes, waits, IsEndedBy, IsEndedList, HasEnded}
+use Rattle.l4_threads.specs.Control.{freed, waits_for, without_partner, Deletes, waits, IsEndedList, HasEnded}
 use Rattle.l4_threads.specs.Inside.Entries.{Entries, found, in_state, sends_in, freed_in, without_in, ends_with, rising_with, ended_in, has_space, IsTable}
 use Rattle.l4_threads.specs.Queue.{is_in, IsOnce}
 use Rattle.l4_threads.specs.Inside.Kept.{threads_of}
@@ -413,19 +413,39 @@ negated : (b : Bool) → not b ≡ true → b ≡ false
 negated true h = absurd (false≢true h)
 negated false h = refl
 
-pub ended_by_is : (old new : Threads) (v n : ℕ) → Deletes v old new → (ends_at old v n ≡ true) ↔ IsEndedBy old new v n
-ended_by_is old new v n d = (there (state_of old n) refl, back) where
-  there : (o : Option State) → state_of old n ≡ o → option_map_or (λ state. not (is_running state) && ((n == v) || frees v state)) o false ≡ true → IsEndedBy old new v n
+-- the victim's wait ended, and so did each that is freed
+abbrev HasEndedWait : Threads → Threads → ℕ → Type 0
+HasEndedWait old new n = waits old n × ¬ (waits new n)
+
+running_now : (b : Bool) → b ≡ true → ¬ (◌≡◌ {A = Option Bool} (Some b) (Some false))
+running_now b runs h = let e : ◌≡◌ {A = Option Bool} (Some true) (Some false) = ap (λ x. Some x) (sym runs) ∙ h in cc
+
+not_false : (b : Bool) → ¬ (b ≡ false) → b ≡ true
+not_false true h = refl
+not_false false h = absurd (h refl)
+
+ended_wait_is : (old new : Threads) (v n : ℕ) → Deletes v old new → (ends_at old v n ≡ true) ↔ HasEndedWait old new n
+ended_wait_is old new v n d = (there (state_of old n) refl, back) where
+  later : (s : State) → state_of old n ≡ Some s → n ≢ v → option_map is_running (state_of new n) ≡ Some (is_running (without_partner v s))
+  later s at ne = ap (option_map is_running) (state_later old new v d n ne ∙ ap (option_map (without_partner v)) at)
+
+  gone : n ≡ v → ¬ (waits new n)
+  gone is h =
+      let none : state_of new n ≡ None = ap (option_map (λ (t : Thread). t.state)) (d.threads n ∙ ap (λ b. if b then None else option_map (freed v) (thread_at old n)) (eq-eqb n v is)) in
+      let e : ◌≡◌ {A = Option Bool} None (Some false) = ap (option_map is_running) (sym none) ∙ h in
+      cc
+
+  there : (o : Option State) → state_of old n ≡ o → option_map_or (λ state. not (is_running state) && ((n == v) || frees v state)) o false ≡ true → HasEndedWait old new n
   there None at h = absurd (false≢true h)
   there (Some s) at h =
       let both = and_true (not (is_running s)) ((n == v) || frees v s) h in
       let waiting : waits old n = ap (option_map is_running) at ∙ ap (λ b. Some b) (negated (is_running s) both.0) in
       elim (same_or n v) [
-        | inl is ↦ inl (is, waiting)
+        | inl is ↦ (waiting, gone is)
         | inr ne ↦
             elim (or_true (n == v) (frees v s) both.1) [
               | inl is ↦ absurd (ne (same_of n v is))
-              | inr f ↦ inr (ne, waiting, ap (option_map is_running) (state_later old new v d n ne ∙ ap (option_map (without_partner v)) at) ∙ ap (λ b. Some b) (runs_freed v s f))
+              | inr f ↦ (waiting, λ w. running_now (is_running (without_partner v s)) (runs_freed v s f) (sym (later s at ne) ∙ w))
             ]
       ]
 
@@ -433,24 +453,24 @@ ended_by_is old new v n d = (there (state_of old n) refl, back) where
   quiet_state None h = absurd (let e : ◌≡◌ {A = Option Bool} None (Some false) = h in cc)
   quiet_state (Some s) h = let e : ◌≡◌ {A = Option Bool} (Some (is_running s)) (Some false) = h in (s, refl, cc)
 
-  back : IsEndedBy old new v n → ends_at old v n ≡ true
-  back (inl h) =
-      let q = quiet_state (state_of old n) h.1 in
+  back : HasEndedWait old new n → ends_at old v n ≡ true
+  back h =
+      let q = quiet_state (state_of old n) h.0 in
+      let which : ((n == v) || frees v q.0) ≡ true = elim (same_or n v) [
+        | inl is ↦ or_left (n == v) _ (eq-eqb n v is)
+        | inr ne ↦
+            or_right (n == v) _ (freed_runs v q.0 q.2
+            (not_false (is_running (without_partner v q.0)) (λ quiet. h.1 (later q.0 q.1 ne ∙ ap (λ b. Some b) quiet))))
+      ] in
       ap (λ o. option_map_or (λ state. not (is_running state) && ((n == v) || frees v state)) o false) q.1
-      ∙ both_true (not (is_running q.0)) _ (ap not q.2) (or_left (n == v) _ (eq-eqb n v h.0))
-  back (inr h) =
-      let q = quiet_state (state_of old n) h.1 in
-      let later : ◌≡◌ {A = Option Bool} (Some (is_running (without_partner v q.0))) (Some true) = sym (ap (option_map is_running) (state_later old new v d n h.0 ∙ ap (option_map (without_partner v)) q.1)) ∙ h.2 in
-      let runs : is_running (without_partner v q.0) ≡ true = cc in
-      ap (λ o. option_map_or (λ state. not (is_running state) && ((n == v) || frees v state)) o false) q.1
-      ∙ both_true (not (is_running q.0)) _ (ap not q.2) (or_right (n == v) _ (freed_runs v q.0 q.2 runs))
+      ∙ both_true (not (is_running q.0)) _ (ap not q.2) which
 
-pub ended_list_is : (old new : Threads) (v : ℕ) (ended : List ℕ) → Deletes v old new → IsStrictlyIncreasing ended → ((n : ℕ) → is_in ended n ≡ ends_at old v n) → IsEndedList old new v ended
+pub ended_list_is : (old new : Threads) (v : ℕ) (ended : List ℕ) → Deletes v old new → IsStrictlyIncreasing ended → ((n : ℕ) → is_in ended n ≡ ends_at old v n) → IsEndedList old new ended
 ended_list_is old new v ended d up each = record {
   rising = up;
   each = λ n. (
-    λ c. (ended_by_is old new v n d).0 (sym (each n) ∙ Contains-is_in ended n c.0 c.1 (get_here ended n c.0 c.1 c.2)),
-    λ h. is_in-Contains ended n (each n ∙ (ended_by_is old new v n d).1 h),
+    λ c. (ended_wait_is old new v n d).0 (sym (each n) ∙ Contains-is_in ended n c.0 c.1 (get_here ended n c.0 c.1 c.2)),
+    λ h. is_in-Contains ended n (each n ∙ (ended_wait_is old new v n d).1 h),
   );
 } where
   get_here : (xs : List ℕ) (n k : ℕ) → k < length xs → slice_index_or xs k n ≡ n → slice_index_or xs k n ≡ n

@@ -1,7 +1,7 @@
 -- Creating, changing and deleting threads: the refusals in their order, and the effect. This is a profile of the L4 X.2 manual,
 -- ThreadControl: the caller must be in root's space.
 use Rattle.std.specs.List.Sorted.{IsStrictlyIncreasing}
-use Rattle.std.specs.Prelude.{◌≡◌, ◌≢◌, ◌⊎◌, ◌↔◌, List, Contains, true, ℕ, ◌+◌, ◌-◌, ◌%◌, ◌<◌, ◌≤◌, ◌==◌, ◌&&◌, ◌||◌, not, nat_lt, nat_le, Bool, false, if◌then◌else◌, Option, Some, None, is_some, option_and_then, Result, Ok, Err}
+use Rattle.std.specs.Prelude.{◌≡◌, ◌≢◌, ◌↔◌, List, Contains, true, ℕ, ◌+◌, ◌-◌, ◌%◌, ◌<◌, ◌≤◌, ◌==◌, ◌&&◌, ◌||◌, not, nat_lt, nat_le, Bool, false, if◌then◌else◌, Option, Some, None, is_some, option_and_then, Result, Ok, Err}
 use Rattle.std.specs.Option.{option_map_or, option_map}
 use Rattle.std.specs.FinMap as fin
 use Rattle.std.specs.FinSet as set
@@ -107,15 +107,10 @@ pub record Deletes (n : ℕ) (old new : Threads) : Type 0 where
 abbrev pub waits : Threads → ℕ → Type 0
 waits t n = option_map is_running (state_of t n) ≡ Some false
 
--- the thread's call ended when the victim was deleted: the thread waited for the victim, or is the victim
-abbrev pub IsEndedBy : Threads → Threads → ℕ → ℕ → Type 0
-IsEndedBy old new victim n =
-    ((n ≡ victim) × waits old n) ⊎ ((n ≢ victim) × waits old n × (option_map is_running (state_of new n) ≡ Some true))
-
--- the threads whose calls ended when the victim was deleted, in rising order
-pub record IsEndedList (old new : Threads) (victim : ℕ) (ended : List ℕ) : Type 0 where
+-- the threads whose calls ended between the two states, in rising order: they waited before, and do not wait afterwards
+pub record IsEndedList (old new : Threads) (ended : List ℕ) : Type 0 where
   pub rising : IsStrictlyIncreasing ended
-  pub each : (n : ℕ) → Contains ended n ↔ IsEndedBy old new victim n
+  pub each : (n : ℕ) → Contains ended n ↔ (waits old n × ¬ (waits new n))
 
 -- the space has no thread
 abbrev pub HasEnded : Threads → ℕ → Type 0

@@ -642,7 +642,7 @@ impl Threads {
     pub fn delete(&mut self, caller: u32, id: ThreadId) -> Result<Deleted, ThreadFault>
         ensures test { MatchResult result (λ d. delete_test self.old caller id ≡ Ok d.number) (λ e. delete_test self.old caller id ≡ Err e) }
         ensures ok { IfOk result (λ d. Deletes d.number self.old self.new) }
-        ensures ended { IfOk result (λ d. IsEndedList self.old self.new d.number d.ended.items) }
+        ensures ended { IfOk result (λ d. IsEndedList self.old self.new d.ended.items) }
         ensures space { IfOk result (λ d. TellsEnd self.old self.new d.number d.space) }
         ensures err { OnErr result (self.new ≡ self.old) }
     {
