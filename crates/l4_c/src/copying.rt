@@ -2,8 +2,7 @@
 ghost use Rattle.std.specs.Prelude.{◌≡◌, Some};
 ghost use Rattle.l4_c.specs.Copied.{Copies};
 
-use l4_c_values::{EMPTY, HELD, NO_MEMORY};
-use l4_handles::KernelHandle;
+use l4_c_values::{EMPTY, HELD, KernelHandle, NO_MEMORY};
 use l4_ipc::Kernel;
 use std::alloc::Global;
 

@@ -4,8 +4,7 @@ ghost use Rattle.l4_c.specs.Planned.{placed};
 ghost use Rattle.l4_c.specs.Descended.{place_result, ListsDescendants, TellsDescendants};
 
 use crate::locking::CountResult;
-use l4_c_values::{EMPTY, NO_MEMORY};
-use l4_handles::KernelHandle;
+use l4_c_values::{EMPTY, KernelHandle, NO_MEMORY};
 use l4_ipc::{Kernel, Place};
 use std::alloc::Global;
 

@@ -5,8 +5,7 @@ ghost use Rattle.l4_c_values.specs.Told.{done_result};
 ghost use Rattle.l4_c.specs.Exports.{Follows, Goes, Enters};
 
 use crate::stepping::start;
-use l4_c_values::{CallGiven, EMPTY, EnterResult, NextResult, done_told, refused};
-use l4_handles::KernelHandle;
+use l4_c_values::{CallGiven, EMPTY, EnterResult, KernelHandle, NextResult, done_told, refused};
 use l4_ipc::{Kernel, NextStep};
 use std::alloc::Global;
 

@@ -7,8 +7,7 @@ ghost use Rattle.l4_c.specs.Served.{MakesOwners, TellsSigma0sAnswer};
 
 use crate::messages::{MessageResult, message_told, no_message, unread};
 use crate::sizes::size_of;
-use l4_c_values::{BAD_FRAMES, EMPTY, HELD, NO_MEMORY, NO_SUCH_SIZE};
-use l4_handles::Sigma0Handle;
+use l4_c_values::{BAD_FRAMES, EMPTY, HELD, NO_MEMORY, NO_SUCH_SIZE, Sigma0Handle};
 use l4_ipc::{Message, PageSize};
 use l4_sigma0::{MAX_FRAMES, Sigma0};
 use std::alloc::Global;

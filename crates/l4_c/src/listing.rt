@@ -3,8 +3,7 @@ ghost use Rattle.std.specs.Prelude.{◌≡◌};
 ghost use Rattle.l4_c.specs.Listed.{TellsNextThread, TellsNextSpace, thread_result};
 
 use crate::asking::space_told;
-use l4_c_values::{EMPTY, SpaceResult};
-use l4_handles::KernelHandle;
+use l4_c_values::{EMPTY, KernelHandle, SpaceResult};
 use std::alloc::Global;
 
 /// The number of a thread; `there` is 0 if there is none.

@@ -12,12 +12,11 @@ ghost use Rattle.l4_c.specs.Locking.{MakesLock, Gives, GivesSeat, EntersCall, En
 use crate::checking::Verdict;
 use crate::sizes::size_of;
 use l4_c_values::{
-    CallGiven, EMPTY, EntryResult, HELD, NO_MEMORY, NO_SUCH_CALL, NO_SUCH_SIZE, ReceiptResult,
-    ReplyResult, SeatResult, SeatedResult, entered_told, entry_told, lock_detail, lock_number,
-    mismatch_told, no_entry, no_receipt, no_reply, no_seat, receipt_told, reply_told, seat_told,
-    unseated, write_call,
+    CallGiven, EMPTY, EntryResult, HELD, LockHandle, NO_MEMORY, NO_SUCH_CALL, NO_SUCH_SIZE,
+    ReceiptResult, ReplyResult, SeatResult, SeatedResult, entered_told, entry_told, lock_detail,
+    lock_number, mismatch_told, no_entry, no_receipt, no_reply, no_seat, receipt_told, reply_told,
+    seat_told, unseated, write_call,
 };
-use l4_handles::LockHandle;
 use l4_ipc::{ArrayVec, Call, IpcCall, PageSize, ThreadId};
 use l4_seated_lock::SeatedLock;
 use std::alloc::Global;

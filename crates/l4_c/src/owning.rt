@@ -6,8 +6,7 @@ ghost use Rattle.l4_c.specs.Exports.{Boots};
 ghost use Rattle.l4_c.specs.InBytes.{InBytes};
 
 use crate::sizes::size_of;
-use l4_c_values::{HELD, NO_MEMORY, NO_SUCH_SIZE, kernel_number};
-use l4_handles::KernelHandle;
+use l4_c_values::{HELD, KernelHandle, NO_MEMORY, NO_SUCH_SIZE, kernel_number};
 use l4_ipc::{Kernel, PageSize};
 use std::alloc::Global;
 

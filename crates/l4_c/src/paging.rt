@@ -8,8 +8,9 @@ ghost use Rattle.l4_c.specs.Served.{entry_refusal, MakesTable, Adds, FindsSource
 use crate::messages::{MessageResult, message_told, no_message, unread};
 use crate::regions::{RegionGiven, entry_of};
 use crate::sizes::size_of;
-use l4_c_values::{EMPTY, HELD, NO_MEMORY, NO_SUCH_SIZE, PageResult, no_page, page_told, rights};
-use l4_handles::PagerHandle;
+use l4_c_values::{
+    EMPTY, HELD, NO_MEMORY, NO_SUCH_SIZE, PageResult, PagerHandle, no_page, page_told, rights,
+};
 use l4_ipc::{Message, PageSize};
 use l4_pager::{PagerRefusal, RegionPager};
 use std::alloc::Global;

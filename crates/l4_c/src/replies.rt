@@ -2,8 +2,7 @@
 ghost use Rattle.std.specs.Prelude.{◌≡◌};
 ghost use Rattle.l4_c.specs.Asked.{TellsReply};
 
-use l4_c_values::{EMPTY, ReplyResult, no_reply, reply_told};
-use l4_handles::KernelHandle;
+use l4_c_values::{EMPTY, KernelHandle, ReplyResult, no_reply, reply_told};
 use std::alloc::Global;
 
 /// Returns the reply of the thread's last call, if that has ended. Refuses an empty handle (B1).

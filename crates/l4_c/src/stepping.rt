@@ -6,10 +6,9 @@ ghost use Rattle.l4_ipc.specs.declared.steps.Step.TheVariants.{Start, Transfer, 
 ghost use Rattle.l4_c.specs.Exports.{Answers, Starts, Names, GoesOn};
 
 use l4_c_values::{
-    CallGiven, DELETE, EMPTY, NO_SUCH_CALL, NextResult, StepResult, answered, delete, done_told,
-    kernel_detail, kernel_number, no_step, refused, step_told, told, write_call,
+    CallGiven, DELETE, EMPTY, KernelHandle, NO_SUCH_CALL, NextResult, StepResult, answered, delete,
+    done_told, kernel_detail, kernel_number, no_step, refused, step_told, told, write_call,
 };
-use l4_handles::KernelHandle;
 use l4_ipc::{Answer, ArrayVec, Call, IpcCall, Kernel, Outcome, Step, ThreadId};
 use std::alloc::Global;
 

@@ -6,10 +6,9 @@ ghost use Rattle.l4_c.specs.Traced.{TracesPage, TellsProvenance, JudgesLinks, Te
 
 use crate::checking::{Verdict, verdict_of};
 use l4_c_values::{
-    ChainResult, EMPTY, Link, NO_MEMORY, OTHER_CHAIN, chain_told, fault_detail, fault_number,
-    link_given, link_told, no_chain,
+    ChainResult, EMPTY, Link, LockHandle, NO_MEMORY, OTHER_CHAIN, chain_told, fault_detail,
+    fault_number, link_given, link_told, no_chain,
 };
-use l4_handles::LockHandle;
 use l4_ipc::Place;
 use l4_record::ChainLink;
 use l4_seated_lock::SeatedLock;

@@ -4,8 +4,7 @@ ghost use Rattle.l4_ipc.specs.Machine.{Machine};
 ghost use Rattle.l4_c.specs.Watched.{verdict_of, place_of, expected_of, next_or_none, judge_result, unjudged_result, TellsJudged, JudgesFor, Judges};
 
 use crate::texts::write_text;
-use l4_c_values::{EMPTY, NO_MEMORY, NO_SUCH_STEP, NextResult, no_step, step_told};
-use l4_handles::KernelHandle;
+use l4_c_values::{EMPTY, KernelHandle, NO_MEMORY, NO_SUCH_STEP, NextResult, no_step, step_told};
 use l4_ipc::Kernel;
 use l4_step_lines::{Judgement, Unjudged, judge_step};
 use std::alloc::Global;

@@ -1,1 +1,5 @@
+pub mod Forms
+pub mod Handles
+pub mod Holding
 pub mod Lists
+pub mod Values

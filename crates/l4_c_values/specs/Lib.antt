@@ -1,4 +1,5 @@
 pub mod Called
+pub mod Inside
 pub mod Lines
 pub mod Linked
 pub mod Recorded

@@ -1,0 +1,9 @@
+-- `of` keeps the pointer.
+use Rattle.l4_c_values.specs.contracts.sigma0s.Sigma0Handle.of.Key.{name}
+use Rattle.l4_c_values.proofs.sigma0s.Sigma0Handle.of.Statement.{statement}
+use Rattle.l4_c_values.proofs.sigma0s.Sigma0Handle.of.Code.{unfolded}
+use Rattle.l4_c_values.proofs.Forms.{sigma0}
+use Rattle.l4_c_values.proofs.Handles.Of.{makes_of}
+
+pub of_spec : {M : Type 1} → statement M
+of_spec 𝓤 𝓛 𝓜 𝓡 wired = makes_of sigma0 𝓛 𝓜 𝓡 name (unfolded 𝓤 𝓛.H 𝓜 𝓡 wired)

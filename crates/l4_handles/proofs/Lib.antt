@@ -1,4 +1,0 @@
-pub mod Forms
-pub mod Handles
-pub mod Holding
-pub mod Values

@@ -1,9 +1,0 @@
--- `empty` makes a null pointer.
-use Rattle.l4_handles.specs.contracts.kernels.KernelHandle.empty.Key.{name}
-use Rattle.l4_handles.proofs.kernels.KernelHandle.empty.Statement.{statement}
-use Rattle.l4_handles.proofs.kernels.KernelHandle.empty.Code.{unfolded}
-use Rattle.l4_handles.proofs.Forms.{kernel}
-use Rattle.l4_handles.proofs.Handles.Empty.{makes_empty}
-
-pub empty_spec : {M : Type 1} → statement M
-empty_spec 𝓤 𝓛 𝓜 𝓡 wired = makes_empty kernel 𝓛 𝓜 𝓡 name (unfolded 𝓤 𝓛.H 𝓜 𝓡 wired)

@@ -1,9 +1,0 @@
--- `of` keeps the pointer.
-use Rattle.l4_handles.specs.contracts.kernels.KernelHandle.of.Key.{name}
-use Rattle.l4_handles.proofs.kernels.KernelHandle.of.Statement.{statement}
-use Rattle.l4_handles.proofs.kernels.KernelHandle.of.Code.{unfolded}
-use Rattle.l4_handles.proofs.Forms.{kernel}
-use Rattle.l4_handles.proofs.Handles.Of.{makes_of}
-
-pub of_spec : {M : Type 1} → statement M
-of_spec 𝓤 𝓛 𝓜 𝓡 wired = makes_of kernel 𝓛 𝓜 𝓡 name (unfolded 𝓤 𝓛.H 𝓜 𝓡 wired)

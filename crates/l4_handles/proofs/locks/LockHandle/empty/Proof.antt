@@ -1,9 +1,0 @@
--- `empty` makes a null pointer.
-use Rattle.l4_handles.specs.contracts.locks.LockHandle.empty.Key.{name}
-use Rattle.l4_handles.proofs.locks.LockHandle.empty.Statement.{statement}
-use Rattle.l4_handles.proofs.locks.LockHandle.empty.Code.{unfolded}
-use Rattle.l4_handles.proofs.Forms.{lock}
-use Rattle.l4_handles.proofs.Handles.Empty.{makes_empty}
-
-pub empty_spec : {M : Type 1} → statement M
-empty_spec 𝓤 𝓛 𝓜 𝓡 wired = makes_empty lock 𝓛 𝓜 𝓡 name (unfolded 𝓤 𝓛.H 𝓜 𝓡 wired)

@@ -1,9 +1,0 @@
--- `of` keeps the pointer.
-use Rattle.l4_handles.specs.contracts.locks.LockHandle.of.Key.{name}
-use Rattle.l4_handles.proofs.locks.LockHandle.of.Statement.{statement}
-use Rattle.l4_handles.proofs.locks.LockHandle.of.Code.{unfolded}
-use Rattle.l4_handles.proofs.Forms.{lock}
-use Rattle.l4_handles.proofs.Handles.Of.{makes_of}
-
-pub of_spec : {M : Type 1} → statement M
-of_spec 𝓤 𝓛 𝓜 𝓡 wired = makes_of lock 𝓛 𝓜 𝓡 name (unfolded 𝓤 𝓛.H 𝓜 𝓡 wired)

@@ -1,9 +1,0 @@
--- `into_loose` tests the pointer, and has the box where there is one.
-use Rattle.l4_handles.specs.contracts.pagers.PagerHandle.into_loose.Key.{name}
-use Rattle.l4_handles.proofs.pagers.PagerHandle.into_loose.Statement.{statement}
-use Rattle.l4_handles.proofs.pagers.PagerHandle.into_loose.Code.{unfolded}
-use Rattle.l4_handles.proofs.Forms.{pager}
-use Rattle.l4_handles.proofs.Handles.IntoLoose.{makes_into_loose}
-
-pub into_loose_spec : {M : Type 1} → statement M
-into_loose_spec 𝓤 𝓛 𝓜 𝓡 wired = makes_into_loose pager 𝓛 𝓜 𝓡 name (unfolded 𝓤 𝓛.H 𝓜 𝓡 wired)

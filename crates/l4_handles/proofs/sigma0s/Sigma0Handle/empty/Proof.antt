@@ -1,9 +1,0 @@
--- `empty` makes a null pointer.
-use Rattle.l4_handles.specs.contracts.sigma0s.Sigma0Handle.empty.Key.{name}
-use Rattle.l4_handles.proofs.sigma0s.Sigma0Handle.empty.Statement.{statement}
-use Rattle.l4_handles.proofs.sigma0s.Sigma0Handle.empty.Code.{unfolded}
-use Rattle.l4_handles.proofs.Forms.{sigma0}
-use Rattle.l4_handles.proofs.Handles.Empty.{makes_empty}
-
-pub empty_spec : {M : Type 1} → statement M
-empty_spec 𝓤 𝓛 𝓜 𝓡 wired = makes_empty sigma0 𝓛 𝓜 𝓡 name (unfolded 𝓤 𝓛.H 𝓜 𝓡 wired)
