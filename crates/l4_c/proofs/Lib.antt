@@ -1,4 +1,3 @@
-pub mod Bytes
 pub mod Following
 pub mod Placing
 pub mod Starting

@@ -4,7 +4,6 @@ pub mod Listed
 pub mod Read
 pub mod Checked
 pub mod Exports
-pub mod InBytes
 pub mod Locking
 pub mod Planned
 pub mod Served

@@ -1,6 +1,5 @@
 -- Plans as C gets them (this profile's own).
 use Rattle.std.specs.Prelude.{◌≡◌, ◌⊎◌, ℕ, ◌<◌, ◌≤◌, List, [], ◌∷◌, length, codes}
-use Rattle.l4_fpage.specs.Rights.{set_of_bits}
 use Rattle.l4_fpage.specs.declared.sizes.PageSize.{PageSize}
 use Rattle.l4_msg.specs.Messages.{message_words}
 use Rattle.l4_msg.specs.Regions.{IsEmpty, IsOutOfSpace, InSpace, HasNoRights, messages_of, part_of_list}
@@ -10,12 +9,8 @@ use Rattle.l4_plan.specs.Plan.{Listing, Sends}
 use Rattle.l4_plan.specs.Shortest.{IsShortest, IsTooLong}
 use Rattle.l4_refusals.specs.Texts.{spelled}
 use Rattle.l4_c_values.specs.Told.{filled}
-use Rattle.l4_c.specs.declared.regions.RegionGiven.{RegionGiven}
 use Rattle.l4_c.specs.declared.planning.PartResult.{PartResult}
 use Rattle.l4_c.specs.declared.planning.PlanResult.{PlanResult}
-
-abbrev pub region_of : RegionGiven → Region
-region_of g = record { source = g.source; target = g.target; count = g.count; rights = set_of_bits g.rights }
 
 -- the number of items and of messages; or the code of the reason why there is no plan, and zeros
 abbrev pub plan_result : ℕ → ℕ → ℕ → PlanResult

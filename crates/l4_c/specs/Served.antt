@@ -1,31 +1,25 @@
 -- The tables of pagers and of sigma0, as C uses them (this profile's own).
-use Rattle.std.specs.Prelude.{◌≡◌, ◌⊎◌, ℕ, ◌<◌, ◌≤◌, List, [], length, codes, Option, None, Some, MatchOption}
+use Rattle.std.specs.Prelude.{◌≡◌, ◌⊎◌, ℕ, ◌<◌, ◌≤◌, List, codes, Option, None, Some, MatchOption}
 use Rattle.std.specs.FinMap as fin
 use Rattle.l4_fpage.specs.Pages.{max_frames}
 use Rattle.l4_fpage.specs.Rights.{set_of_bits}
 use Rattle.l4_fpage.specs.declared.sizes.PageSize.{PageSize}
-use Rattle.l4_msg.specs.Messages.{MessageReads, MessageFails, message_words}
+use Rattle.l4_msg.specs.Messages.{MessageReads}
 use Rattle.l4_msg.specs.declared.messages.Message.{Message}
-use Rattle.l4_msg.specs.declared.messages.MsgFault.{MsgFault}
 use Rattle.l4_pager.specs.Regions.{Regions, no_entries, with_entry, CanAdd, AddFails, code_of, entry_for, source_of, Answers as AnswersByTable}
-use Rattle.l4_pager.specs.declared.regions.Entry.{Entry}
 use Rattle.l4_pager.specs.declared.regions.PagerRefusal.{PagerRefusal}
 use Rattle.l4_pager.specs.declared.regions.PagerRefusal.TheVariants.{NoRegion}
 use Rattle.l4_sigma0.specs.Owners.{Owners, Answers as AnswersByOwners}
-use Rattle.l4_answers.specs.Refusals.{message_refusal}
 use Rattle.l4_refusals.specs.Texts.{spelled}
-use Rattle.l4_c_values.specs.Told.{carried, filled}
 use Rattle.l4_c_values.specs.Told.{no_page_result, page_result}
-use Rattle.l4_c.specs.declared.regions.RegionGiven.{RegionGiven}
+use Rattle.l4_c_values.specs.declared.regions.RegionGiven.{RegionGiven}
 use Rattle.l4_c_values.specs.declared.results.PageResult.{PageResult}
-use Rattle.l4_c.specs.declared.messages.MessageResult.{MessageResult}
+use Rattle.l4_c_values.specs.declared.messages.MessageResult.{MessageResult}
+use Rattle.l4_c_values.specs.Messages.{no_message_result, message_result, TellsUnread}
+use Rattle.l4_c_values.specs.Regions.{entry_of}
 
 abbrev pub entry_refusal : PagerRefusal → ℕ
 entry_refusal refusal = spelled (code_of refusal)
-
--- the region as an entry of a table: its target pages are the pages that the entry serves
-abbrev pub entry_of : RegionGiven → Entry
-entry_of g = record { first = g.target; source = g.source; count = g.count; rights = set_of_bits g.rights }
 
 -- An empty handle then holds a table without entries for pages of this size, unless an allocation failed. A handle that is not empty is
 -- refused (B2) and unchanged.
@@ -45,19 +39,6 @@ abbrev pub FindsSource : Option Regions → ℕ → ℕ → PageResult → Type 
 FindsSource None page access r = r ≡ no_page_result (spelled (codes "B1"))
 FindsSource (Some t) page access r =
     MatchOption (entry_for t.entries page (set_of_bits access)) (r ≡ no_page_result (entry_refusal NoRegion)) (λ e. r ≡ page_result (source_of e page))
-
--- no message; the code and its number say why
-abbrev pub no_message_result : ℕ → ℕ → MessageResult
-no_message_result code number = record { refusal = code; detail = number; word_count = 0; words = filled 64 [] }
-
--- the words of a message
-abbrev pub message_result : Message → MessageResult
-message_result m = record { refusal = 0; detail = 0; word_count = length (message_words m); words = filled 64 (message_words m) }
-
--- the reason why the words are not a message
-abbrev pub TellsUnread : List ℕ → MessageResult → Type 0
-TellsUnread words r =
-    (fault : MsgFault) × MessageFails words fault × (r ≡ no_message_result (spelled (message_refusal fault).name) (carried (message_refusal fault).number))
 
 -- the table's answer to the message, or the reason why the words are not a message
 abbrev pub TellsTablesAnswer : Option Regions → List ℕ → MessageResult → Type 0

@@ -5,9 +5,9 @@ ghost use Rattle.l4_mapdb.specs.Mappings.{shown};
 ghost use Rattle.l4_forest.specs.Places.{NonePresentFrom, IsNextPresent};
 ghost use Rattle.l4_c.specs.Asked.{TellsSpace, TellsSize, TellsMapping, TellsPage, space_result, no_mapping_result, mapping_result};
 
-use crate::sizes::bytes_of;
 use l4_c_values::{
-    EMPTY, KernelHandle, MappingResult, PageResult, SizeResult, SpaceResult, no_page, page_told,
+    EMPTY, KernelHandle, MappingResult, PageResult, SizeResult, SpaceResult, bytes_of, no_page,
+    page_told,
 };
 use l4_ipc::Mapping;
 use std::alloc::Global;

@@ -3,14 +3,14 @@ ghost use Rattle.std.specs.Prelude.{◌≡◌, ◌%◌, ◌≤◌, length, IfOk,
 ghost use Rattle.l4_fpage.specs.declared.sizes.PageSize.TheVariants.{Kib4};
 ghost use Rattle.l4_msg.specs.Words.{ItemsRead, FirstFails};
 ghost use Rattle.l4_refusals.specs.Texts.{spelled};
-ghost use Rattle.l4_c.specs.InBytes.{InBytes};
-ghost use Rattle.l4_c.specs.Planned.{region_of};
+ghost use Rattle.l4_c_values.specs.InBytes.{InBytes};
+ghost use Rattle.l4_c_values.specs.Regions.{region_of};
 ghost use Rattle.l4_c.specs.Checked.{ItemsFail, max_plan_words, verdict_of, fault_verdict, TellsCheck, TellsLongCheck};
 
-use crate::regions::{RegionGiven, region_of};
-use crate::sizes::size_of;
 use arrayvec::ArrayVec;
-use l4_c_values::{NO_SUCH_SIZE, message_detail, message_number, place_told};
+use l4_c_values::{
+    NO_SUCH_SIZE, RegionGiven, message_detail, message_number, place_told, region_of, size_of,
+};
 use l4_fpage::Fpage;
 use l4_ipc::PageSize;
 use l4_msg::{Item, ItemFault, MAX_PLAN_ITEMS, MsgFault};

@@ -2,12 +2,13 @@
 ghost use Rattle.std.specs.Prelude.{◌≡◌, None, Some, codes};
 ghost use Rattle.l4_fpage.specs.declared.sizes.PageSize.TheVariants.{Kib4};
 ghost use Rattle.l4_refusals.specs.Texts.{spelled};
-ghost use Rattle.l4_c.specs.InBytes.{InBytes};
+ghost use Rattle.l4_c_values.specs.InBytes.{InBytes};
 ghost use Rattle.l4_c.specs.Served.{MakesOwners, TellsSigma0sAnswer};
 
-use crate::messages::{MessageResult, message_told, no_message, unread};
-use crate::sizes::size_of;
-use l4_c_values::{BAD_FRAMES, EMPTY, HELD, NO_MEMORY, NO_SUCH_SIZE, Sigma0Handle};
+use l4_c_values::{
+    BAD_FRAMES, EMPTY, HELD, MessageResult, NO_MEMORY, NO_SUCH_SIZE, Sigma0Handle, message_told,
+    no_message, size_of, unread,
+};
 use l4_ipc::{Message, PageSize};
 use l4_sigma0::{MAX_FRAMES, Sigma0};
 use std::alloc::Global;

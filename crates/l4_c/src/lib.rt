@@ -9,14 +9,11 @@ mod entering;
 mod giving;
 mod listing;
 mod locking;
-mod messages;
 mod owning;
 mod paging;
 mod planning;
 mod reading;
-mod regions;
 mod replies;
-mod sizes;
 mod stepping;
 mod texts;
 mod tracing;
@@ -36,7 +33,6 @@ pub use locking::{
     CountResult, l4_lock_close, l4_lock_enter, l4_lock_entry, l4_lock_free, l4_lock_give,
     l4_lock_length, l4_lock_new, l4_lock_new_sized, l4_lock_receipt, l4_lock_seat_of, l4_lock_take,
 };
-pub use messages::MessageResult;
 pub use owning::{l4_boot, l4_boot_sized, l4_free};
 pub use paging::{
     l4_pager_add, l4_pager_answer, l4_pager_find, l4_pager_free, l4_pager_new, l4_pager_new_sized,
@@ -45,11 +41,10 @@ pub use planning::{
     PartResult, PlanResult, l4_plan_message, l4_plan_message_sized, l4_plan_pages,
     l4_plan_pages_sized, l4_plan_region, l4_plan_region_sized,
 };
-pub use reading::{FaultResult, RequestResult, l4_read_fault, l4_read_request};
-pub use regions::RegionGiven;
+pub use reading::{l4_read_fault, l4_read_request};
 pub use replies::l4_reply_of;
 pub use stepping::{l4_enabled, l4_expire, l4_next, l4_start, l4_transfer};
 pub use texts::{l4_refusal_code, l4_refusal_text, l4_reply_text, l4_step_text};
 pub use tracing::{l4_lock_check_provenance, l4_lock_provenance};
 pub use versions::l4_version;
-pub use watching::{JudgeResult, l4_judge};
+pub use watching::l4_judge;

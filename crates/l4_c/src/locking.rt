@@ -6,16 +6,15 @@ ghost use Rattle.l4_lock.specs.Books.{SeatState};
 ghost use Rattle.l4_seated_lock.specs.Seated.{seat_at};
 ghost use Rattle.l4_refusals.specs.Texts.{spelled};
 ghost use Rattle.l4_c_values.specs.Recorded.{entry_result, seat_result, receipt_result};
-ghost use Rattle.l4_c.specs.InBytes.{InBytes};
+ghost use Rattle.l4_c_values.specs.InBytes.{InBytes};
 ghost use Rattle.l4_c.specs.Locking.{MakesLock, Gives, GivesSeat, EntersCall, EntersSeat, TakesReply, TakesSeat, TellsLength, TellsEntry, TellsSeat, TellsReceipt, ClosesLock};
 
 use crate::checking::Verdict;
-use crate::sizes::size_of;
 use l4_c_values::{
     CallGiven, EMPTY, EntryResult, HELD, LockHandle, NO_MEMORY, NO_SUCH_CALL, NO_SUCH_SIZE,
     ReceiptResult, ReplyResult, SeatResult, SeatedResult, entered_told, entry_told, lock_detail,
     lock_number, mismatch_told, no_entry, no_receipt, no_reply, no_seat, receipt_told, reply_told,
-    seat_told, unseated, write_call,
+    seat_told, size_of, unseated, write_call,
 };
 use l4_ipc::{ArrayVec, Call, IpcCall, PageSize, ThreadId};
 use l4_seated_lock::SeatedLock;

@@ -3,10 +3,9 @@ ghost use Rattle.std.specs.Prelude.{◌≡◌, None, codes};
 ghost use Rattle.l4_fpage.specs.declared.sizes.PageSize.TheVariants.{Kib4};
 ghost use Rattle.l4_refusals.specs.Texts.{spelled};
 ghost use Rattle.l4_c.specs.Exports.{Boots};
-ghost use Rattle.l4_c.specs.InBytes.{InBytes};
+ghost use Rattle.l4_c_values.specs.InBytes.{InBytes};
 
-use crate::sizes::size_of;
-use l4_c_values::{HELD, KernelHandle, NO_MEMORY, NO_SUCH_SIZE, kernel_number};
+use l4_c_values::{HELD, KernelHandle, NO_MEMORY, NO_SUCH_SIZE, kernel_number, size_of};
 use l4_ipc::{Kernel, PageSize};
 use std::alloc::Global;
 

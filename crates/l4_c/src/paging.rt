@@ -2,14 +2,12 @@
 ghost use Rattle.std.specs.Prelude.{◌≡◌, None, Some, codes};
 ghost use Rattle.l4_fpage.specs.declared.sizes.PageSize.TheVariants.{Kib4};
 ghost use Rattle.l4_refusals.specs.Texts.{spelled};
-ghost use Rattle.l4_c.specs.InBytes.{InBytes};
+ghost use Rattle.l4_c_values.specs.InBytes.{InBytes};
 ghost use Rattle.l4_c.specs.Served.{entry_refusal, MakesTable, Adds, FindsSource, TellsTablesAnswer};
 
-use crate::messages::{MessageResult, message_told, no_message, unread};
-use crate::regions::{RegionGiven, entry_of};
-use crate::sizes::size_of;
 use l4_c_values::{
-    EMPTY, HELD, NO_MEMORY, NO_SUCH_SIZE, PageResult, PagerHandle, no_page, page_told, rights,
+    EMPTY, HELD, MessageResult, NO_MEMORY, NO_SUCH_SIZE, PageResult, PagerHandle, RegionGiven,
+    entry_of, message_told, no_message, no_page, page_told, rights, size_of, unread,
 };
 use l4_ipc::{Message, PageSize};
 use l4_pager::{PagerRefusal, RegionPager};

@@ -2,12 +2,10 @@
 ghost use Rattle.std.specs.Prelude.{◌≡◌, ◌≤◌, [], length, codes};
 ghost use Rattle.l4_fpage.specs.declared.sizes.PageSize.TheVariants.{Kib4};
 ghost use Rattle.l4_refusals.specs.Texts.{spelled};
-ghost use Rattle.l4_c.specs.InBytes.{InBytes};
+ghost use Rattle.l4_c_values.specs.InBytes.{InBytes};
 ghost use Rattle.l4_c.specs.Planned.{region_of, plan_result, part_result, PartIsTold, TellsPlan, TellsPart, placed, TellsPages};
 
-use crate::regions::{RegionGiven, region_of};
-use crate::sizes::size_of;
-use l4_c_values::{NO_SUCH_SIZE, padded};
+use l4_c_values::{NO_SUCH_SIZE, RegionGiven, padded, region_of, size_of};
 use l4_ipc::{MAX_WORDS, PageSize};
 use l4_msg::MAX_ITEMS;
 use l4_plan::{Pages, Plan, PlanRefusal, plan};

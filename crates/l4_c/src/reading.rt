@@ -1,64 +1,11 @@
 //! Reads page faults and requests for frames from the messages that a pager or sigma0 receives.
-ghost use Rattle.std.specs.Prelude.{◌≡◌};
-ghost use Rattle.l4_c.specs.Read.{TellsFault, TellsFaultOf, TellsRequest, TellsRequestOf, no_fault_result, no_request_result};
+ghost use Rattle.l4_c.specs.Read.{TellsFault, TellsRequest};
 
-use l4_c_values::{message_detail, message_number};
+use l4_c_values::{
+    FaultResult, RequestResult, fault_told, message_detail, message_number, no_fault, no_request,
+    request_told,
+};
 use l4_ipc::Message;
-use l4_msg::{FrameRequest, PageFault};
-
-/// A page fault; `there` is 0 if the message is none.
-#[repr(C)]
-#[derive(Clone, Copy)]
-pub struct FaultResult {
-    pub refusal: u32,
-    pub detail: u32,
-    pub there: u32,
-    pub address: u32,
-    pub ip: u32,
-    pub access: u32,
-}
-
-/// A request for frames; `there` is 0 if the message is none.
-#[repr(C)]
-#[derive(Clone, Copy)]
-pub struct RequestResult {
-    pub refusal: u32,
-    pub detail: u32,
-    pub there: u32,
-    pub fpage: u32,
-    pub attributes: u32,
-}
-
-/// Returns a result with this refusal and no fault.
-fn no_fault(refusal: u32, detail: u32) -> FaultResult
-    ensures { result ≡ no_fault_result refusal detail }
-{
-    FaultResult {
-        refusal,
-        detail,
-        there: 0,
-        address: 0,
-        ip: 0,
-        access: 0,
-    }
-}
-
-/// Returns the page fault that the message is, if it is one.
-fn fault_of(message: &Message) -> FaultResult
-    ensures { TellsFaultOf message.now result }
-{
-    match PageFault::read(message) {
-        Some(fault) => FaultResult {
-            refusal: 0,
-            detail: 0,
-            there: 1,
-            address: fault.address,
-            ip: fault.ip,
-            access: u32::from(fault.access.bits()),
-        },
-        None => no_fault(0, 0),
-    }
-}
 
 /// Reads the words of a message as a page fault. The refusals are those of the message.
 #[unsafe(no_mangle)]
@@ -66,37 +13,8 @@ pub extern "C" fn l4_read_fault(words: &[u32]) -> FaultResult
     ensures { TellsFault words.now result }
 {
     match Message::read(words) {
-        Ok(message) => fault_of(&message),
+        Ok(message) => fault_told(&message),
         Err(fault) => no_fault(message_number(fault), message_detail(fault)),
-    }
-}
-
-/// Returns a result with this refusal and no request.
-fn no_request(refusal: u32, detail: u32) -> RequestResult
-    ensures { result ≡ no_request_result refusal detail }
-{
-    RequestResult {
-        refusal,
-        detail,
-        there: 0,
-        fpage: 0,
-        attributes: 0,
-    }
-}
-
-/// Returns the request for frames that the message is, if it is one.
-fn request_of(message: &Message) -> RequestResult
-    ensures { TellsRequestOf message.now result }
-{
-    match FrameRequest::read(message) {
-        Some(request) => RequestResult {
-            refusal: 0,
-            detail: 0,
-            there: 1,
-            fpage: request.fpage.word(),
-            attributes: request.attributes,
-        },
-        None => no_request(0, 0),
     }
 }
 
@@ -106,7 +24,7 @@ pub extern "C" fn l4_read_request(words: &[u32]) -> RequestResult
     ensures { TellsRequest words.now result }
 {
     match Message::read(words) {
-        Ok(message) => request_of(&message),
+        Ok(message) => request_told(&message),
         Err(fault) => no_request(message_number(fault), message_detail(fault)),
     }
 }

@@ -1,7 +1,12 @@
 pub mod Called
+pub mod InBytes
 pub mod Inside
+pub mod Judged
 pub mod Lines
 pub mod Linked
+pub mod Messages
+pub mod Protocols
 pub mod Recorded
+pub mod Regions
 pub mod Replied
 pub mod Told

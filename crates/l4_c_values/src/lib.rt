@@ -3,34 +3,43 @@
 #![tactic(auto)]
 
 mod calls;
+mod judgements;
 mod kernels;
 mod lines;
 mod links;
 mod locks;
 mod loose;
+mod messages;
 mod numbers;
 mod pagers;
+mod protocols;
 mod recorded;
+mod regions;
 mod replies;
 mod results;
 mod sigma0s;
+mod sizes;
 
 pub use calls::{CallGiven, DELETE, delete, rights, write_call};
+pub use judgements::{JudgeResult, expected_of, judge_told, unjudged};
 pub use kernels::KernelHandle;
 pub use lines::{Line, MAX_LINE, reply_line, step_line};
 pub use links::{
     ChainResult, Link, chain_told, fault_detail, fault_number, link_given, link_told, no_chain,
 };
 pub use locks::LockHandle;
+pub use messages::{MessageResult, message_told, no_message, unread};
 pub use numbers::{
     BAD_FRAMES, EMPTY, HELD, NO_MEMORY, NO_SUCH_CALL, NO_SUCH_SIZE, NO_SUCH_STEP, OTHER_ANSWER,
     OTHER_CHAIN, kernel_detail, kernel_number, message_detail, message_number,
 };
 pub use pagers::PagerHandle;
+pub use protocols::{FaultResult, RequestResult, fault_told, no_fault, no_request, request_told};
 pub use recorded::{
     EntryResult, ReceiptResult, SeatResult, SeatedResult, entered_told, entry_told, lock_detail,
     lock_number, mismatch_told, no_entry, no_receipt, no_seat, receipt_told, seat_told, unseated,
 };
+pub use regions::{RegionGiven, entry_of, region_of};
 pub use replies::{no_reply, reply_told};
 pub use results::{
     EnterResult, MappingResult, NextResult, PageResult, ReplyResult, SizeResult, SpaceResult,
@@ -38,3 +47,4 @@ pub use results::{
     step_told, told,
 };
 pub use sigma0s::Sigma0Handle;
+pub use sizes::{bytes_of, size_of};

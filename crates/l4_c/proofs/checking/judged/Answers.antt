@@ -1,7 +1,7 @@
 use Rattle.std.proofs.Common.{List, inr, subst}
 use Rattle.l4_msg.specs.declared.items.Item.{Item}
 use Rattle.l4_msg.specs.declared.regions.Region.{Region}
-use Rattle.l4_c.specs.Planned.{region_of}
+use Rattle.l4_c_values.specs.Regions.{region_of}
 use Rattle.l4_c.specs.Checked.{IsProved}
 use Rattle.l4_c.proofs.checking.judged.Goals as goal
 

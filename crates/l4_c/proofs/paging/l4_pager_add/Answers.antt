@@ -1,7 +1,8 @@
 use Rattle.std.proofs.Common.{Option, Some, inr, sym, ap, ◌∙◌, subst}
 use Rattle.l4_pager.specs.declared.regions.Entry.{Entry}
 use Rattle.l4_pager.specs.Regions.{Regions, AddFails}
-use Rattle.l4_c.specs.Served.{Adds, entry_of}
+use Rattle.l4_c.specs.Served.{Adds}
+use Rattle.l4_c_values.specs.Regions.{entry_of}
 use Rattle.l4_c.proofs.paging.l4_pager_add.Goals as goal
 
 pub returns-in-Err : goal.returns-in-Err

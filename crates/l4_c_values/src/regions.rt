@@ -1,9 +1,8 @@
 //! Converts the regions that C passes.
 ghost use Rattle.std.specs.Prelude.{◌≡◌};
-ghost use Rattle.l4_c.specs.Planned.{region_of};
-ghost use Rattle.l4_c.specs.Served.{entry_of};
+ghost use Rattle.l4_c_values.specs.Regions.{region_of, entry_of};
 
-use l4_c_values::rights;
+use crate::calls::rights;
 use l4_msg::Region;
 use l4_pager::Entry;
 

@@ -1,7 +1,7 @@
 //! Converts page sizes between bytes and `PageSize`.
 ghost use Rattle.std.specs.Prelude.{◌≡◌, MatchOption};
 ghost use Rattle.l4_fpage.specs.Pages.{page_bytes};
-ghost use Rattle.l4_c.specs.InBytes.{IsNoSize};
+ghost use Rattle.l4_c_values.specs.InBytes.{IsNoSize};
 
 use l4_ipc::PageSize;
 

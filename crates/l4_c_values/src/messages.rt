@@ -1,9 +1,10 @@
 //! Makes the results that contain a message.
 ghost use Rattle.std.specs.Prelude.{◌≡◌, ℕ, List};
 ghost use Rattle.l4_msg.specs.Messages.{CanBeWritten, MessageFails};
-ghost use Rattle.l4_c.specs.Served.{no_message_result, message_result, TellsUnread};
+ghost use Rattle.l4_c_values.specs.Messages.{no_message_result, message_result, TellsUnread};
 
-use l4_c_values::{message_detail, message_number, padded};
+use crate::numbers::{message_detail, message_number};
+use crate::results::padded;
 use l4_ipc::{MAX_WORDS, Message};
 use l4_msg::MsgFault;
 
