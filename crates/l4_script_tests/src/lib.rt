@@ -13,3 +13,5 @@ mod recorder;
 mod servers;
 #[cfg(test)]
 mod shell;
+#[cfg(test)]
+mod step_lines;

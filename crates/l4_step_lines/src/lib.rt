@@ -19,6 +19,3 @@ pub use laws::the_line_of_a_step_reads_back;
 pub use running::{Fault, run};
 pub use session::put_answer;
 pub use watching::{Difference, Judgement, Unjudged, judge_step};
-
-#[cfg(test)]
-mod tests;

@@ -1,11 +1,7 @@
-use crate::answers::{enabled_text, ended_text, outcome_text, page_text};
-use crate::{Fault, judge, run};
-use arrayvec::ArrayVec;
-use l4_fpage::{PageSize, Rights};
-use l4_ipc::{Outcome, Step};
-use l4_mapdb::{Mapping, Place};
+//! Step lists that end early, and lists that another kernel answered.
+use l4_fpage::PageSize;
+use l4_step_lines::{Fault, judge, run};
 use l4_text::{Drip, RunFault};
-use l4_threads::{IpcReply, Reply, ThreadId};
 use std::test::Fail;
 
 const LIST: &[u8] = b"space 1\nenabled\nspace 2\n";
@@ -33,58 +29,6 @@ fn a_failing_read_loses_no_answer(rt: HostRuntime) -> Result<(), Fail> {
             "at {calls}"
         );
     }
-    Ok(())
-}
-
-/// Answers that the kernel does not give yet, or seldom gives.
-#[test]
-fn spells_every_answer(rt: HostRuntime) -> Result<(), Fail> {
-    for (outcome, text) in [
-        (Outcome::Entangled, b"entangled\n".as_slice()),
-        (Outcome::NoMemory, b"no-memory\n"),
-        (Outcome::Expired, b"expired\n"),
-    ] {
-        assert!(rt; outcome_text(b"", outcome).as_slice() == text);
-    }
-    assert!(rt;
-        enabled_text(Some(&Step::Expire(63))).as_slice() == b"enabled expire 63\n".as_slice()
-    );
-    for (reply, text) in [
-        (Reply::Hit, b"7 hit".as_slice()),
-        (Reply::Answered, b"7 answered"),
-        (Reply::FaultFailed(5), b"7 failed 5"),
-        (Reply::Unmapped, b"7 unmapped"),
-        (Reply::Gone, b"7 gone"),
-    ] {
-        assert!(rt; ended_text(b"", 7, Some(&reply)).as_slice() == text);
-    }
-    assert!(rt; ended_text(b"", 7, None).as_slice() == b"7 gone".as_slice());
-    let reply = Reply::Ipc(IpcReply {
-        tag: 0xfedc_ba98,
-        error: 9,
-        from: ThreadId(0x0123_4567),
-        words: ArrayVec::new(),
-    });
-    assert!(rt;
-        ended_text(b"", 262_143, Some(&reply)).as_slice()
-            == b"262143 ipc fedcba98 9 01234567".as_slice()
-    );
-    Ok(())
-}
-
-#[test]
-fn spells_a_page(rt: HostRuntime) -> Result<(), Fail> {
-    let mapping = Mapping {
-        frame: 4_095,
-        rights: Rights::of_bits(2),
-        parent: Some(Place {
-            space: 70,
-            page: 1_048_575,
-        }),
-    };
-    assert!(rt;
-        page_text(8, &mapping).as_slice() == b"page 8 frame 4095 -w- 70 1048575\n".as_slice()
-    );
     Ok(())
 }
 
