@@ -1,12 +1,14 @@
 -- Words of a command line that are read one by one.
 use Rattle.std.proofs.Common.{◌≡◌, ◌∙◌, ℕ, ◌+◌, ◌<◌, ◌≤◌, List, [], ◌∷◌, ◌++◌, length, map, get_or, take, drop, Option, Some, unwrap_or, refl, sym, ap, ap₂, subst, Bor}
-use Rattle.std.proofs.lemmas.List.{drop_all, drop_more, map-append, take_all, take_more}
+use Rattle.std.proofs.lemmas.List.{append-nil, append_assoc, drop_all, drop_more, map-append, take_all, take_more}
 use Rattle.clap.specs.Walk.{Text}
 use Rattle.l4_fpage.specs.declared.sizes.PageSize.{PageSize}
 use Rattle.l4_msg.specs.declared.messages.Message.{Message}
 use Rattle.l4_symbols.specs.Messages.{Adds, Begins}
+use Rattle.l4_symbols.specs.Words.{NamesWord}
+use Rattle.l4_symbols.specs.declared.words.WordKind.{WordKind}
 use Rattle.l4_text.specs.Numbers.{number_of}
-use Rattle.l4_options.specs.Spelled.{AddsEach, IsMessageOf}
+use Rattle.l4_options.specs.Spelled.{AddsEach, AreWords, IsMessageOf}
 
 -- the words of an argument that was found
 pub words_are : (words : List Text) (found : Option (List Text)) → Some words ≡ found → words ≡ unwrap_or found []
@@ -36,6 +38,27 @@ pub of_tag : (size own : PageSize) (tokens others : List (Bor Text)) (tag : Bor 
 of_tag size own tokens others tag token begun message same parts is begins adds =
     subst (λ (ts : List (Bor Text)). IsMessageOf size (map (λ s. s.now) ts) message) (sym parts)
     (begun, subst (λ (t : Text). Begins t begun) is begins, subst (λ (z : PageSize). AddsEach z (map (λ s. s.now) others) begun message) same adds)
+
+-- ---- tokens that name a word each
+
+-- the words of all tokens are those so far and those of the tokens from i on
+abbrev pub AreEncoded : WordKind → PageSize → List (Bor Text) → ℕ → List ℕ → Type 0
+AreEncoded kind size tokens i words =
+    (rest : List ℕ) → AreWords kind size (map (λ s. s.now) (drop i tokens)) rest → AreWords kind size (map (λ s. s.now) tokens) (words ++ rest)
+
+pub one_kind : (kind : WordKind) (size : PageSize) (tokens : List (Bor Text)) (i : ℕ) (other : Bor Text) (token : Text) (words after : List ℕ) (word : ℕ)
+    → i < length tokens → token ≡ (get_or tokens i other).now → NamesWord kind size token word → after ≡ words ++ word ∷ []
+    → AreEncoded kind size tokens i words → AreEncoded kind size tokens (i + 1) after
+one_kind kind size tokens i other token words after word less is names pushed encoded rest read =
+    let here = subst (λ (t : Text). NamesWord kind size t word) is names in
+    let grown = encoded (word ∷ rest) (subst (λ (ts : List (Bor Text)). AreWords kind size (map (λ s. s.now) ts) (word ∷ rest)) (sym (drop_more tokens i other less)) (word, rest, here, read, refl)) in
+    subst (AreWords kind size (map (λ s. s.now) tokens)) (sym (append_assoc words (word ∷ []) rest) ∙ ap (λ (ws : List ℕ). ws ++ rest) (sym pushed)) grown
+
+pub all_kinds : (kind : WordKind) (size : PageSize) (tokens : List (Bor Text)) (i : ℕ) (words : List ℕ) → length tokens ≤ i → AreEncoded kind size tokens i words
+    → AreWords kind size (map (λ s. s.now) tokens) words
+all_kinds kind size tokens i words all encoded =
+    subst (AreWords kind size (map (λ s. s.now) tokens)) (append-nil words)
+    (encoded [] (subst (λ (ts : List (Bor Text)). AreWords kind size (map (λ s. s.now) ts) []) (sym (drop_all i tokens all)) refl))
 
 -- ---- numbers
 

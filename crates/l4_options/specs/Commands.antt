@@ -66,7 +66,7 @@ abbrev pub decode_command : Shape
 decode_command = command (codes "decode") (needed_words (codes "words") ∷ option (codes "as") ∷ option (codes "page-size") ∷ [])
 
 abbrev pub encode_command : Shape
-encode_command = command (codes "encode") (needed_words (codes "tokens") ∷ option (codes "page-size") ∷ [])
+encode_command = command (codes "encode") (needed_words (codes "tokens") ∷ option (codes "as") ∷ option (codes "page-size") ∷ [])
 
 -- the commands of l4
 abbrev pub l4_commands : List Shape

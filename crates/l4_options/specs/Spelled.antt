@@ -12,6 +12,9 @@ use Rattle.l4_msg.specs.declared.messages.Message.{Message}
 use Rattle.l4_msg.specs.declared.regions.Region.{Region}
 use Rattle.l4_text.specs.Numbers.{below, digit_of, number_of, value_from}
 use Rattle.l4_symbols.specs.Messages.{Adds, Begins}
+use Rattle.l4_symbols.specs.Words.{NamesWord}
+use Rattle.l4_symbols.specs.declared.words.WordKind.{WordKind}
+use Rattle.l4_symbols.specs.declared.words.WordKind.TheVariants.{Fpage as AnFpage, Window as AWindow, Timeouts}
 use Rattle.l4_decode.specs.declared.decoding.Reading.{Reading}
 use Rattle.l4_decode.specs.declared.decoding.Reading.TheVariants.{Each, Message as AMessage, Fpage, Window, Id}
 use Rattle.l4_options.specs.declared.requests.ScriptOptions.{ScriptOptions}
@@ -73,6 +76,14 @@ reading_of word =
     else (if bytes_eq word (codes "window") then Some Window
     else (if bytes_eq word (codes "id") then Some Id else None)))
 
+-- the name of what tokens are encoded as: words of this kind, or a message
+abbrev pub kind_of : Text → Option (Option WordKind)
+kind_of word =
+    if bytes_eq word (codes "message") then Some None
+    else (if bytes_eq word (codes "fpage") then Some (Some AnFpage)
+    else (if bytes_eq word (codes "window") then Some (Some AWindow)
+    else (if bytes_eq word (codes "timeouts") then Some (Some Timeouts) else None)))
+
 -- the words spell these numbers, decimal or hexadecimal, one after another
 abbrev pub Spell : List Text → List ℕ → Type 0
 Spell words numbers = map number_of words ≡ map Some numbers
@@ -86,6 +97,17 @@ AddsEach size (token ∷ tokens) before after = (next : Message) × Adds size to
 abbrev pub IsMessageOf : PageSize → List Text → Message → Type 0
 IsMessageOf size [] message = ⊥
 IsMessageOf size (tag ∷ tokens) message = (begun : Message) × Begins tag begun × AddsEach size tokens begun message
+
+-- the words that the tokens name, each by itself, one after another
+abbrev pub AreWords : WordKind → PageSize → List Text → List ℕ → Type 0
+AreWords kind size [] words = words ≡ []
+AreWords kind size (token ∷ tokens) words =
+    (word : ℕ) × (rest : List ℕ) × NamesWord kind size token word × AreWords kind size tokens rest × (words ≡ word ∷ rest)
+
+-- the words of the message that the tokens name, or of each token by itself
+abbrev pub Encodes : Option WordKind → PageSize → List Text → List ℕ → Type 0
+Encodes None size tokens words = (message : Message) × IsMessageOf size tokens message × (words ≡ message_words message)
+Encodes (Some kind) size tokens words = AreWords kind size tokens words
 
 -- ---- arguments
 
@@ -127,8 +149,11 @@ abbrev pub IsReadingIn : List Row → ℕ → Reading → Type 0
 IsReadingIn found words reading =
     spelled_or (if words == 1 then Each else AMessage) reading_of (first_of (codes "as") found) ≡ Some reading
 
--- the words of the message that the tokens name, for pages of that size
+-- what the tokens are encoded as: a message where that is left out
+abbrev pub IsKindIn : List Row → Option WordKind → Type 0
+IsKindIn found kind = spelled_or None kind_of (first_of (codes "as") found) ≡ Some kind
+
+-- the words that the tokens name, for pages of that size
 abbrev pub AreEncodedIn : List Row → List ℕ → Type 0
 AreEncodedIn found words =
-    (size : PageSize) × (message : Message) × IsSizeIn found size × IsMessageOf size (words_at found (codes "tokens")) message
-    × (words ≡ message_words message)
+    (size : PageSize) × (kind : Option WordKind) × IsSizeIn found size × IsKindIn found kind × Encodes kind size (words_at found (codes "tokens")) words

@@ -3,7 +3,7 @@ use Rattle.std.specs.Prelude.{ℕ}
 use Rattle.l4_text.specs.declared.faults.RunFault.{RunFault}
 use Rattle.l4_text.specs.declared.faults.RunFault.TheVariants.{Read, Write, Memory}
 use Rattle.l4_options.specs.declared.requests.OptionFault.{OptionFault}
-use Rattle.l4_options.specs.declared.requests.OptionFault.TheVariants.{Memory as NoMemory, Words, Frames, Pages, Number, Rights, Hyphens, Word, TooMany, Token, Reading}
+use Rattle.l4_options.specs.declared.requests.OptionFault.TheVariants.{Memory as NoMemory, Words, Frames, Pages, Number, Rights, Hyphens, Word, TooMany, TooManyTokens, Kind, Token, Reading}
 
 -- after a run that stopped: 3 where a stream failed, 4 for want of memory
 abbrev pub run_status : RunFault → ℕ
@@ -22,5 +22,7 @@ option_status (Rights text) = 2
 option_status (Hyphens word instead) = 2
 option_status (Word text) = 2
 option_status (TooMany text) = 2
+option_status (TooManyTokens text) = 2
+option_status (Kind text) = 2
 option_status (Token token reason) = 2
 option_status (Reading text) = 2

@@ -143,10 +143,10 @@ as an fpage, a window or an id.
 Exit status: 0, or 2 if the command line is invalid, 3 if a write failed.";
 
 pub(crate) const ENCODE: &str = "\
-Prints the words of a message, the tag first. The tokens are the tag, then the
-untyped words, and then the items. Pages have the size of --page-size. Numbers
-are decimal, or hexadecimal with a 0x prefix. A shell takes > for a redirection,
-so put quotes around an item.
+Prints the words that tokens stand for. Without --as, or with --as message, the
+tokens are a message: the tag, then the untyped words, and then the items. Pages
+have the size of --page-size. Numbers are decimal, or hexadecimal with a 0x
+prefix. A shell takes > for a redirection, so put quotes around an item.
 
   tag:LABEL                  the tag, with this label (0 to 65535). Its counts are
                              those of the tokens that follow it
@@ -160,7 +160,18 @@ so put quotes around an item.
   grant:FIRST+COUNT>BASE:RIGHTS
                              a grant item
 
+With another KIND, each token stands for a word of its own (at most 64 tokens):
+
+  --as fpage FIRST+COUNT:RIGHTS
+                             an fpage, such as 16+4:rwx, for 'unmap'
+  --as window all            the pages that a receiver accepts: all pages, no page
+  --as window none           (none), or COUNT pages that start at page FIRST
+  --as window FIRST+COUNT
+  --as timeouts SEND,RECEIVE the timeouts of a call, each of them never or zero.
+                             One of them alone stands for both
+
   l4 encode tag:7 1 2 'map:16+4>32:rwx' 'grant:3>0:r--'
+  l4 encode --as window 32+4
 
 The words are printed on one line, in hexadecimal with a 0x prefix, as 'l4
 decode' and scripts read them.

@@ -127,6 +127,8 @@ pub fn misread(rt: &impl Eprint, fault: &OptionFault) -> u8
         | OptionFault::Hyphens { .. }
         | OptionFault::Word(_)
         | OptionFault::TooMany(_)
+        | OptionFault::TooManyTokens(_)
+        | OptionFault::Kind(_)
         | OptionFault::Token { .. }
         | OptionFault::Reading(_) => NOT_UNDERSTOOD,
     }

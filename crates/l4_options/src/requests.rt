@@ -56,7 +56,7 @@ pub enum Options {
         reading: Reading,
         size: PageSize,
     },
-    /// Prints these words of a message.
+    /// Prints these words.
     Encode(ArrayVec<u32, MAX_WORDS>),
     /// Prints this text: the usage, or the version.
     Show(String),
@@ -104,6 +104,12 @@ pub enum OptionFault {
     /// A token of a message is refused, for this reason.
     #[error("error: invalid value '{token}' for '<TOKEN>...': {reason}")]
     Token { token: String, reason: Reason },
+    /// There are more tokens than are read.
+    #[error("error: unexpected value '{0}' for '<TOKEN>...': at most 64 tokens are encoded")]
+    TooManyTokens(String),
+    /// The kind of word to encode is unknown.
+    #[error("error: invalid value '{0}' for '--as <KIND>': expected message, fpage, window or timeouts")]
+    Kind(String),
     /// The reading is unknown.
     #[error("error: invalid value '{0}' for '--as <READING>': expected message, fpage, window or id")]
     Reading(String),

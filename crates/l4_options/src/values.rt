@@ -294,7 +294,7 @@ pub(crate) fn is_word(word: &str, other: &str) -> bool
 }
 
 /// The word of an argument, if there is one.
-fn text_of<'a>(matches: &ArgMatches<'a>, id: &str) -> Option<&'a str>
+pub(crate) fn text_of<'a>(matches: &ArgMatches<'a>, id: &str) -> Option<&'a str>
     ensures { option_map (λ s. s.now) result ≡ first_of id.now (found_in matches.now) }
 {
     matches.get_str(id)

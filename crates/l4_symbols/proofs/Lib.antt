@@ -1,2 +1,4 @@
 pub mod Cuts
+pub mod Examples
 pub mod Named
+pub mod Reread

@@ -3,11 +3,16 @@ use Rattle.std.specs.Prelude.{ℕ, ◌+◌, ◌==◌, Bool, true, false, List, l
 use Rattle.std.specs.List.{position}
 use Rattle.std.specs.Str.{bytes_eq}
 use Rattle.l4_fpage.specs.Rights.{RightsSet}
+use Rattle.l4_ipc.specs.declared.constructors.Timeout.{Timeout}
+use Rattle.l4_ipc.specs.declared.constructors.Timeout.TheVariants.{Never, Zero}
 use Rattle.l4_text.specs.Numbers.{number_of, below}
 use Rattle.l4_symbols.specs.declared.reasons.Reason.{Reason}
-use Rattle.l4_symbols.specs.declared.reasons.Reason.TheVariants.{NoTag, Label, Unknown, NoBase, NoRights, Number, Rights}
+use Rattle.l4_symbols.specs.declared.reasons.Reason.TheVariants.{NoTag, Label, Unknown, NoBase, NoRights, Number, Rights, Window, Fpage, Timeouts}
 use Rattle.l4_symbols.specs.declared.spelling.Pages.{Pages}
 use Rattle.l4_symbols.specs.declared.spelling.ItemParts.{ItemParts}
+use Rattle.l4_symbols.specs.declared.spelling.FpageParts.{FpageParts}
+use Rattle.l4_symbols.specs.declared.spelling.WindowParts.{WindowParts}
+use Rattle.l4_symbols.specs.declared.spelling.WindowParts.TheVariants.{All, Nothing, Run}
 
 -- one part after another, up to the first that is refused
 infixl 10 ◌>>=◌
@@ -35,15 +40,19 @@ rights_in text = if length text == 3 then (do
   x ← right_in 120 (slice_index text 2)
   Ok (record { r = r; w = w; x = x })) else Err Rights
 
+-- FIRST and COUNT
+unfoldable pub counted_in : List ℕ × List ℕ → Result Pages Reason
+counted_in parts = do
+  first ← number_in parts.0
+  count ← number_in parts.1
+  Ok (record { first = first; count = count })
+
 -- FIRST alone, or FIRST and COUNT
 abbrev pub pages_of : List ℕ → Option (List ℕ × List ℕ) → Result Pages Reason
 pages_of text None = do
   first ← number_in text
   Ok (record { first = first; count = 1 })
-pages_of text (Some parts) = do
-  first ← number_in parts.0
-  count ← number_in parts.1
-  Ok (record { first = first; count = count })
+pages_of text (Some parts) = counted_in parts
 
 -- FIRST or FIRST+COUNT
 unfoldable pub pages_in : List ℕ → Result Pages Reason
@@ -70,3 +79,40 @@ unfoldable pub label_in : List ℕ → Result ℕ Reason
 label_in token = do
   named ← ok_or (cut_at 58 token) NoTag
   if bytes_eq named.0 (codes "tag") then ok_or (below 65536 (number_of named.1)) Label else Err NoTag
+
+-- PAGES:RIGHTS
+unfoldable pub fpage_in : List ℕ → Result FpageParts Reason
+fpage_in token = do
+  granted ← ok_or (cut_at 58 token) Fpage
+  pages ← pages_in granted.0
+  rights ← rights_in granted.1
+  Ok (record { pages = pages; rights = rights })
+
+-- FIRST+COUNT, where a number alone is a word
+unfoldable pub run_in : List ℕ → Result WindowParts Reason
+run_in token = do
+  parts ← ok_or (cut_at 43 token) Window
+  pages ← counted_in parts
+  Ok (Run pages)
+
+-- all, none or FIRST+COUNT
+unfoldable pub window_in : List ℕ → Result WindowParts Reason
+window_in token = if bytes_eq token (codes "all") then Ok All else (if bytes_eq token (codes "none") then Ok Nothing else run_in token)
+
+-- never or zero
+unfoldable pub timeout_in : List ℕ → Result Timeout Reason
+timeout_in text = if bytes_eq text (codes "never") then Ok Never else (if bytes_eq text (codes "zero") then Ok Zero else Err Timeouts)
+
+-- one timeout for both phases, or one for each
+abbrev pub timeouts_of : List ℕ → Option (List ℕ × List ℕ) → Result (Timeout × Timeout) Reason
+timeouts_of text None = do
+  both ← timeout_in text
+  Ok (both, both)
+timeouts_of text (Some parts) = do
+  send ← timeout_in parts.0
+  receive ← timeout_in parts.1
+  Ok (send, receive)
+
+-- BOTH, or SEND,RECEIVE
+unfoldable pub timeouts_in : List ℕ → Result (Timeout × Timeout) Reason
+timeouts_in token = timeouts_of token (cut_at 44 token)

@@ -1,19 +1,42 @@
 //! What the words of symbolic tokens mean.
-ghost use Rattle.std.specs.Prelude.{◌↔◌, ℕ, List, Bool};
-ghost use Rattle.l4_fpage.specs.Fpages.{HoldsPage};
+ghost use Rattle.std.specs.Prelude.{◌≡◌, ◌↔◌, ℕ, List, Bool, false, Ok};
+ghost use Rattle.l4_fpage.specs.Fpages.{HoldsPage, ReadsAs};
 ghost use Rattle.l4_fpage.specs.Rights.{RightsSet};
 ghost use Rattle.l4_fpage.specs.declared.fpages.Fpage.{Fpage as AnFpage};
 ghost use Rattle.l4_fpage.specs.declared.sizes.PageSize.{PageSize as APageSize};
-ghost use Rattle.l4_msg.specs.Words.{ItemReads, item_words};
+ghost use Rattle.l4_ipc.specs.Constructors.{timeout_bits};
+ghost use Rattle.l4_ipc.specs.Start.{send_timeout, receive_timeout, has_bad_timeout};
+ghost use Rattle.l4_ipc.specs.declared.calls.IpcCall.{IpcCall as AnIpc};
+ghost use Rattle.l4_ipc.specs.declared.constructors.Timeout.{Timeout};
+ghost use Rattle.l4_msg.specs.Words.{ItemReads, WindowReads, item_words};
 ghost use Rattle.l4_msg.specs.declared.items.Item.{Item as AnItem};
 ghost use Rattle.l4_symbols.specs.Items.{IsFpageOf, IsOneOf, NamesItem};
+ghost use Rattle.l4_symbols.specs.Spelling.{timeouts_in};
+ghost use Rattle.l4_symbols.specs.Words.{FpageWord, IsInWindow, IsWindowOf, NamesFpage, NamesWindow, WindowWord, timeouts_word};
 ghost use Rattle.l4_symbols.specs.declared.spelling.Pages.{Pages as SomePages};
+ghost use Rattle.l4_symbols.specs.declared.spelling.WindowParts.{WindowParts as SomeWindow};
 
-/// Ghost function: gives a proof that the words of the item in a token are read as an item that the token names, with its kind, send base,
-/// pages and rights, and that the pages of that item are those of the token. It compiles to nothing.
+/// Ghost function: gives a proof that the words of a token are read as what the token names. It compiles to nothing.
+///
+/// The words of an item are read as an item with its kind, send base, pages and rights. The word of an fpage is read as an fpage with its
+/// pages and rights, and the word of a window as a window with its pages and without rights. The pages of each are those of the token. A call
+/// with the timeouts word of a token has the token's send timeout and receive timeout, and is not refused for them.
 pub fn read_as_named()
     ensures item { (size : APageSize) (token : List ℕ) (item read : AnItem) (more : Bool)
-        → NamesItem size token item → ItemReads (item_words item more).0 (item_words item more).1 read → NamesItem size token read }
-    ensures pages { (size : APageSize) (pages : SomePages) (rights : RightsSet) (fpage : AnFpage) (page : ℕ)
-        → IsFpageOf size pages rights fpage → HoldsPage size fpage page ↔ IsOneOf pages page }
+        → NamesItem size token item
+        → ItemReads (item_words item more).0 (item_words item more).1 read
+        → NamesItem size token read }
+    ensures fpage { (size : APageSize) (token : List ℕ) (word : ℕ) (read : AnFpage)
+        → FpageWord size token word → ReadsAs word read → NamesFpage size token read }
+    ensures window { (size : APageSize) (token : List ℕ) (word : ℕ) (read : AnFpage)
+        → WindowWord size token word → WindowReads word read → NamesWindow size token read }
+    ensures pages { (size : APageSize) (pages : SomePages) (rights : RightsSet) (fpage : AnFpage)
+        (page : ℕ) → IsFpageOf size pages rights fpage
+        → HoldsPage size fpage page ↔ IsOneOf pages page }
+    ensures inside { (size : APageSize) (parts : SomeWindow) (window : AnFpage) (page : ℕ)
+        → IsWindowOf size parts window → HoldsPage size window page ↔ IsInWindow size parts page }
+    ensures timeouts { (token : List ℕ) (call : AnIpc) → timeouts_word token ≡ Ok call.timeouts
+        → (timeouts : Timeout × Timeout) × (timeouts_in token ≡ Ok timeouts)
+        × (send_timeout call ≡ timeout_bits timeouts.0)
+        × (receive_timeout call ≡ timeout_bits timeouts.1) × (has_bad_timeout call ≡ false) }
 {}

@@ -7,10 +7,12 @@ mod messages;
 mod pages;
 mod reasons;
 mod spelling;
+mod words;
 mod writing;
 
 pub use items::item;
 pub use laws::read_as_named;
 pub use messages::SymbolicMessage;
 pub use reasons::Reason;
+pub use words::{WordKind, word_of};
 pub use writing::write_words;

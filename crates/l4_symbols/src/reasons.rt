@@ -19,6 +19,15 @@ pub enum Reason {
     /// An item without rights.
     #[error("an item needs : and its rights at its end, as in map:16+4>32:rwx")]
     NoRights,
+    /// A token that is no receive window.
+    #[error("expected all, none or FIRST+COUNT, as in 32+4")]
+    Window,
+    /// A token that is no fpage.
+    #[error("expected FIRST+COUNT:RIGHTS, as in 16+4:rwx")]
+    Fpage,
+    /// A token that is no timeouts.
+    #[error("expected never or zero for both phases, or SEND,RECEIVE, as in zero,never")]
+    Timeouts,
     /// A page or a number of pages that is no number.
     #[error("pages and their count are numbers up to 4294967295, decimal or hexadecimal with a 0x prefix")]
     Number,

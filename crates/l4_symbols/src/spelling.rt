@@ -1,10 +1,11 @@
 //! Reads the parts of symbolic tokens.
 ghost use Rattle.std.specs.Prelude.{◌≡◌, ◌==◌, option_map};
 ghost use Rattle.std.specs.List.{position};
-ghost use Rattle.l4_symbols.specs.Spelling.{cut_at, number_in, right_in, rights_in, pages_in, is_grant_in, item_in, label_in};
+ghost use Rattle.l4_symbols.specs.Spelling.{cut_at, number_in, right_in, rights_in, counted_in, pages_in, is_grant_in, item_in, label_in, fpage_in, run_in, window_in, timeout_in, timeouts_in};
 
 use crate::reasons::Reason;
 use l4_fpage::Rights;
+use l4_ipc::Timeout;
 use l4_text::number;
 
 const TAG: &[u8] = b"tag";
@@ -12,6 +13,14 @@ const TAG: &[u8] = b"tag";
 const MAP: &[u8] = b"map";
 
 const GRANT: &[u8] = b"grant";
+
+const ALL: &[u8] = b"all";
+
+const NONE: &[u8] = b"none";
+
+const NEVER: &[u8] = b"never";
+
+const ZERO: &[u8] = b"zero";
 
 /// The pages in a token: the first one, and their number.
 #[derive(Clone, Copy)]
@@ -27,6 +36,21 @@ pub(crate) struct ItemParts {
     pub(crate) pages: Pages,
     pub(crate) base: u32,
     pub(crate) rights: Rights,
+}
+
+/// What the parts of an fpage's token spell.
+#[derive(Clone, Copy)]
+pub(crate) struct FpageParts {
+    pub(crate) pages: Pages,
+    pub(crate) rights: Rights,
+}
+
+/// What a window's token spells: all pages, no page, or some pages.
+#[derive(Clone, Copy)]
+pub(crate) enum WindowParts {
+    All,
+    Nothing,
+    Run(Pages),
 }
 
 /// Returns the place of the first of these bytes in a text.
@@ -89,6 +113,16 @@ fn rights_in(text: &[u8]) -> Result<Rights, Reason>
     Ok(rights_with(read, write, execute))
 }
 
+/// Reads FIRST and COUNT.
+#[tactic(auto, unfolding(crate::specs::Spelling::counted_in))]
+fn counted_in(first: &[u8], count: &[u8]) -> Result<Pages, Reason>
+    ensures { result ≡ counted_in (first.now, count.now) }
+{
+    let first = number_in(first)?;
+    let count = number_in(count)?;
+    Ok(Pages { first, count })
+}
+
 /// Reads `FIRST` or `FIRST+COUNT`.
 #[tactic(auto, unfolding(crate::specs::Spelling::pages_in))]
 fn pages_in(text: &[u8]) -> Result<Pages, Reason>
@@ -98,9 +132,7 @@ fn pages_in(text: &[u8]) -> Result<Pages, Reason>
         let first = number_in(text)?;
         return Ok(Pages { first, count: 1 });
     };
-    let first = number_in(first)?;
-    let count = number_in(count)?;
-    Ok(Pages { first, count })
+    counted_in(first, count)
 }
 
 /// Returns whether the name of an item's kind is that of a grant item.
@@ -151,4 +183,67 @@ pub(crate) fn label_in(token: &[u8]) -> Result<u16, Reason>
         Some(label) if label < 0x10000 => Ok(label as u16),
         _ => Err(Reason::Label),
     }
+}
+
+/// Reads `PAGES:RIGHTS`.
+#[tactic(auto, unfolding(crate::specs::Spelling::fpage_in))]
+pub(crate) fn fpage_in(token: &[u8]) -> Result<FpageParts, Reason>
+    ensures { result ≡ fpage_in token.now }
+{
+    let (pages, rights) = cut_at(token, b':').ok_or(Reason::Fpage)?;
+    let pages = pages_in(pages)?;
+    let rights = rights_in(rights)?;
+    Ok(FpageParts { pages, rights })
+}
+
+/// Reads `FIRST+COUNT` as a window.
+#[tactic(auto, unfolding(crate::specs::Spelling::run_in))]
+fn run_in(token: &[u8]) -> Result<WindowParts, Reason>
+    ensures { result ≡ run_in token.now }
+{
+    let (first, count) = cut_at(token, b'+').ok_or(Reason::Window)?;
+    let pages = counted_in(first, count)?;
+    Ok(WindowParts::Run(pages))
+}
+
+/// Reads `all`, `none` or `FIRST+COUNT`.
+#[tactic(auto, unfolding(crate::specs::Spelling::window_in))]
+pub(crate) fn window_in(token: &[u8]) -> Result<WindowParts, Reason>
+    ensures { result ≡ window_in token.now }
+{
+    if token == ALL {
+        return Ok(WindowParts::All);
+    }
+    if token == NONE {
+        return Ok(WindowParts::Nothing);
+    }
+    run_in(token)
+}
+
+/// Reads `never` or `zero`.
+#[tactic(auto, unfolding(crate::specs::Spelling::timeout_in))]
+fn timeout_in(text: &[u8]) -> Result<Timeout, Reason>
+    ensures { result ≡ timeout_in text.now }
+{
+    if text == NEVER {
+        return Ok(Timeout::Never);
+    }
+    if text == ZERO {
+        return Ok(Timeout::Zero);
+    }
+    Err(Reason::Timeouts)
+}
+
+/// Reads one timeout for both phases, or `SEND,RECEIVE`.
+#[tactic(auto, unfolding(crate::specs::Spelling::timeouts_in))]
+pub(crate) fn timeouts_in(token: &[u8]) -> Result<(Timeout, Timeout), Reason>
+    ensures { result ≡ timeouts_in token.now }
+{
+    let Some((send, receive)) = cut_at(token, b',') else {
+        let both = timeout_in(token)?;
+        return Ok((both, both));
+    };
+    let send = timeout_in(send)?;
+    let receive = timeout_in(receive)?;
+    Ok((send, receive))
 }
