@@ -1,13 +1,13 @@
 //! The numbers of outcomes and refusals.
 ghost use Rattle.std.specs.Prelude.{◌≡◌};
-ghost use Rattle.l4_answers.specs.Refusals.{message_refusal, thread_refusal, unmap_refusal, kernel_refusal};
+ghost use Rattle.l4_answers.specs.Refusals.{message_refusal, kernel_refusal};
 ghost use Rattle.l4_refusals.specs.Texts.{spelled};
 ghost use Rattle.l4_c_values.specs.Told.{carried, outcome_number};
 
+use l4_answers::refused_code;
 use l4_ipc::{Lower, Outcome, Refused};
 use l4_msg::MsgFault;
-use l4_threads::ThreadFault;
-use l4_unmap::UnmapFault;
+use l4_refusals::number_of;
 
 /// B1: the handle is empty: it was never created, or it was freed.
 pub const EMPTY: u32 = 0x4231;
@@ -50,87 +50,33 @@ pub fn outcome_number(outcome: Outcome) -> u32
     }
 }
 
-/// Returns the number of the refusal of a message or window.
-pub fn message_number(fault: MsgFault) -> u32
-    ensures { result ≡ spelled (message_refusal fault).name }
-{
-    match fault {
-        MsgFault::TooManyWords => 0x4d31,
-        MsgFault::OddTyped => 0x4d32,
-        MsgFault::BadItem(_) => 0x4d33,
-        MsgFault::Unsupported(_) => 0x4d34,
-        MsgFault::Flags => 0x4d35,
-        MsgFault::BadWindow => 0x4d36,
-        MsgFault::Short => 0x4d37,
-    }
-}
-
-/// Returns the item that the refusal of a message names, or 0.
-pub fn message_detail(fault: MsgFault) -> u32
-    ensures { result ≡ carried (message_refusal fault).number }
-{
-    match fault {
-        MsgFault::BadItem(item) => item,
-        MsgFault::Unsupported(item) => item,
-        _ => 0,
-    }
-}
-
-fn thread_number(fault: ThreadFault) -> u32
-    ensures { result ≡ spelled (thread_refusal fault).name }
-{
-    match fault {
-        ThreadFault::NoPrivilege => 0x4831,
-        ThreadFault::BadId => 0x4832,
-        ThreadFault::Taken => 0x4833,
-        ThreadFault::Unknown => 0x4834,
-        ThreadFault::Full => 0x4835,
-        ThreadFault::Kept => 0x4836,
-    }
-}
-
-fn unmap_number(fault: UnmapFault) -> u32
-    ensures { result ≡ spelled (unmap_refusal fault).name }
-{
-    match fault {
-        UnmapFault::BadFpage(_) => 0x5531,
-        UnmapFault::TooFew => 0x5532,
-    }
-}
-
-fn unmap_detail(fault: UnmapFault) -> u32
-    ensures { result ≡ carried (unmap_refusal fault).number }
-{
-    match fault {
-        UnmapFault::BadFpage(word) => word,
-        UnmapFault::TooFew => 0,
-    }
-}
-
 /// Returns the number of the kernel's refusal.
 pub fn kernel_number(refused: Refused) -> u32
     ensures { result ≡ spelled (kernel_refusal refused).name }
 {
-    match refused {
-        Refused::NotEnabled => 0x4b31,
-        Refused::UnknownThread => 0x4b32,
-        Refused::Busy => 0x4b33,
-        Refused::BadTimeout => 0x4b34,
-        Refused::Lower(Lower::Message(fault)) => message_number(fault),
-        Refused::Lower(Lower::Unmap(fault)) => unmap_number(fault),
-        Refused::Lower(Lower::Thread(fault)) => thread_number(fault),
-        Refused::Lower(Lower::NoMemory) => NO_MEMORY,
-        Refused::BadFrames => BAD_FRAMES,
-    }
+    number_of(refused_code(refused).name())
 }
 
 /// Returns the number that the kernel's refusal carries, or 0.
 pub fn kernel_detail(refused: Refused) -> u32
     ensures { result ≡ carried (kernel_refusal refused).number }
 {
-    match refused {
-        Refused::Lower(Lower::Message(fault)) => message_detail(fault),
-        Refused::Lower(Lower::Unmap(fault)) => unmap_detail(fault),
-        _ => 0,
+    match refused_code(refused).number() {
+        Some(number) => number,
+        None => 0,
     }
+}
+
+/// Returns the number of the refusal of a message or window.
+pub fn message_number(fault: MsgFault) -> u32
+    ensures { result ≡ spelled (message_refusal fault).name }
+{
+    kernel_number(Refused::Lower(Lower::Message(fault)))
+}
+
+/// Returns the item that the refusal of a message names, or 0.
+pub fn message_detail(fault: MsgFault) -> u32
+    ensures { result ≡ carried (message_refusal fault).number }
+{
+    kernel_detail(Refused::Lower(Lower::Message(fault)))
 }

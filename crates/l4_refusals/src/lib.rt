@@ -200,8 +200,8 @@ fn table_texts() -> [Text; 13]
     ]
 }
 
-/// Returns the number of a code.
-fn spelled(code: &[u8]) -> u32
+/// Returns the number of a code: its first two bytes, of which the first counts 256 times.
+pub fn number_of(code: &[u8]) -> u32
     ensures { result ≡ spelled code.now }
 {
     match code {
@@ -217,7 +217,7 @@ fn found_in(texts: &[Text], refusal: u32) -> Option<Text>
         (λ text. text_in (map bytes_of texts.now ++ rest) refusal ≡ bytes_of text) }
 {
     for text in texts {
-        if spelled(text.code) == refusal {
+        if number_of(text.code) == refusal {
             return Some(*text);
         }
     }
