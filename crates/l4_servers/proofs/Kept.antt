@@ -13,7 +13,7 @@ use Rattle.std.specs.FinSet as set
 use Rattle.std.proofs.lemmas.Bool.{false≢true}
 use Rattle.l4_sigma0.specs.Owners.{Owners}
 use Rattle.l4_pager.specs.declared.regions.Entry.{Entry}
-use Rattle.l4_servers.specs.Servers.{Servers, servers, regions_of, HasNoTable, is_served, with_region, with_served, no_longer_served, without}
+use Rattle.l4_servers.specs.Servers.{Servers, servers, regions_of, is_served, with_region, with_served, no_longer_served, without}
 use Rattle.l4_pager.specs.Regions.{Regions, no_entries, with_entry}
 
 -- KEYS
@@ -64,7 +64,7 @@ has_regions s o es served n v view h = ap (λ (t : Option Regions). unwrap_or t 
 pub no_regions : (s : Servers) (o : Owners) (es : Tables) (served : set.FinSet nat_cmp) (n : ℕ) → servers o (seen es) served ≡ s → None ≡ at n es → no_entries o.size ≡ regions_of s n
 no_regions s o es served n view h = ap (λ (t : Option Regions). unwrap_or t (no_entries o.size)) (h ∙ sym (got es n)) ∙ ap (λ (x : Servers). regions_of x n) view
 
-pub no_table : (s : Servers) (o : Owners) (es : Tables) (served : set.FinSet nat_cmp) (n : ℕ) → servers o (seen es) served ≡ s → None ≡ at n es → HasNoTable s n
+pub no_table : (s : Servers) (o : Owners) (es : Tables) (served : set.FinSet nat_cmp) (n : ℕ) → servers o (seen es) served ≡ s → None ≡ at n es → fin.get s.tables n ≡ None
 no_table s o es served n view h = sym (ap (λ (x : Servers). fin.get x.tables n) view) ∙ got es n ∙ sym h
 
 -- a table with one region more

@@ -9,7 +9,7 @@ use Rattle.l4_threads.specs.Threads.{Threads, space_of, named}
 use Rattle.l4_ipc.specs.declared.calls.Call.{Call}
 use Rattle.l4_ipc.specs.Reading.{reply_of}
 use Rattle.l4_sigma0.specs.Owners.{Owners, Answers as GrantsFrames}
-use Rattle.l4_pager.specs.Regions.{Answers as AnswersByRegion}
+use Rattle.l4_pager.specs.Regions.{Answers as AnswersByRegions}
 use Rattle.l4_pager.specs.Serving.{Brings, waiting, sending}
 use Rattle.l4_servers.specs.Servers.{Servers, servers, regions_of, is_served}
 
@@ -47,12 +47,10 @@ AnswersBySigma0 t old sender m answer new =
     (owners : Owners) × GrantsFrames old.owners (space_of_sender t sender) m answer owners × (new ≡ servers owners old.tables old.served)
 
 -- every other thread answers from its regions
-abbrev pub AnswersByRegions : Servers → ℕ → Message → Message → Servers → Type 0
-AnswersByRegions old thread m answer new = AnswersByRegion (regions_of old thread) m answer × (new ≡ old)
-
 abbrev pub Answers : Threads → Servers → ℕ → ThreadId → Message → Message → Servers → Type 0
 Answers t old thread sender m answer new =
-    ((thread ≡ sigma0) × AnswersBySigma0 t old sender m answer new) ⊎ ((thread ≢ sigma0) × AnswersByRegions old thread m answer new)
+    ((thread ≡ sigma0) × AnswersBySigma0 t old sender m answer new)
+    ⊎ ((thread ≢ sigma0) × AnswersByRegions (regions_of old thread) m answer × (new ≡ old))
 
 -- the call sends the answer to the sender of the reply's message
 pub record IsAnswer (t : Threads) (old : Servers) (thread : ℕ) (reply : Reply) (call : Call) (new : Servers) : Type 0 where
@@ -63,12 +61,10 @@ pub record IsAnswer (t : Threads) (old : Servers) (thread : ℕ) (reply : Reply)
   pub answers : Answers t old thread sender message answer new
   pub is : call ≡ sending sender (message_words answer)
 
--- the thread's last reply has no message, so the thread waits for the next one
-abbrev pub IsWait : Servers → Reply → Call → Servers → Type 0
-IsWait old reply call new = ((sender : ThreadId) (m : Message) → ¬ Brings reply sender m) × (call ≡ waiting) × (new ≡ old)
-
+-- the call answers the message of the thread's last reply; if the reply has no message, the thread waits for the next one
 abbrev pub Follows : Threads → Servers → ℕ → Reply → Call → Servers → Type 0
-Follows t old thread reply call new = IsAnswer t old thread reply call new ⊎ IsWait old reply call new
+Follows t old thread reply call new =
+    IsAnswer t old thread reply call new ⊎ (((sender : ThreadId) (m : Message) → ¬ Brings reply sender m) × (call ≡ waiting) × (new ≡ old))
 
 -- the thread acts next, and makes this call
 pub record ActsNext (t : Threads) (old : Servers) (thread : ℕ) (call : Call) (new : Servers) : Type 0 where

@@ -53,11 +53,7 @@ no_longer_served s thread = servers s.owners s.tables (set.remove s.served threa
 abbrev pub without : Servers → ℕ → Servers
 without s thread = servers s.owners (fin.remove s.tables thread) (set.remove s.served thread)
 
--- the thread has no table
-abbrev pub HasNoTable : Servers → ℕ → Type 0
-HasNoTable s thread = fin.get s.tables thread ≡ None
-
 -- The reason why a region is not added. NoMemory comes last, and is possible only if the thread has no table yet.
 abbrev pub RegionFails : Servers → ℕ → Entry → RegionRefusal → Type 0
 RegionFails s thread entry (Pager refusal) = AddFails (regions_of s thread) entry refusal
-RegionFails s thread entry NoMemory = CanAdd (regions_of s thread) entry × HasNoTable s thread
+RegionFails s thread entry NoMemory = CanAdd (regions_of s thread) entry × (fin.get s.tables thread ≡ None)
