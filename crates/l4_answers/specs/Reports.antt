@@ -1,5 +1,6 @@
 -- The answers of a script as reports, and the text of each.
-use Rattle.std.specs.Prelude.{ℕ, ◌≡◌, Bool, true, false, ◌||◌, List, [], ◌∷◌, ◌++◌, Option, codes, decimal}
+use Rattle.std.specs.Prelude.{ℕ, Bool, List, [], ◌∷◌, ◌++◌, Option, Some, None, is_some, codes, decimal}
+use Rattle.std.specs.List.{list_any}
 use Rattle.l4_ipc.specs.declared.steps.Outcome.{Outcome}
 use Rattle.l4_mapdb.specs.declared.Mapping.{Mapping}
 use Rattle.l4_threads.specs.declared.Reply.{Reply}
@@ -58,22 +59,15 @@ report_text (Parent mapping) = parent_text mapping
 report_text AddedRegion = region_text
 report_text (StepCount count) = steps_text count
 
--- whether it refuses a line of the script
-abbrev pub is_refusal : Report → Bool
-is_refusal (RefusedLine line refusal) = true
-is_refusal (UnreadLine line refusal bytes) = true
-is_refusal report = false
+-- the number of the script's line that it refuses, if it refuses one
+abbrev pub refused_line : Report → Option ℕ
+refused_line (RefusedLine line refusal) = Some line
+refused_line (UnreadLine line refusal bytes) = Some line
+refused_line report = None
 
--- it refuses the line of this number
-abbrev pub IsRefusalOf : ℕ → Report → Type 0
-IsRefusalOf number (RefusedLine line refusal) = line ≡ number
-IsRefusalOf number (UnreadLine line refusal bytes) = line ≡ number
-IsRefusalOf number report = ⊥
-
--- whether one of these is a refusal of a line
+-- whether one of these refuses a line
 abbrev pub has_refusal : List Report → Bool
-has_refusal [] = false
-has_refusal (report ∷ reports) = is_refusal report || has_refusal reports
+has_refusal reports = list_any (λ report. is_some (refused_line report)) reports
 
 -- SINKS. `has_told first old told` means that exactly `told` was reported to the sink between the states `first` and `old`.
 

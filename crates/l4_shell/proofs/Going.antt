@@ -1,18 +1,18 @@
 -- The entries of calls and the acts of served threads, told one after another.
-use Rattle.std.proofs.Common.{◌≡◌, ℕ, suc, ◌+◌, ◌<◌, ◌≤◌, Bool, true, false, ◌||◌, length, length-append, map, Contains, arith, List, [], ◌∷◌, ◌++◌, Option, Some, None, Ok, inl, inr, sym, ap, subst, ◌∙◌, refl, nat_eq}
+use Rattle.std.proofs.Common.{◌≡◌, ℕ, suc, ◌+◌, ◌<◌, ◌≤◌, Bool, true, false, ◌||◌, length, length-append, map, Contains, arith, List, [], ◌∷◌, ◌++◌, Option, Some, None, inl, inr, sym, ap, subst, ◌∙◌, refl, nat_eq}
 use Rattle.std.specs.Prelude.{MatchOption}
 use Rattle.std.specs.Option.{is_some}
 use Rattle.std.proofs.lemmas.Bool.{false≢true}
 use Rattle.std.proofs.lemmas.List.{append-nil}
 use Rattle.std.proofs.lemmas.List.Folds.{list_any-append}
 use Rattle.std.proofs.lemmas.Grind.{flat_map-append}
+use mathlib.Core.List.{append_assoc}
 use Rattle.l4_ipc.specs.declared.steps.Step.TheVariants.{Start}
 use Rattle.l4_ipc.specs.declared.calls.Call.{Call}
 use Rattle.l4_fpage.specs.declared.sizes.PageSize.{PageSize}
 use Rattle.l4_ipc.specs.Machine.{Machine}
 use Rattle.l4_ipc.specs.Reading.{reply_of}
 use Rattle.l4_answers.specs.Reports.{Report, RefusedLine, RefusedAct, Ended, AddsAll}
-use Rattle.l4_ipc.specs.Steps.{Steps}
 use Rattle.l4_ipc.specs.Following.{Done}
 use Rattle.l4_ipc.specs.Following.{AreNext}
 use Rattle.l4_ipc.specs.NextSteps.{step_of, answer_of}
@@ -29,10 +29,10 @@ use Rattle.l4_threads.specs.declared.Reply.{Reply}
 use Rattle.l4_threads.specs.Threads.{Threads}
 use Rattle.l4_servers.specs.Acting.{NoneReady, IsFirstReady, Follows as FollowsReply, ActsNext}
 use Rattle.l4_shell.specs.Refusals.{call_refusal, lacks_memory}
-use Rattle.l4_shell.specs.Sessions.{Session, session, call_entries, done_entry, gone_on, done_reports, own_report, step_reports, ended_reports, ended_in, waiting_reports, Act, act_reports, act_entries, ended_by, IsAct, AreActs, GoesOn, Follows, Refuses, Enters, Creates}
-use Rattle.l4_shell.specs.Requests.{root}
+use Rattle.l4_shell.specs.Sessions.{Session, session, done_entry, done_reports, own_report, ended_reports, ended_in, waiting_reports, Act, IsEntered, after_act, steps_in, AreActs, Follows, Refuses, Enters, Creates}
+use Rattle.l4_shell.specs.Calls.{root}
 use Rattle.l4_shell.specs.Inside.Scripts.{HasFirstSeats}
-use Rattle.l4_shell.specs.Inside.Telling.{next_reports, ended_later, TellsAppended, TellsCall, TellsRefusal, TellsActs}
+use Rattle.l4_shell.specs.Inside.Telling.{next_reports, ended_later, TellsAppended, TellsCall, TellsRefusal, TellsActs, GoesOn}
 use Rattle.std.specs.List.{flat_map}
 use Rattle.l4_answers.proofs.Adding.{adds_none, adds_more, adds_is}
 
@@ -87,26 +87,54 @@ calls_on has_told old new caller call appended read thread ended before t e same
           told.tells;
     }
 
+-- an entered call
+abbrev act_of : (old new : Seated) (later : Servers) (caller : ℕ) (call : Call) → Entered old new caller call → Act
+act_of old new later caller call e = record {
+  thread = caller;
+  call = call;
+  servers = later;
+  start = record { step = Start caller call; answer = e.answer; after = e.started };
+  steps = e.steps;
+  after = new.machine;
+}
+
+entered : (old new : Seated) (sv later : Servers) (caller : ℕ) (call : Call) → (e : Entered old new caller call) → IsEntered (session old sv) (act_of old new later caller call e)
+entered old new sv later caller call e = record { can = e.can; start_is = refl; starts = e.starts; next = e.next; idle = e.idle }
+
 -- the session once a call was entered
-pub went : (old new : Seated) (sv later : Servers) (caller : ℕ) (call : Call) → (e : Entered old new caller call) → session new later ≡ gone_on (session old sv) later (call_entries caller call e.answer e.steps) new.machine
+went : (old new : Seated) (sv later : Servers) (caller : ℕ) (call : Call) → (e : Entered old new caller call) → session new later ≡ after_act (session old sv) (act_of old new later caller call e)
 went old new sv later caller call e =
     λ i. record { machine = new.machine; servers = later; history = e.history i; numbers = e.same.0 i; seen = e.same.1 i }
 
 -- ACTS
 
 -- one act after those that were done
-acts_more : (old between new : Session) (acts : List Act) (act : Act) → AreActs old acts between → IsAct between act → new ≡ gone_on between act.servers (act_entries act) act.after → AreActs old (acts ++ act ∷ []) new
-acts_more old between new [] act are is then_is =
-    subst (λ (m : Session). IsAct m act → new ≡ gone_on m act.servers (act_entries act) act.after → AreActs old (act ∷ []) new) (sym are) (λ is' new'. (is', new')) is then_is
-acts_more old between new (first ∷ acts) act are is then_is = (are.0, acts_more (gone_on old first.servers (act_entries first) first.after) between new acts act are.1 is then_is)
+acts_more : (old between new : Session) (acts : List Act) (act : Act) → AreActs old acts between → ActsNext between.machine.threads between.servers act.thread act.call act.servers → IsEntered between act → new ≡ after_act between act
+    → AreActs old (acts ++ act ∷ []) new
+acts_more old between new [] act are acts is then_is =
+    subst (λ (m : Session). ActsNext m.machine.threads m.servers act.thread act.call act.servers → IsEntered m act → new ≡ after_act m act → AreActs old (act ∷ []) new) (sym are) (λ acts' is' new'. (acts', is', new')) acts is then_is
+acts_more old between new (first ∷ rest) act are acts is then_is = (are.0, are.1, acts_more (after_act old first) between new rest act are.2 acts is then_is)
+
+-- their steps
+steps_more : (acts : List Act) (act : Act) → steps_in (acts ++ act ∷ []) ≡ steps_in acts ++ (act.start ∷ act.steps)
+steps_more acts act = flat_map-append (λ (x : Act). x.start ∷ x.steps) acts (act ∷ []) ∙ ap (λ l. steps_in acts ++ l) (append-nil (act.start ∷ act.steps))
+
+reports_more : (a b : List Done) → flat_map done_reports (a ++ b) ≡ flat_map done_reports a ++ flat_map done_reports b
+reports_more a b = flat_map-append done_reports a b
+
+ended_more : (a b : List Done) → ended_in (a ++ b) ≡ ended_in a ++ ended_in b
+ended_more a b = flat_map-append (λ (done : Done). done.answer.ended.items) a b
+
+among_more : (thread : ℕ) (a b : List ℕ) → is_among thread (a ++ b) ≡ (is_among thread a || is_among thread b)
+among_more thread a b = list_any-append (λ n. nat_eq n thread) a b
 
 -- so far these acts were done and told, and the thread's call has ended in one or not
 pub record Acting {T : Type 0} (old : Session) (thread count : ℕ) (m : Session) (has : Bool) (has_told : T → T → List Report → Type 0) (before after : T) : Type 0 where
   pub acts : List Act
   pub are : AreActs old acts m
   pub number : length acts ≡ count
-  pub has_is : has ≡ is_among thread (ended_by acts)
-  pub tells : AddsAll has_told before after (flat_map act_reports acts)
+  pub has_is : has ≡ is_among thread (ended_in (steps_in acts))
+  pub tells : AddsAll has_told before after (flat_map done_reports (steps_in acts))
 
 pub acting_none : {T : Type 0} (has_told : T → T → List Report → Type 0) (m : Session) (thread : ℕ) (before : T) → Acting m thread 0 m false has_told before before
 acting_none has_told m thread before = record { acts = []; are = refl; number = refl; has_is = refl; tells = adds_none has_told before }
@@ -128,20 +156,18 @@ pub acting_more : {T : Type 0} (has_told : T → T → List Report → Type 0) (
     → Acting old thread (count + 1) (session new later) (has || own) has_told before t
 acting_more has_told old thread count m new sv later has before s t server call own g acts told =
     let e = told.enters in
-    let act : Act = record { thread = server; call = call; servers = later; answer = e.answer; started = e.started; steps = e.steps; after = new.machine } in
-    let ended : List ℕ = e.answer.ended.items ++ ended_in e.steps in
-    let is : IsAct (session m sv) act = record { acts = acts; can = e.can; starts = e.starts; next = e.next; idle = e.idle } in
+    let act : Act = act_of m new later server call e in
+    let more : steps_in (g.acts ++ act ∷ []) ≡ steps_in g.acts ++ (act.start ∷ act.steps) = steps_more g.acts act in
     record {
       acts = g.acts ++ act ∷ [];
-      are = acts_more old (session m sv) (session new later) g.acts act g.are is (went m new sv later server call e);
+      are = acts_more old (session m sv) (session new later) g.acts act g.are acts (entered m new sv later server call e) (went m new sv later server call e);
       number = length-append g.acts (act ∷ []) ∙ ap (λ n. n + 1) g.number;
       has_is =
           ap (λ v. v || own) g.has_is
-          ∙ ap (λ v. is_among thread (ended_by g.acts) || v) told.ended_is
-          ∙ sym (list_any-append (λ n. nat_eq n thread) (ended_by g.acts) ended)
-          ∙ ap (is_among thread) (ap (λ x. ended_by g.acts ++ x) (sym (append-nil ended))
-          ∙ sym (flat_map-append (λ (x : Act). x.answer.ended.items ++ ended_in x.steps) g.acts (act ∷ [])));
-      tells = adds_is has_told before t _ _ (ap (λ x. flat_map act_reports g.acts ++ x) (sym (append-nil (act_reports act))) ∙ sym (flat_map-append act_reports g.acts (act ∷ [])))
+          ∙ ap (λ v. is_among thread (ended_in (steps_in g.acts)) || v) told.ended_is
+          ∙ sym (among_more thread (ended_in (steps_in g.acts)) (ended_in (act.start ∷ act.steps)))
+          ∙ ap (is_among thread) (sym (ap ended_in more ∙ ended_more (steps_in g.acts) (act.start ∷ act.steps)));
+      tells = adds_is has_told before t _ _ (sym (ap (flat_map done_reports) more ∙ reports_more (steps_in g.acts) (act.start ∷ act.steps)))
           (adds_more has_told before s t _ _ g.tells told.tells);
     }
 
@@ -154,9 +180,9 @@ acting_quiet has_told old thread count m sv read has before s le g same none = r
   are = g.are;
   few = omega (arith, g.number, le);
   last = [];
-  stops = inl (subst (λ (x : Machine). NoneReady x.threads sv) same none, refl, refl);
+  stops = inl (inl (subst (λ (x : Machine). NoneReady x.threads sv) same none), refl, refl);
   ended_is = g.has_is;
-  tells = adds_is has_told before s _ _ (sym (append-nil (flat_map act_reports g.acts))) g.tells;
+  tells = adds_is has_told before s _ _ (sym (append-nil (flat_map done_reports (steps_in g.acts)))) g.tells;
 }
 
 -- the line has had all its acts
@@ -168,9 +194,9 @@ acting_spent has_told old thread count m has before s all g = record {
   are = g.are;
   few = omega (arith, g.number, all);
   last = [];
-  stops = inr (inl (g.number ∙ all, refl, refl));
+  stops = inl (inr (g.number ∙ all), refl, refl);
   ended_is = g.has_is;
-  tells = adds_is has_told before s _ _ (sym (append-nil (flat_map act_reports g.acts))) g.tells;
+  tells = adds_is has_told before s _ _ (sym (append-nil (flat_map done_reports (steps_in g.acts)))) g.tells;
 }
 
 -- an act was refused
@@ -184,7 +210,7 @@ acting_refused has_told old thread count m new sv later has before s t server ca
       are = g.are;
       few = omega (arith, g.number, lt);
       last = told;
-      stops = inr (inr (record {
+      stops = inr (record {
         few = omega (arith, g.number, lt);
         thread = server;
         call = call;
@@ -193,7 +219,7 @@ acting_refused has_told old thread count m new sv later has before s t server ca
         refused = refused.0;
         same = ap (λ (k : Seated). session k later) refused.1;
         told_is = is;
-      }));
+      });
       ended_is = g.has_is;
       tells = adds_more has_told before s t _ _ g.tells tells;
     }
@@ -205,11 +231,11 @@ pub goes_on : {T : Type 0} (has_told : T → T → List Report → Type 0) (old 
     → AddsAll has_told s t (waiting_reports thread (has || acted))
     → (told : List Report) × GoesOn old thread had told new × AddsAll has_told before t told
 goes_on has_told old new thread had has acted before s t has_is acts waiting =
-    let all : (has || acted) ≡ is_among thread (had ++ ended_by acts.acts) =
+    let all : (has || acted) ≡ is_among thread (had ++ ended_in (steps_in acts.acts)) =
     ap (λ v. v || acted) has_is
     ∙ ap (λ v. is_among thread had || v) acts.ended_is
-    ∙ sym (list_any-append (λ n. nat_eq n thread) had (ended_by acts.acts)) in (
-      (flat_map act_reports acts.acts ++ acts.last) ++ waiting_reports thread (is_among thread (had ++ ended_by acts.acts)),
+    ∙ sym (among_more thread had (ended_in (steps_in acts.acts))) in (
+      (flat_map done_reports (steps_in acts.acts) ++ acts.last) ++ waiting_reports thread (is_among thread (had ++ ended_in (steps_in acts.acts))),
       record {
         acts = acts.acts;
         between = acts.between;
@@ -219,9 +245,15 @@ goes_on has_told old new thread had has acted before s t has_is acts waiting =
         stops = acts.stops;
         told_is = refl;
       },
-      adds_is has_told before t _ _ (ap (λ v. (flat_map act_reports acts.acts ++ acts.last) ++ waiting_reports thread v) all)
+      adds_is has_told before t _ _ (ap (λ v. (flat_map done_reports (steps_in acts.acts) ++ acts.last) ++ waiting_reports thread v) all)
           (adds_more has_told before s t _ _ acts.tells waiting),
     )
+
+-- the reports of a call's steps before those of the acts after it
+told_in_all : (own acts : List Done) (last waits : List Report) → flat_map done_reports own ++ ((flat_map done_reports acts ++ last) ++ waits) ≡ (flat_map done_reports (own ++ acts) ++ last) ++ waits
+told_in_all own acts last waits =
+    sym (append_assoc (flat_map done_reports own) (flat_map done_reports acts ++ last) waits)
+    ∙ ap (λ l. l ++ waits) (sym (append_assoc (flat_map done_reports own) (flat_map done_reports acts) last) ∙ ap (λ l. l ++ last) (sym (reports_more own acts)))
 
 -- the call was started
 pub follows_on : {T : Type 0} (has_told : T → T → List Report → Type 0) (old new : Seated) (sv later wanted : Servers) (last : Session) (thread : ℕ) (call asked : Call) (ended : Bool) (before s t : T)
@@ -230,23 +262,27 @@ pub follows_on : {T : Type 0} (has_told : T → T → List Report → Type 0) (o
     → (told : List Report) × Follows (session old sv) thread asked wanted told last × AddsAll has_told before t told
 follows_on has_told old new sv later wanted last thread call asked ended before s t is is' told next =
     let e = told.enters in
-    let had : List ℕ = e.answer.ended.items ++ ended_in e.steps in
-    let g = next had told.ended_is in (
-      (step_reports (Start thread asked) e.answer e.started ++ flat_map done_reports e.steps) ++ g.0,
+    let own : Act = act_of old new later thread call e in
+    let steps : List Done = own.start ∷ own.steps in
+    let rest = next (ended_in steps) told.ended_is in
+    let g = rest.1 in (
+      flat_map done_reports steps ++ rest.0,
       record {
-        can = e.can;
-        answer = e.answer;
-        started = e.started;
-        starts = subst (λ (c : Call). Steps old.machine (Start thread c) (Ok e.answer) e.started) is e.starts;
-        steps = e.steps;
-        settled = new.machine;
-        next = e.next;
-        idle = e.idle;
-        rest = g.0;
-        goes_on = subst (λ (x : Session). GoesOn x thread had g.0 last) (went old new sv later thread call e ∙ (λ i. gone_on (session old sv) (is' i) (call_entries thread (is i) e.answer e.steps) new.machine)) g.1;
-        told_is = refl;
+        own = own;
+        own_is = (refl, is, is');
+        entered = entered old new sv later thread call e;
+        acts = g.acts;
+        between = g.between;
+        are = subst (λ (x : Session). AreActs x g.acts g.between) (went old new sv later thread call e) g.are;
+        few = g.few;
+        last = g.last;
+        stops = g.stops;
+        told_is =
+            ap (λ l. flat_map done_reports steps ++ l) g.told_is
+            ∙ told_in_all steps (steps_in g.acts) g.last (waiting_reports thread (is_among thread (ended_in steps ++ ended_in (steps_in g.acts))))
+            ∙ ap (λ l. (flat_map done_reports (steps ++ steps_in g.acts) ++ g.last) ++ waiting_reports thread (is_among thread l)) (sym (ended_more steps (steps_in g.acts)));
       },
-      adds_more has_told before s t _ _ told.tells g.2,
+      adds_more has_told before s t _ _ told.tells rest.2,
     )
 
 -- the call was refused
@@ -255,12 +291,7 @@ pub refuses_on : {T : Type 0} (has_told : T → T → List Report → Type 0) (o
     → (told : List Report) × Refuses (session old sv) line thread asked told (session new later) × AddsAll has_told before t told
 refuses_on has_told old new sv later line thread call asked before t is same r = (
   RefusedLine line (call_refusal r.refusal) ∷ [],
-  record {
-    refusal = r.refusal;
-    refused = subst (λ (c : Call). RefusesCall old.machine (length old.history) old.numbers thread c r.refusal) is r.refused;
-    same = λ i. session (r.same i) (same i);
-    told_is = refl;
-  },
+  (r.refusal, subst (λ (c : Call). RefusesCall old.machine (length old.history) old.numbers thread c r.refusal) is r.refused, (refl, λ i. session (r.same i) (same i))),
   r.tells,
 )
 
@@ -275,9 +306,9 @@ refusal_told has_told old new line thread call refusal told before t refused is 
 -- root creates a thread, whose number has its seat
 pub creates_on : {T : Type 0} (has_told : T → T → List Report → Type 0) (old between : Seated) (sv : Servers) (last : Session) (line number : ℕ) (call : Call) (before t : T)
     → between ≡ record old { numbers = with_number old.numbers number }
-    → (told : List Report) × Enters (session between sv) line root call told last × AddsAll has_told before t told
+    → (told : List Report) × Enters (session between sv) line root call sv told last × AddsAll has_told before t told
     → (told : List Report) × Creates (session old sv) line number call told last × AddsAll has_told before t told
-creates_on has_told old between sv last line number call before t is e = (e.0, inl (subst (λ (k : Seated). Enters (session k sv) line root call e.0 last) is e.1), e.2)
+creates_on has_told old between sv last line number call before t is e = (e.0, inl (subst (λ (k : Seated). Enters (session k sv) line root call sv e.0 last) is e.1), e.2)
 
 pub creates_not : {T : Type 0} (has_told : T → T → List Report → Type 0) (old between : Seated) (sv : Servers) (line number : ℕ) (call : Call) (told : List Report) (before t : T)
     → (between ≡ old) × (is_among number old.numbers ≡ false) → told ≡ RefusedLine line lacks_memory ∷ [] → AddsAll has_told before t told

@@ -9,7 +9,8 @@ use Rattle.std.specs.Str.{bytes_eq}
 use Rattle.l4_text.specs.Numbers.{number_of, decimal_of, hex_of, below}
 use Rattle.l4_text.specs.Tokens.{tokens_of, FirstNumber}
 use Rattle.l4_text.specs.Grammar.{◌>>=◌}
-use Rattle.l4_shell.specs.Commands.{first_by, no_more, thread_of, nil_or_thread_of, partner_of, last_rights_of, receive_asked, send_asked, ipc_asked, fault_asked, rights_of, command_of}
+use Rattle.l4_shell.specs.Commands.{first_by, no_more, thread_of, nil_or_thread_of, partner_of, last_rights_of, rights_of, command_of}
+use Rattle.l4_shell.specs.Inside.Asking.{asked}
 use Rattle.l4_shell.specs.declared.partners.Partner.TheVariants.{Nil, Any, Thread}
 use Rattle.l4_shell.specs.declared.commands.ScriptFault.TheVariants.{BadTokens}
 
@@ -72,18 +73,18 @@ rights_alone token = elim (rights_of token) as (λ (o : Option RightsSet). o ≡
 
 -- ---- the commands of most lines
 
-pub recv_is : (name : List ℕ) (tokens : List (List ℕ)) → bytes_eq name (codes "recv") ≡ true → ok_or (receive_asked tokens) BadTokens ≡ command_of (name ∷ tokens)
+pub recv_is : (name : List ℕ) (tokens : List (List ℕ)) → bytes_eq name (codes "recv") ≡ true → ok_or (asked (codes "recv") tokens) BadTokens ≡ command_of (name ∷ tokens)
 unfolding command_of
 recv_is name tokens is = ap (λ n. command_of (n ∷ tokens)) (sym ((bytes_eq-Decides name (codes "recv")).0 is))
 
-pub send_is : (name : List ℕ) (tokens : List (List ℕ)) → bytes_eq name (codes "send") ≡ true → ok_or (send_asked tokens) BadTokens ≡ command_of (name ∷ tokens)
+pub send_is : (name : List ℕ) (tokens : List (List ℕ)) → bytes_eq name (codes "send") ≡ true → ok_or (asked (codes "send") tokens) BadTokens ≡ command_of (name ∷ tokens)
 unfolding command_of
 send_is name tokens is = ap (λ n. command_of (n ∷ tokens)) (sym ((bytes_eq-Decides name (codes "send")).0 is))
 
-pub ipc_is : (name : List ℕ) (tokens : List (List ℕ)) → bytes_eq name (codes "ipc") ≡ true → ok_or (ipc_asked tokens) BadTokens ≡ command_of (name ∷ tokens)
+pub ipc_is : (name : List ℕ) (tokens : List (List ℕ)) → bytes_eq name (codes "ipc") ≡ true → ok_or (asked (codes "ipc") tokens) BadTokens ≡ command_of (name ∷ tokens)
 unfolding command_of
 ipc_is name tokens is = ap (λ n. command_of (n ∷ tokens)) (sym ((bytes_eq-Decides name (codes "ipc")).0 is))
 
-pub fault_is : (name : List ℕ) (tokens : List (List ℕ)) → bytes_eq name (codes "fault") ≡ true → ok_or (fault_asked tokens) BadTokens ≡ command_of (name ∷ tokens)
+pub fault_is : (name : List ℕ) (tokens : List (List ℕ)) → bytes_eq name (codes "fault") ≡ true → ok_or (asked (codes "fault") tokens) BadTokens ≡ command_of (name ∷ tokens)
 unfolding command_of
 fault_is name tokens is = ap (λ n. command_of (n ∷ tokens)) (sym ((bytes_eq-Decides name (codes "fault")).0 is))

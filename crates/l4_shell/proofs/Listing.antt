@@ -105,13 +105,11 @@ lists_pages has_told m space first count end shown before s t end_is l tells = (
   flat_map (place_reports m space) l.pages ++ Shown (length l.pages) ∷ [],
   record {
     pages = l.pages;
-    are = record {
-      rising = l.rising;
-      each = λ q. (
-        λ h. let w = (l.each q).0 h in let e = (end_is q).0 w.1 in (w.0, e.0, e.1, w.2),
-        λ h. (l.each q).1 (h.0, (end_is q).1 (h.1, h.2), h.3),
-      );
-    };
+    rising = l.rising;
+    each = λ q. (
+      λ h. let w = (l.each q).0 h in let e = (end_is q).0 w.1 in (w.0, e.0, e.1, w.2),
+      λ h. (l.each q).1 (h.0, (end_is q).1 (h.1, h.2), h.3),
+    );
     told_is = refl;
   },
   adds_is has_told before t _ _ (ap (λ n. flat_map (place_reports m space) l.pages ++ Shown n ∷ []) l.number) (adds_more has_told before s t _ _ l.tells tells),

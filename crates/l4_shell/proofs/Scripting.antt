@@ -14,7 +14,7 @@ use Rattle.l4_record.specs.declared.entries.Entry.{Entry}
 use Rattle.l4_servers.specs.Servers.{Servers, no_servers}
 use Rattle.l4_text.specs.Grammar.{TextLine, lines_of}
 use Rattle.l4_text.specs.Lines.{kept_of, TakesLine, TakesRest, GivesLine, left_of}
-use Rattle.l4_shell.specs.Commands.{Command}
+use Rattle.l4_shell.specs.declared.requests.Request.{Request}
 use Rattle.l4_shell.specs.Requests.{Unread, asked_at, asked_of}
 use Rattle.l4_answers.specs.Reports.{Report, AddsAll, Keeps, AllOut}
 use Rattle.l4_shell.specs.Sessions.{Session, session, first_session, AnswersLine, AnswersLines}
@@ -114,7 +114,7 @@ answered_none has_told closed m a now s is = record {
 }
 
 -- the line of this number was answered while the sink was open
-opened_before : {T : Type 0} (has_told : T → T → List Report → Type 0) (closed : T → Bool) (old next last : Session) (lines : List TextLine) (line : TextLine) (number : ℕ) (asked : Result (Option Command) Unread) (before s : T) (earlier told : List Report)
+opened_before : {T : Type 0} (has_told : T → T → List Report → Type 0) (closed : T → Bool) (old next last : Session) (lines : List TextLine) (line : TextLine) (number : ℕ) (asked : Result (Option Request) Unread) (before s : T) (earlier told : List Report)
     → number ≡ 1 + length lines → AnswersLine last number asked told next → AddsAll has_told before s earlier → closed s ≡ false
     → WasOpen has_told closed before (length (lines ++ line ∷ [])) (earlier ++ told)
 opened_before has_told closed old next last lines line number asked before s earlier told number_is is adds opened =

@@ -21,7 +21,7 @@ use Rattle.l4_answers.specs.Refusals.{kernel_refusal}
 use Rattle.l4_answers.specs.Reports.{Report, RefusedLine, AddedRegion, AddsAll}
 use Rattle.l4_shell.specs.Refusals.{lacks_memory, region_refusal}
 use Rattle.l4_shell.specs.Inside.Telling.{TellsCall, TellsRefusal}
-use Rattle.l4_shell.specs.Sessions.{session, Refuses, LacksRoom, ServesThread, AddsRegion, RegionAdded, RegionRefused}
+use Rattle.l4_shell.specs.Sessions.{session, RefusesLine, RefusesFor, Refuses, LacksRoom, ServesThread, AddsRegion, RegionAdded}
 use Rattle.l4_shell.proofs.Going.{refuses_on}
 
 pub not_served : (begins was : Bool) → begins ≡ true → begins ≡ not was → was ≡ false
@@ -67,8 +67,8 @@ pub region_added : {T : Type 0} (has_told : T → T → List Report → Type 0) 
     → (told : List Report) × AddsRegion (session m sv) line thread entry told (session m later) × AddsAll has_told before t told
 region_added has_told m sv later line thread space entry told before t there added is tells = (
   told,
-  subst (λ (o : Option ℕ). MatchOption o ((told ≡ RefusedLine line (kernel_refusal UnknownThread) ∷ []) × (session m later ≡ session m sv))
-      (λ x. RegionAdded (session m sv) thread entry told (session m later) ⊎ RegionRefused (session m sv) line thread entry told (session m later))) there
+  subst (λ (o : Option ℕ). MatchOption o (RefusesLine (session m sv) line (kernel_refusal UnknownThread) told (session m later))
+      (λ x. RegionAdded (session m sv) thread entry told (session m later) ⊎ RefusesFor (RegionFails sv thread entry) region_refusal (session m sv) line told (session m later))) there
       (inl (added.0, is, ap (session m) added.1)),
   tells,
 )
@@ -78,8 +78,8 @@ pub region_refused : {T : Type 0} (has_told : T → T → List Report → Type 0
     → (told : List Report) × AddsRegion (session m sv) line thread entry told (session m later) × AddsAll has_told before t told
 region_refused has_told m sv later line thread space entry refusal told before t there fails is tells = (
   told,
-  subst (λ (o : Option ℕ). MatchOption o ((told ≡ RefusedLine line (kernel_refusal UnknownThread) ∷ []) × (session m later ≡ session m sv))
-      (λ x. RegionAdded (session m sv) thread entry told (session m later) ⊎ RegionRefused (session m sv) line thread entry told (session m later))) there
-      (inr (refusal, fails.0, is, ap (session m) fails.1)),
+  subst (λ (o : Option ℕ). MatchOption o (RefusesLine (session m sv) line (kernel_refusal UnknownThread) told (session m later))
+      (λ x. RegionAdded (session m sv) thread entry told (session m later) ⊎ RefusesFor (RegionFails sv thread entry) region_refusal (session m sv) line told (session m later))) there
+      (inr (refusal, fails.0, (is, ap (session m) fails.1))),
   tells,
 )

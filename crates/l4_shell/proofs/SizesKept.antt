@@ -10,23 +10,23 @@ use Rattle.l4_msg.specs.declared.messages.Message.{Message}
 use Rattle.l4_threads.specs.Threads.{Threads, space_of}
 use Rattle.l4_threads.specs.declared.ThreadId.{ThreadId}
 use Rattle.l4_ipc.specs.declared.calls.Call.{Call}
-use Rattle.l4_ipc.specs.declared.steps.Step.TheVariants.{Start}
 use Rattle.l4_ipc.specs.Machine.{Machine}
 use Rattle.l4_ipc.specs.Following.{Done, AreNext}
 use Rattle.l4_ipc.proofs.SizeStays.{size_stays}
 use Rattle.l4_pager.specs.Regions.{Regions, no_entries, with_entry}
 use Rattle.l4_pager.specs.Serving.{waiting}
 use Rattle.l4_pager.specs.declared.regions.Entry.{Entry}
-use Rattle.l4_servers.specs.Servers.{Servers, servers, regions_of, with_region, with_served, without}
+use Rattle.l4_servers.specs.Servers.{Servers, servers, regions_of, with_region, with_served, without, RegionFails}
 use Rattle.l4_servers.specs.Acting.{Answers, ActsNext}
-use Rattle.l4_shell.specs.Commands.{Command}
 use Rattle.l4_shell.specs.declared.requests.Request.{Request}
 use Rattle.l4_shell.specs.declared.requests.Request.TheVariants.{Enter, CreateThread, EndThread, SendPlan, ListPages, TellParent, AddRegion, ServeThread, TellSteps}
 use Rattle.l4_answers.specs.Reports.{Report}
 use Rattle.l4_text.specs.Grammar.{TextLine}
-use Rattle.l4_shell.specs.Requests.{Unread, request_of, asked_of, root, delete_call}
+use Rattle.l4_shell.specs.Requests.{Unread, asked_of}
+use Rattle.l4_shell.specs.Calls.{root, delete_call}
 use Rattle.l4_record.specs.Seated.{with_number}
-use Rattle.l4_shell.specs.Sessions.{Session, first_session, call_entries, gone_on, Act, act_entries, IsAct, AreActs, StopsActing, Follows, Enters, RegionAdded, RegionRefused, CarriesOut, AnswersLine, AnswersLines}
+use Rattle.l4_shell.specs.Refusals.{region_refusal}
+use Rattle.l4_shell.specs.Sessions.{Session, first_session, Act, IsEntered, after_act, AreActs, StopsActing, Follows, RefusesFor, Enters, RegionAdded, CarriesOut, AnswersLine, AnswersLines}
 use Rattle.l4_shell.specs.Sizes.{GoBy, HasSize}
 
 -- STEPS
@@ -77,7 +77,7 @@ answers_go size t old thread sender m answer new a h = elim a [
         | inr not ↦ λ i. (not.2 i).size
       ] in
       subst (GoBy size) (sym x.2) (with_owners size old (servers x.0 old.tables old.served) same refl h)
-  | inr by ↦ let x = by.1 in subst (GoBy size) (sym x.1) h
+  | inr by ↦ subst (GoBy size) (sym by.2) h
 ]
 
 acts_go : (size : PageSize) (t : Threads) (old : Servers) (thread : ℕ) (call : Call) (new : Servers) → ActsNext t old thread call new → GoBy size old → GoBy size new
@@ -91,68 +91,58 @@ acts_go size t old thread call new a h = elim a.follows [
 same_size : (size : PageSize) (old new : Session) → new ≡ old → HasSize size old → HasSize size new
 same_size size old new is h = subst (HasSize size) (sym is) h
 
-act_size : (size : PageSize) (old : Session) (act : Act) → IsAct old act → HasSize size old → HasSize size (gone_on old act.servers (act_entries act) act.after)
-act_size size old act is h = record {
-  machine = steps_size act.started act.steps act.after is.next ∙ size_stays old.machine (Start act.thread act.call) (Ok act.answer) act.started is.starts ∙ h.machine;
-  servers = acts_go size old.machine.threads old.servers act.thread act.call act.servers is.acts h.servers;
+act_size : (size : PageSize) (old : Session) (act : Act) → IsEntered old act → HasSize size old → GoBy size act.servers → HasSize size (after_act old act)
+act_size size old act is h go = record {
+  machine = steps_size act.start.after act.steps act.after is.next ∙ size_stays old.machine act.start.step (Ok act.start.answer) act.start.after is.starts ∙ h.machine;
+  servers = go;
 }
 
 are_acts_size : (size : PageSize) (old : Session) (acts : List Act) (new : Session) → AreActs old acts new → HasSize size old → HasSize size new
 are_acts_size size old [] new are h = same_size size old new are h
 are_acts_size size old (act ∷ acts) new are h =
-    are_acts_size size (gone_on old act.servers (act_entries act) act.after) acts new are.1 (act_size size old act are.0 h)
+    are_acts_size size (after_act old act) acts new are.2 (act_size size old act are.1 h (acts_go size old.machine.threads old.servers act.thread act.call act.servers are.0 h.servers))
 
 stops_size : (size : PageSize) (old : Session) (count : ℕ) (told : List Report) (new : Session) → StopsActing old count told new → HasSize size old → HasSize size new
 stops_size size old count told new stops h = elim stops [
-  | inl quiet ↦ same_size size old new quiet.2 h
-  | inr rest ↦ elim rest [
-    | inl spent ↦ same_size size old new spent.2 h
-    | inr r ↦ record {
-      machine = ap (λ (s : Session). s.machine.size) r.same ∙ h.machine;
-      servers = acts_go size old.machine.threads old.servers r.thread r.call new.servers r.acts h.servers;
-    }
-  ]
+  | inl ended ↦ same_size size old new ended.2 h
+  | inr r ↦ record {
+    machine = ap (λ (s : Session). s.machine.size) r.same ∙ h.machine;
+    servers = acts_go size old.machine.threads old.servers r.thread r.call new.servers r.acts h.servers;
+  }
 ]
 
 follows_size : (size : PageSize) (old : Session) (thread : ℕ) (call : Call) (sv : Servers) (told : List Report) (new : Session) → Follows old thread call sv told new → HasSize size old → GoBy size sv → HasSize size new
 follows_size size old thread call sv told new f h go =
-    let g = f.goes_on in
-    stops_size size g.between (length g.acts) g.last new g.stops
-    (are_acts_size size (gone_on old sv (call_entries thread call f.answer f.steps) f.settled) g.acts g.between g.are
-    (record {
-      machine = steps_size f.started f.steps f.settled f.next ∙ size_stays old.machine (Start thread call) (Ok f.answer) f.started f.starts ∙ h.machine;
-      servers = go;
-    }))
+    stops_size size f.between (length f.acts) f.last new f.stops
+    (are_acts_size size (after_act old f.own) f.acts f.between f.are
+    (act_size size old f.own f.entered h (subst (GoBy size) (sym f.own_is.2) go)))
 
-enters_size : (size : PageSize) (old : Session) (line thread : ℕ) (call : Call) (told : List Report) (new : Session) → Enters old line thread call told new → HasSize size old → HasSize size new
-enters_size size old line thread call told new e h = elim e [
-  | inl f ↦ follows_size size old thread call old.servers told new f h h.servers
-  | inr r ↦ same_size size old new r.same h
+enters_size : (size : PageSize) (old : Session) (line thread : ℕ) (call : Call) (sv : Servers) (told : List Report) (new : Session) → Enters old line thread call sv told new → HasSize size old → GoBy size sv → HasSize size new
+enters_size size old line thread call sv told new e h go = elim e [
+  | inl f ↦ follows_size size old thread call sv told new f h go
+  | inr r ↦ same_size size old new r.2.1 h
 ]
 
 adds_size : (size : PageSize) (old : Session) (line thread : ℕ) (entry : Entry) (space : Option ℕ) (told refused : List Report) (new : Session)
-    → MatchOption space ((told ≡ refused) × (new ≡ old)) (λ _. RegionAdded old thread entry told new ⊎ RegionRefused old line thread entry told new) → HasSize size old → HasSize size new
+    → MatchOption space ((told ≡ refused) × (new ≡ old)) (λ _. RegionAdded old thread entry told new ⊎ RefusesFor (RegionFails old.servers thread entry) region_refusal old line told new) → HasSize size old → HasSize size new
 adds_size size old line thread entry None told refused new a h = same_size size old new a.1 h
 adds_size size old line thread entry (Some space) told refused new a h = elim a [
   | inl added ↦ subst (HasSize size) (sym added.2) (record { machine = h.machine; servers = region_goes size old.servers thread entry h.servers })
-  | inr not ↦ same_size size old new not.3 h
+  | inr not ↦ same_size size old new not.2.1 h
 ]
 
 -- LINES
 
 carries_size : (size : PageSize) (old : Session) (line : ℕ) (request : Request) (told : List Report) (new : Session) → CarriesOut old line request told new → HasSize size old → HasSize size new
-carries_size size old line (Enter thread call) told new c h = enters_size size old line thread call told new c h
+carries_size size old line (Enter thread call) told new c h = enters_size size old line thread call old.servers told new c h h.servers
 carries_size size old line (CreateThread number call) told new c h = elim c [
-  | inl e ↦ enters_size size (record old { numbers = with_number old.numbers number }) line root call told new e (record { machine = h.machine; servers = h.servers })
+  | inl e ↦ enters_size size (record old { numbers = with_number old.numbers number }) line root call old.servers told new e (record { machine = h.machine; servers = h.servers }) h.servers
   | inr lacks ↦ same_size size old new lacks.1.1 h
 ]
-carries_size size old line (EndThread thread) told new c h = elim c [
-  | inl f ↦ follows_size size old root (delete_call thread) (without old.servers thread) told new f h (without_goes size old.servers thread h.servers)
-  | inr r ↦ same_size size old new r.same h
-]
+carries_size size old line (EndThread thread) told new c h = enters_size size old line root (delete_call thread) (without old.servers thread) told new c h (without_goes size old.servers thread h.servers)
 carries_size size old line (SendPlan thread to which region) told new c h = elim c [
-  | inl sends ↦ enters_size size old line thread _ told new sends.2 h
-  | inr none ↦ same_size size old new none.3 h
+  | inl sends ↦ enters_size size old line thread _ old.servers told new sends.2 h h.servers
+  | inr none ↦ same_size size old new none.2.1 h
 ]
 carries_size size old line (ListPages thread first count) told new c h = same_size size old new c.1 h
 carries_size size old line (TellParent thread page) told new c h = same_size size old new c.1 h
@@ -160,15 +150,15 @@ carries_size size old line (AddRegion thread entry) told new c h = adds_size siz
 carries_size size old line (ServeThread thread) told new c h = elim c [
   | inl f ↦ follows_size size old thread waiting (with_served old.servers thread) told new f h (served_goes size old.servers thread h.servers)
   | inr not ↦ elim not [
-    | inl r ↦ same_size size old new r.same h
+    | inl r ↦ same_size size old new r.2.1 h
     | inr lacks ↦ same_size size old new lacks.lacks.1 h
   ]
 ]
 carries_size size old line TellSteps told new c h = subst (HasSize size) (sym c.4) (record { machine = h.machine; servers = h.servers })
 
-line_size : (size : PageSize) (old : Session) (line : ℕ) (asked : Result (Option Command) Unread) (told : List Report) (new : Session) → AnswersLine old line asked told new → HasSize size old → HasSize size new
+line_size : (size : PageSize) (old : Session) (line : ℕ) (asked : Result (Option Request) Unread) (told : List Report) (new : Session) → AnswersLine old line asked told new → HasSize size old → HasSize size new
 line_size size old line (Ok None) told new a h = same_size size old new a.1 h
-line_size size old line (Ok (Some command)) told new a h = carries_size size old line (request_of command) told new a h
+line_size size old line (Ok (Some request)) told new a h = carries_size size old line request told new a h
 line_size size old line (Err unread) told new a h = same_size size old new a.1 h
 
 pub lines_sized : (size : PageSize) (old : Session) (number : ℕ) (lines : List TextLine) (told : List Report) (new : Session) → AnswersLines old number lines told new → HasSize size old → HasSize size new

@@ -5,49 +5,19 @@ use Rattle.l4_fpage.specs.Rights.{RightsSet}
 use Rattle.l4_msg.specs.Sizes.{max_words}
 use Rattle.l4_threads.specs.Sizes.{numbers}
 use Rattle.l4_msg.specs.declared.regions.Region.{Region as Delegated}
-use Rattle.l4_ipc.specs.declared.calls.FaultCall.{FaultCall}
 use Rattle.l4_pager.specs.declared.regions.Entry.{Entry}
 use Rattle.l4_shell.specs.declared.partners.Partner.{Partner}
 use Rattle.l4_shell.specs.declared.partners.Partner.TheVariants.{Nil, Any, Thread as One}
 use Rattle.l4_shell.specs.declared.partners.NewSpace.{NewSpace}
 use Rattle.l4_shell.specs.declared.partners.NewSpace.TheVariants.{New, Of}
+use Rattle.l4_shell.specs.declared.delegations.Which.TheVariants.{Only, Message}
+use Rattle.l4_shell.specs.declared.requests.Request.{Request}
+use Rattle.l4_shell.specs.declared.requests.Request.TheVariants.{Enter, CreateThread, EndThread, SendPlan, ListPages, TellParent, AddRegion, ServeThread, TellSteps}
+use Rattle.l4_shell.specs.Calls.{create_call, set_pager_call, receive_call, send_call, ipc_call, unmap_call, fault_call, root}
 use Rattle.l4_shell.specs.declared.commands.ScriptFault.{ScriptFault}
 use Rattle.l4_shell.specs.declared.commands.ScriptFault.TheVariants.{UnknownCommand, BadTokens}
 use Rattle.l4_text.specs.Grammar.{◌>>=◌, numbers_of}
 use Rattle.l4_text.specs.Numbers.{below, number_of}
-
--- A command. Threads are named by their numbers, below 2^18; the first of the words is the tag.
-pub data Command : Type 0 where
-  -- root creates a thread of this number, in this space and with this pager
-  Thread : ℕ → NewSpace → Partner → Command
-  -- root changes a thread's pager
-  SetPager : ℕ → Partner → Command
-  -- root deletes a thread
-  Delete : ℕ → Command
-  -- a thread receives from a partner, with this window
-  Receive : ℕ → Partner → ℕ → Command
-  -- a thread sends these words to a partner
-  Send : ℕ → Partner → List ℕ → Command
-  -- a thread sends these words to a partner, and then receives from another one, with these timeouts and this window
-  Ipc : ℕ → Partner → Partner → ℕ → ℕ → List ℕ → Command
-  -- a thread raises a page fault
-  Fault : ℕ → FaultCall → Command
-  -- a thread sends the only message of the region's plan to a partner
-  Delegate : ℕ → Partner → Delegated → Command
-  -- a thread sends the message with this number, from 0, of the region's plan to a partner
-  Part : ℕ → Partner → ℕ → Delegated → Command
-  -- a thread revokes rights: the control word, and the message registers
-  Unmap : ℕ → ℕ → List ℕ → Command
-  -- the present pages of a thread's space among this number of pages from a first one on
-  Show : ℕ → ℕ → ℕ → Command
-  -- the parent of a page of a thread's space
-  Parent : ℕ → ℕ → Command
-  -- a region is added to a thread's table
-  Region : ℕ → Entry → Command
-  -- a thread is served
-  Serve : ℕ → Command
-  -- how many entries the history has
-  Steps : Command
 
 -- whether a token is this word
 abbrev pub is_word : List ℕ → List ℕ → Bool
@@ -92,10 +62,10 @@ abbrev pub first_by : {A : Type 0} → (List ℕ → Option A) → List (List �
 first_by read [] = None
 first_by read (token ∷ tokens) = read token >>= λ a. Some (a, tokens)
 
--- reads one token, and then the tokens after it, which may depend on the token's value
+-- reads one token, hands its value to what is made, and then reads the tokens after it
 infixr 10 ◌▹◌
-abbrev pub ◌▹◌ : {A B : Type 0} → (List ℕ → Option A) → (A → List (List ℕ) → Option B) → List (List ℕ) → Option B
-(read ▹ asks) tokens = first_by read tokens >>= λ a. asks a.0 a.1
+abbrev pub ◌▹◌ : {A B C : Type 0} → (List ℕ → Option A) → (B → List (List ℕ) → Option C) → (A → B) → List (List ℕ) → Option C
+(read ▹ rest) make tokens = first_by read tokens >>= λ a. rest (make a.0) a.1
 
 -- there are no more tokens
 abbrev pub no_more : {A : Type 0} → A → List (List ℕ) → Option A
@@ -108,97 +78,65 @@ all_by read make tokens = read tokens >>= λ a. Some (make a)
 
 -- rights, with no token after them
 abbrev pub last_rights_of : List (List ℕ) → Option RightsSet
-last_rights_of tokens = (rights_of ▹ no_more) tokens
+last_rights_of tokens = (rights_of ▹ no_more) (λ r. r) tokens
 
 -- SOURCE TARGET COUNT RIGHTS
 unfoldable pub region_of : List (List ℕ) → Option Delegated
-region_of tokens = (number_of ▹ λ s. number_of ▹ λ t. number_of ▹ λ c. all_by last_rights_of λ r. record { source = s; target = t; count = c; rights = r }) tokens
+region_of tokens =
+    (number_of ▹ number_of ▹ number_of ▹ all_by last_rights_of) (λ s t c r. record { source = s; target = t; count = c; rights = r }) tokens
 
 -- THE COMMANDS
 
--- N SPACE PAGER
-unfoldable pub thread_asked : List (List ℕ) → Option Command
-thread_asked tokens = (thread_of ▹ λ n. new_space_of ▹ λ space. nil_or_thread_of ▹ λ pager. no_more (Thread n space pager)) tokens
+-- FIRST SOURCE COUNT RIGHTS
+abbrev pub entry_with : ℕ → ℕ → ℕ → RightsSet → Entry
+entry_with f s c r = record { first = f; source = s; count = c; rights = r }
 
--- N PAGER
-unfoldable pub set_pager_asked : List (List ℕ) → Option Command
-set_pager_asked tokens = (thread_of ▹ λ n. nil_or_thread_of ▹ λ pager. no_more (SetPager n pager)) tokens
+-- Each command's name, the tokens after it, and what it requests. Threads are named by their numbers, below 2^18; the first of the words of
+-- a message is its tag.
+abbrev pub commands : List (List ℕ × (List (List ℕ) → Option Request))
+commands =
+    -- root creates a thread of this number, in this space and with this pager
+    (codes "thread", (thread_of ▹ new_space_of ▹ nil_or_thread_of ▹ no_more) (λ n space pager. CreateThread n (create_call n space pager)))
+    -- root changes a thread's pager
+    ∷ (codes "setpager", (thread_of ▹ nil_or_thread_of ▹ no_more) (λ n pager. Enter root (set_pager_call n pager)))
+    -- root deletes a thread
+    ∷ (codes "delete", (thread_of ▹ no_more) EndThread)
+    -- a thread receives from a partner, with this window
+    ∷ (codes "recv", (thread_of ▹ partner_of ▹ number_of ▹ no_more) (λ n p window. Enter n (receive_call p window)))
+    -- a thread sends these words to a partner
+    ∷ (codes "send", (thread_of ▹ partner_of ▹ all_by words_of) (λ n to words. Enter n (send_call to words)))
+    -- a thread sends these words to a partner, and then receives from another one, with these timeouts and this window
+    ∷ (
+      codes "ipc",
+      (thread_of ▹ partner_of ▹ partner_of ▹ number_of ▹ number_of ▹ all_by words_of)
+          (λ n to p t window words. Enter n (ipc_call to p t window words)),
+    )
+    -- a thread sends the only message of the region's plan to a partner
+    ∷ (codes "delegate", (thread_of ▹ partner_of ▹ all_by region_of) (λ n to region. SendPlan n to Only region))
+    -- a thread sends the message with this number, from 0, of the region's plan to a partner
+    ∷ (codes "part", (thread_of ▹ partner_of ▹ number_of ▹ all_by region_of) (λ n to k region. SendPlan n to (Message k) region))
+    -- a thread revokes rights: the control word, and the message registers
+    ∷ (codes "unmap", (thread_of ▹ number_of ▹ all_by words_of) (λ n control words. Enter n (unmap_call control words)))
+    -- the present pages of a thread's space among this number of pages from a first one on
+    ∷ (codes "show", (thread_of ▹ number_of ▹ number_of ▹ no_more) ListPages)
+    -- the parent of a page of a thread's space
+    ∷ (codes "parent", (thread_of ▹ number_of ▹ no_more) TellParent)
+    -- a thread raises a page fault
+    ∷ (codes "fault", (thread_of ▹ number_of ▹ number_of ▹ all_by last_rights_of) (λ n a ip r. Enter n (fault_call a ip r)))
+    -- a region is added to a thread's table
+    ∷ (codes "region", (thread_of ▹ number_of ▹ number_of ▹ number_of ▹ all_by last_rights_of) (λ n f s c r. AddRegion n (entry_with f s c r)))
+    -- a thread is served
+    ∷ (codes "serve", (thread_of ▹ no_more) ServeThread)
+    -- how many entries the history has
+    ∷ (codes "steps", no_more TellSteps)
+    ∷ []
 
--- N
-unfoldable pub delete_asked : List (List ℕ) → Option Command
-delete_asked tokens = (thread_of ▹ λ n. no_more (Delete n)) tokens
+-- what a name and the tokens after it request, by these rows; or the reason why they cannot be read
+abbrev pub command_in : List (List ℕ × (List (List ℕ) → Option Request)) → List ℕ → List (List ℕ) → Result Request ScriptFault
+command_in [] name tokens = Err UnknownCommand
+command_in (row ∷ rows) name tokens = if is_word row.0 name then ok_or (row.1 tokens) BadTokens else command_in rows name tokens
 
--- N FROM WINDOW
-unfoldable pub receive_asked : List (List ℕ) → Option Command
-receive_asked tokens = (thread_of ▹ λ n. partner_of ▹ λ p. number_of ▹ λ window. no_more (Receive n p window)) tokens
-
--- N TO WORD..
-unfoldable pub send_asked : List (List ℕ) → Option Command
-send_asked tokens = (thread_of ▹ λ n. partner_of ▹ λ to. all_by words_of (Send n to)) tokens
-
--- N TO FROM TIMEOUTS WINDOW WORD..
-unfoldable pub ipc_asked : List (List ℕ) → Option Command
-ipc_asked tokens = (thread_of ▹ λ n. partner_of ▹ λ to. partner_of ▹ λ p. number_of ▹ λ t. number_of ▹ λ window. all_by words_of (Ipc n to p t window)) tokens
-
--- N TO SOURCE TARGET COUNT RIGHTS
-unfoldable pub delegate_asked : List (List ℕ) → Option Command
-delegate_asked tokens = (thread_of ▹ λ n. partner_of ▹ λ to. all_by region_of (Delegate n to)) tokens
-
--- N TO K SOURCE TARGET COUNT RIGHTS
-unfoldable pub part_asked : List (List ℕ) → Option Command
-part_asked tokens = (thread_of ▹ λ n. partner_of ▹ λ to. number_of ▹ λ k. all_by region_of (Part n to k)) tokens
-
--- N CONTROL WORD..
-unfoldable pub unmap_asked : List (List ℕ) → Option Command
-unmap_asked tokens = (thread_of ▹ λ n. number_of ▹ λ control. all_by words_of (Unmap n control)) tokens
-
--- N FIRST COUNT
-unfoldable pub show_asked : List (List ℕ) → Option Command
-show_asked tokens = (thread_of ▹ λ n. number_of ▹ λ first. number_of ▹ λ count. no_more (Show n first count)) tokens
-
--- N PAGE
-unfoldable pub parent_asked : List (List ℕ) → Option Command
-parent_asked tokens = (thread_of ▹ λ n. number_of ▹ λ page. no_more (Parent n page)) tokens
-
--- N ADDRESS IP RIGHTS
-unfoldable pub fault_asked : List (List ℕ) → Option Command
-fault_asked tokens = (thread_of ▹ λ n. number_of ▹ λ a. number_of ▹ λ ip. all_by last_rights_of λ r. Fault n (record { address = a; ip = ip; access = r })) tokens
-
--- P FIRST SOURCE COUNT RIGHTS
-unfoldable pub region_asked : List (List ℕ) → Option Command
-region_asked tokens =
-    (thread_of ▹ λ n. number_of ▹ λ f. number_of ▹ λ s. number_of ▹ λ c. all_by last_rights_of λ r. Region n (record { first = f; source = s; count = c; rights = r })) tokens
-
--- P
-unfoldable pub serve_asked : List (List ℕ) → Option Command
-serve_asked tokens = (thread_of ▹ λ n. no_more (Serve n)) tokens
-
--- no tokens
-abbrev pub steps_asked : List (List ℕ) → Option Command
-steps_asked tokens = no_more Steps tokens
-
--- the commands of page faults and pagers, and of the history
-abbrev pub pager_command_of : List ℕ → List (List ℕ) → Result Command ScriptFault
-pager_command_of name tokens =
-    if is_word (codes "fault") name then ok_or (fault_asked tokens) BadTokens
-    else (if is_word (codes "region") name then ok_or (region_asked tokens) BadTokens
-    else (if is_word (codes "serve") name then ok_or (serve_asked tokens) BadTokens
-    else (if is_word (codes "steps") name then ok_or (steps_asked tokens) BadTokens
-    else Err UnknownCommand)))
-
--- the command of a line that has tokens, or the reason why they cannot be read
-unfoldable pub command_of : List (List ℕ) → Result Command ScriptFault
+-- what a line that has tokens requests, or the reason why they cannot be read
+unfoldable pub command_of : List (List ℕ) → Result Request ScriptFault
 command_of [] = Err UnknownCommand
-command_of (name ∷ tokens) =
-    if is_word (codes "thread") name then ok_or (thread_asked tokens) BadTokens
-    else (if is_word (codes "setpager") name then ok_or (set_pager_asked tokens) BadTokens
-    else (if is_word (codes "delete") name then ok_or (delete_asked tokens) BadTokens
-    else (if is_word (codes "recv") name then ok_or (receive_asked tokens) BadTokens
-    else (if is_word (codes "send") name then ok_or (send_asked tokens) BadTokens
-    else (if is_word (codes "ipc") name then ok_or (ipc_asked tokens) BadTokens
-    else (if is_word (codes "delegate") name then ok_or (delegate_asked tokens) BadTokens
-    else (if is_word (codes "part") name then ok_or (part_asked tokens) BadTokens
-    else (if is_word (codes "unmap") name then ok_or (unmap_asked tokens) BadTokens
-    else (if is_word (codes "show") name then ok_or (show_asked tokens) BadTokens
-    else (if is_word (codes "parent") name then ok_or (parent_asked tokens) BadTokens
-    else pager_command_of name tokens))))))))))
+command_of (name ∷ tokens) = command_in commands name tokens

@@ -3,7 +3,6 @@ use Rattle.std.specs.Prelude.{codes}
 use Rattle.l4_answers.specs.Refusals.{Refusal, plainly, at_place, kernel_refusal}
 use Rattle.l4_record.specs.declared.refusals.RecordRefusal.{RecordRefusal}
 use Rattle.l4_record.specs.declared.refusals.RecordRefusal.TheVariants.{HistoryFull, NoMemory as WantOfMemory, Kernel as ByKernel}
-use Rattle.l4_pager.specs.declared.regions.PagerRefusal.{PagerRefusal}
 use Rattle.l4_pager.specs.Regions.{code_of}
 use Rattle.l4_servers.specs.declared.servers.RegionRefusal.{RegionRefusal}
 use Rattle.l4_servers.specs.declared.servers.RegionRefusal.TheVariants.{Pager, NoMemory}
@@ -39,11 +38,7 @@ call_refusal HistoryFull = plainly (codes "L1")
 call_refusal WantOfMemory = lacks_memory
 call_refusal (ByKernel refusal) = kernel_refusal refusal
 
--- the code of a refusal of a pager's table
-abbrev pub pager_refusal : PagerRefusal → Refusal
-pager_refusal refusal = plainly (code_of refusal)
-
--- the code of a region that is not added
+-- the code of a region that is not added; for a refusal of the pager's table, that of the table
 abbrev pub region_refusal : RegionRefusal → Refusal
-region_refusal (Pager refusal) = pager_refusal refusal
+region_refusal (Pager refusal) = plainly (code_of refusal)
 region_refusal NoMemory = lacks_memory

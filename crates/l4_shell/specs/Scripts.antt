@@ -1,9 +1,9 @@
 -- A script from its first line to its last (this profile's own).
-use Rattle.std.specs.Prelude.{ℕ, ◌≡◌, ◌⊎◌, Bool, true, false, List, [], ◌∷◌, ◌++◌, length, filter, Option, Result, Ok, Err}
+use Rattle.std.specs.Prelude.{ℕ, ◌≡◌, ◌⊎◌, Bool, true, false, List, [], ◌∷◌, ◌++◌, length, filter, Option, Some, Result, Ok, Err}
 use Rattle.std.specs.List.{All}
 use Rattle.std.specs.Io.KnownBytes.{Consumes, IsAtEnd}
 use Rattle.l4_fpage.specs.declared.sizes.PageSize.{PageSize}
-use Rattle.l4_answers.specs.Reports.{Report, IsRefusalOf, has_refusal, AddsAll}
+use Rattle.l4_answers.specs.Reports.{Report, refused_line, has_refusal, AddsAll}
 use Rattle.l4_text.specs.Grammar.{TextLine, lines_of}
 use Rattle.l4_shell.specs.Sessions.{IsAnswered}
 use Rattle.l4_text.specs.declared.faults.RunFault.{RunFault}
@@ -11,7 +11,7 @@ use Rattle.l4_text.specs.declared.faults.RunFault.TheVariants.{Read, Write, Memo
 
 -- a line of this number was answered without a refusal, or by its refusal alone
 abbrev pub IsOneAnswer : ℕ → List Report → Type 0
-IsOneAnswer number told = (has_refusal told ≡ false) ⊎ ((report : Report) × IsRefusalOf number report × (told ≡ report ∷ []))
+IsOneAnswer number told = (has_refusal told ≡ false) ⊎ ((report : Report) × (refused_line report ≡ Some number) × (told ≡ report ∷ []))
 
 -- the sink was open before the last line, which has this number, was answered
 pub record WasOpen {T : Type 0} (has_told : T → T → List Report → Type 0) (closed : T → Bool) (old : T) (number : ℕ) (told : List Report) : Type 0 where

@@ -5,9 +5,11 @@ ghost use Rattle.l4_text.specs.Tokens.{tokens_of};
 ghost use Rattle.l4_text.specs.declared.lines.Ending.TheVariants.{Whole};
 ghost use Rattle.l4_shell.specs.declared.commands.ScriptFault.TheVariants.{BadTokens};
 ghost use Rattle.l4_shell.specs.declared.requests.Request.TheVariants.{Enter};
-ghost use Rattle.l4_shell.specs.Commands.{Command, receive_asked, send_asked, ipc_asked, fault_asked, command_of};
+ghost use Rattle.l4_shell.specs.declared.requests.Request.{Request};
+ghost use Rattle.l4_shell.specs.Commands.{command_of};
 ghost use Rattle.l4_text.specs.Grammar.{is_comment};
-ghost use Rattle.l4_shell.specs.Requests.{some_command, asked_at, request_of};
+ghost use Rattle.l4_shell.specs.Requests.{some_request, asked_at};
+ghost use Rattle.l4_shell.specs.Inside.Asking.{asked};
 ghost use Rattle.l4_shell.specs.Sessions.{session, AnswersLine};
 
 use crate::commands::{
@@ -28,7 +30,7 @@ use l4_text::Ending;
 /// buffer is then unspecified.
 #[inline(always)]
 fn read_receive(line: &[u8], call: &mut Call) -> Option<u32>
-    ensures { option_map (λ n. Enter n call.new) result ≡ option_map request_of (receive_asked (tokens_of line.now)) }
+    ensures { option_map (λ n. Enter n call.new) result ≡ asked (codes "recv") (tokens_of line.now) }
 {
     let (number, from, window) = receive_parts(line)?;
     make_receive(call, from, window);
@@ -38,7 +40,7 @@ fn read_receive(line: &[u8], call: &mut Call) -> Option<u32>
 /// Writes the call of a `send` line, with its words, into the buffer, as `read_receive` does.
 #[inline(always)]
 fn read_send(line: &[u8], call: &mut Call) -> Option<u32>
-    ensures { option_map (λ n. Enter n call.new) result ≡ option_map request_of (send_asked (tokens_of line.now)) }
+    ensures { option_map (λ n. Enter n call.new) result ≡ asked (codes "send") (tokens_of line.now) }
 {
     make_ipc(call);
     if let Call::Ipc(exchange) = call {
@@ -52,7 +54,7 @@ fn read_send(line: &[u8], call: &mut Call) -> Option<u32>
 /// Writes the call of an `ipc` line, with its words, into the buffer, as `read_receive` does.
 #[inline(always)]
 fn read_ipc(line: &[u8], call: &mut Call) -> Option<u32>
-    ensures { option_map (λ n. Enter n call.new) result ≡ option_map request_of (ipc_asked (tokens_of line.now)) }
+    ensures { option_map (λ n. Enter n call.new) result ≡ asked (codes "ipc") (tokens_of line.now) }
 {
     make_ipc(call);
     if let Call::Ipc(exchange) = call {
@@ -66,7 +68,7 @@ fn read_ipc(line: &[u8], call: &mut Call) -> Option<u32>
 /// Writes the call of a `fault` line into the buffer, as `read_receive` does.
 #[inline(always)]
 fn read_fault(line: &[u8], call: &mut Call) -> Option<u32>
-    ensures { option_map (λ n. Enter n call.new) result ≡ option_map request_of (fault_asked (tokens_of line.now)) }
+    ensures { option_map (λ n. Enter n call.new) result ≡ asked (codes "fault") (tokens_of line.now) }
 {
     let (number, fault) = fault_parts(line)?;
     make_fault(call, fault);
@@ -91,8 +93,8 @@ impl Session {
         call: &Call,
         sink: &mut S,
     )
-        ensures { (asked : Option Command) → option_map (λ n. Enter n call.now) number ≡ option_map request_of asked
-            → (told : List Report) × AnswersLine (session self.old.kernel self.old.servers) line (some_command bytes.now (ok_or asked BadTokens)) told (session self.new.kernel self.new.servers)
+        ensures { (request : Option Request) → option_map (λ n. Enter n call.now) number ≡ request
+            → (told : List Report) × AnswersLine (session self.old.kernel self.old.servers) line (some_request bytes.now (ok_or request BadTokens)) told (session self.new.kernel self.new.servers)
             × AddsAll S.has_told sink.old sink.new told }
     {
         match number {
@@ -142,7 +144,7 @@ impl Script {
         requires send { bytes_eq name.now (codes "send") ≡ false }
         requires ipc { bytes_eq name.now (codes "ipc") ≡ false }
         requires fault { bytes_eq name.now (codes "fault") ≡ false }
-        ensures { (told : List Report) × AnswersLine (session self.old.session.kernel self.old.session.servers) line (some_command bytes.now (command_of (name.now ∷ tokens_of rest.now))) told (session self.new.session.kernel self.new.session.servers)
+        ensures { (told : List Report) × AnswersLine (session self.old.session.kernel self.old.session.servers) line (some_request bytes.now (command_of (name.now ∷ tokens_of rest.now))) told (session self.new.session.kernel self.new.session.servers)
             × AddsAll S.has_told sink.old sink.new told }
     {
         match other_request(name, rest, &mut self.calls.ipc) {
@@ -161,7 +163,7 @@ impl Script {
         rest: &[u8],
         sink: &mut S,
     )
-        ensures { (told : List Report) × AnswersLine (session self.old.session.kernel self.old.session.servers) line (some_command bytes.now (command_of (name.now ∷ tokens_of rest.now))) told (session self.new.session.kernel self.new.session.servers)
+        ensures { (told : List Report) × AnswersLine (session self.old.session.kernel self.old.session.servers) line (some_request bytes.now (command_of (name.now ∷ tokens_of rest.now))) told (session self.new.session.kernel self.new.session.servers)
             × AddsAll S.has_told sink.old sink.new told }
     {
         let Script { session, calls } = self;

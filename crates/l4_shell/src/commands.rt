@@ -1,9 +1,11 @@
 //! Reads the tokens of script lines.
 ghost use Rattle.std.specs.Prelude.{◌≡◌, ◌∷◌, [], false, codes, bytes_eq, option_map, MatchOption};
 ghost use Rattle.l4_text.specs.Tokens.{tokens_of};
-ghost use Rattle.l4_shell.specs.Commands.{Receive, Send, Ipc, Fault, thread_asked, set_pager_asked, delete_asked, receive_asked, send_asked, ipc_asked, fault_asked, show_asked, parent_asked, delegate_asked, part_asked, unmap_asked, region_asked, serve_asked, steps_asked, pager_command_of, words_of, command_of};
-ghost use Rattle.l4_shell.specs.Requests.{request_of};
-ghost use Rattle.l4_shell.specs.Inside.Asking.{requested};
+ghost use Rattle.l4_ipc.specs.declared.calls.Call.TheVariants.{Fault as Faults};
+ghost use Rattle.l4_shell.specs.declared.requests.Request.TheVariants.{Enter};
+ghost use Rattle.l4_shell.specs.Calls.{receive_call, send_call, ipc_call};
+ghost use Rattle.l4_shell.specs.Commands.{words_of, command_in, command_of};
+ghost use Rattle.l4_shell.specs.Inside.Asking.{asked, pager_commands};
 
 use crate::delegations::Which;
 use crate::partners::{Partner, next_pager, next_partner, next_space, next_thread, next_word};
@@ -59,10 +61,9 @@ const SERVE: &[u8] = b"serve";
 const STEPS: &[u8] = b"steps";
 
 /// `N SPACE PAGER`
-#[tactic(auto, unfolding(crate::specs::Commands::thread_asked))]
 #[inline(never)]
 fn thread<'a>(line: &[u8], call: &'a mut Call) -> Option<Request<'a>>
-    ensures { result ≡ option_map request_of (thread_asked (tokens_of line.now)) }
+    ensures { result ≡ asked (codes "thread") (tokens_of line.now) }
 {
     let (number, rest) = next_thread(line)?;
     let (space, rest) = next_space(rest)?;
@@ -74,10 +75,9 @@ fn thread<'a>(line: &[u8], call: &'a mut Call) -> Option<Request<'a>>
 }
 
 /// `N PAGER`
-#[tactic(auto, unfolding(crate::specs::Commands::set_pager_asked))]
 #[inline(never)]
 fn set_pager<'a>(line: &[u8], call: &'a mut Call) -> Option<Request<'a>>
-    ensures { result ≡ option_map request_of (set_pager_asked (tokens_of line.now)) }
+    ensures { result ≡ asked (codes "setpager") (tokens_of line.now) }
 {
     let (number, rest) = next_thread(line)?;
     let (pager, rest) = next_pager(rest)?;
@@ -88,10 +88,9 @@ fn set_pager<'a>(line: &[u8], call: &'a mut Call) -> Option<Request<'a>>
 }
 
 /// `N`
-#[tactic(auto, unfolding(crate::specs::Commands::delete_asked))]
 #[inline(never)]
 fn delete(line: &[u8]) -> Option<Request<'static>>
-    ensures { result ≡ option_map request_of (delete_asked (tokens_of line.now)) }
+    ensures { result ≡ asked (codes "delete") (tokens_of line.now) }
 {
     let (number, rest) = next_thread(line)?;
     match next_token(rest) {
@@ -101,10 +100,9 @@ fn delete(line: &[u8]) -> Option<Request<'static>>
 }
 
 /// `N FROM WINDOW`
-#[tactic(auto, unfolding(crate::specs::Commands::receive_asked))]
 #[inline(always)]
 pub(crate) fn receive_parts(line: &[u8]) -> Option<(u32, Partner, u32)>
-    ensures { option_map (λ p. Receive p.0 p.1 p.2) result ≡ receive_asked (tokens_of line.now) }
+    ensures { option_map (λ p. Enter p.0 (receive_call p.1 p.2)) result ≡ asked (codes "recv") (tokens_of line.now) }
 {
     let (number, rest) = next_thread(line)?;
     let (from, rest) = next_partner(rest)?;
@@ -116,10 +114,9 @@ pub(crate) fn receive_parts(line: &[u8]) -> Option<(u32, Partner, u32)>
 }
 
 /// `N FIRST COUNT`
-#[tactic(auto, unfolding(crate::specs::Commands::show_asked))]
 #[inline(never)]
 fn show(line: &[u8]) -> Option<Request<'static>>
-    ensures { result ≡ option_map request_of (show_asked (tokens_of line.now)) }
+    ensures { result ≡ asked (codes "show") (tokens_of line.now) }
 {
     let (number, rest) = next_thread(line)?;
     let (first, rest) = next_word(rest)?;
@@ -131,10 +128,9 @@ fn show(line: &[u8]) -> Option<Request<'static>>
 }
 
 /// `N PAGE`
-#[tactic(auto, unfolding(crate::specs::Commands::parent_asked))]
 #[inline(never)]
 fn parent(line: &[u8]) -> Option<Request<'static>>
-    ensures { result ≡ option_map request_of (parent_asked (tokens_of line.now)) }
+    ensures { result ≡ asked (codes "parent") (tokens_of line.now) }
 {
     let (number, rest) = next_thread(line)?;
     let (page, rest) = next_word(rest)?;
@@ -169,12 +165,11 @@ fn read_words(line: &[u8], words: &mut ArrayVec<u32, MAX_WORDS>) -> Option<()>
 }
 
 /// `N TO WORD..`
-#[tactic(auto, unfolding(crate::specs::Commands::send_asked))]
 pub(crate) fn send_parts(
     line: &[u8],
     words: &mut ArrayVec<u32, MAX_WORDS>,
 ) -> Option<(u32, Partner)>
-    ensures { option_map (λ p. Send p.0 p.1 words.new.items) result ≡ send_asked (tokens_of line.now) }
+    ensures { option_map (λ p. Enter p.0 (send_call p.1 words.new.items)) result ≡ asked (codes "send") (tokens_of line.now) }
 {
     let (number, rest) = next_thread(line)?;
     let (to, rest) = next_partner(rest)?;
@@ -183,10 +178,9 @@ pub(crate) fn send_parts(
 }
 
 /// `N TO SOURCE TARGET COUNT RIGHTS`
-#[tactic(auto, unfolding(crate::specs::Commands::delegate_asked))]
 #[inline(never)]
 fn delegate(line: &[u8]) -> Option<Request<'static>>
-    ensures { result ≡ option_map request_of (delegate_asked (tokens_of line.now)) }
+    ensures { result ≡ asked (codes "delegate") (tokens_of line.now) }
 {
     let (number, rest) = next_thread(line)?;
     let (to, rest) = next_partner(rest)?;
@@ -194,10 +188,9 @@ fn delegate(line: &[u8]) -> Option<Request<'static>>
 }
 
 /// `N TO K SOURCE TARGET COUNT RIGHTS`
-#[tactic(auto, unfolding(crate::specs::Commands::part_asked))]
 #[inline(never)]
 fn part(line: &[u8]) -> Option<Request<'static>>
-    ensures { result ≡ option_map request_of (part_asked (tokens_of line.now)) }
+    ensures { result ≡ asked (codes "part") (tokens_of line.now) }
 {
     let (number, rest) = next_thread(line)?;
     let (to, rest) = next_partner(rest)?;
@@ -206,13 +199,12 @@ fn part(line: &[u8]) -> Option<Request<'static>>
 }
 
 /// `N TO FROM TIMEOUTS WINDOW WORD..`
-#[tactic(auto, unfolding(crate::specs::Commands::ipc_asked))]
 #[inline(always)]
 pub(crate) fn ipc_parts(
     line: &[u8],
     words: &mut ArrayVec<u32, MAX_WORDS>,
 ) -> Option<(u32, Partner, Partner, u32, u32)>
-    ensures { option_map (λ p. Ipc p.0 p.1 p.2 p.3 p.4 words.new.items) result ≡ ipc_asked (tokens_of line.now) }
+    ensures { option_map (λ p. Enter p.0 (ipc_call p.1 p.2 p.3 p.4 words.new.items)) result ≡ asked (codes "ipc") (tokens_of line.now) }
 {
     let (number, rest) = next_thread(line)?;
     let (to, rest) = next_partner(rest)?;
@@ -224,9 +216,8 @@ pub(crate) fn ipc_parts(
 }
 
 /// `N CONTROL WORD..`
-#[tactic(auto, unfolding(crate::specs::Commands::unmap_asked))]
 fn unmap<'a>(line: &[u8], call: &'a mut Call) -> Option<Request<'a>>
-    ensures { result ≡ option_map request_of (unmap_asked (tokens_of line.now)) }
+    ensures { result ≡ asked (codes "unmap") (tokens_of line.now) }
 {
     let (number, rest) = next_thread(line)?;
     let (control, rest) = next_word(rest)?;
@@ -236,10 +227,9 @@ fn unmap<'a>(line: &[u8], call: &'a mut Call) -> Option<Request<'a>>
 }
 
 /// `N ADDRESS IP RIGHTS`
-#[tactic(auto, unfolding(crate::specs::Commands::fault_asked))]
 #[inline(always)]
 pub(crate) fn fault_parts(line: &[u8]) -> Option<(u32, FaultCall)>
-    ensures { option_map (λ p. Fault p.0 p.1) result ≡ fault_asked (tokens_of line.now) }
+    ensures { option_map (λ p. Enter p.0 (Faults p.1)) result ≡ asked (codes "fault") (tokens_of line.now) }
 {
     let (number, rest) = next_thread(line)?;
     let (address, rest) = next_word(rest)?;
@@ -254,10 +244,9 @@ pub(crate) fn fault_parts(line: &[u8]) -> Option<(u32, FaultCall)>
 }
 
 /// `P FIRST SOURCE COUNT RIGHTS`
-#[tactic(auto, unfolding(crate::specs::Commands::region_asked))]
 #[inline(never)]
 fn add_region(line: &[u8]) -> Option<Request<'static>>
-    ensures { result ≡ option_map request_of (region_asked (tokens_of line.now)) }
+    ensures { result ≡ asked (codes "region") (tokens_of line.now) }
 {
     let (number, rest) = next_thread(line)?;
     let (first, rest) = next_word(rest)?;
@@ -274,10 +263,9 @@ fn add_region(line: &[u8]) -> Option<Request<'static>>
 }
 
 /// `P`
-#[tactic(auto, unfolding(crate::specs::Commands::serve_asked))]
 #[inline(never)]
 fn serve(line: &[u8]) -> Option<Request<'static>>
-    ensures { result ≡ option_map request_of (serve_asked (tokens_of line.now)) }
+    ensures { result ≡ asked (codes "serve") (tokens_of line.now) }
 {
     let (number, rest) = next_thread(line)?;
     match next_token(rest) {
@@ -289,7 +277,7 @@ fn serve(line: &[u8]) -> Option<Request<'static>>
 /// No tokens.
 #[inline(never)]
 fn steps(line: &[u8]) -> Option<Request<'static>>
-    ensures { result ≡ option_map request_of (steps_asked (tokens_of line.now)) }
+    ensures { result ≡ asked (codes "steps") (tokens_of line.now) }
 {
     match next_token(line) {
         None => Some(Request::TellSteps),
@@ -300,7 +288,7 @@ fn steps(line: &[u8]) -> Option<Request<'static>>
 /// Reads a command of pagers or of the history, from its name and its tokens.
 fn pager_command(name: &[u8], rest: &[u8]) -> Result<Request<'static>, ScriptFault>
     requires fault { bytes_eq name.now (codes "fault") ≡ false }
-    ensures { result ≡ requested (pager_command_of name.now (tokens_of rest.now)) }
+    ensures { result ≡ command_in pager_commands name.now (tokens_of rest.now) }
 {
     if name == REGION {
         return add_region(rest).ok_or(ScriptFault::BadTokens);
@@ -327,7 +315,7 @@ pub(crate) fn other_request<'a>(
     requires send { bytes_eq name.now (codes "send") ≡ false }
     requires ipc { bytes_eq name.now (codes "ipc") ≡ false }
     requires fault { bytes_eq name.now (codes "fault") ≡ false }
-    ensures { result ≡ requested (command_of (name.now ∷ tokens_of rest.now)) }
+    ensures { result ≡ command_of (name.now ∷ tokens_of rest.now) }
 {
     if name == THREAD {
         return thread(rest, call).ok_or(ScriptFault::BadTokens);

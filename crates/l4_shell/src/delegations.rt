@@ -1,6 +1,9 @@
 //! The messages of delegations.
 ghost use Rattle.std.specs.Prelude.{◌≡◌, IfOk, IfErr};
-ghost use Rattle.l4_shell.specs.Delegations.{PlanSends, PlanLacks, ArePlanWords, HasNoPlan};
+ghost use Rattle.l4_fpage.specs.declared.sizes.PageSize.{PageSize as APageSize};
+ghost use Rattle.l4_msg.specs.declared.regions.Region.{Region as ARegion};
+ghost use Rattle.l4_plan.specs.Shortest.{IsShortest};
+ghost use Rattle.l4_shell.specs.Delegations.{ArePlanWords, HasNoPlan};
 
 use arrayvec::ArrayVec;
 use l4_fpage::PageSize;
@@ -18,8 +21,8 @@ pub(crate) enum Which {
 
 /// Returns the words of the only message of a plan, or the number of its messages.
 fn only_words(plan: &Plan) -> Result<ArrayVec<u32, MAX_WORDS>, PlanRefusal>
-    ensures ok { IfOk result (λ words. PlanSends Which.Only plan.now words.items) }
-    ensures err { IfErr result (PlanLacks Which.Only plan.now) }
+    ensures ok { (size : APageSize) (r : ARegion) → IsShortest size r plan.now → IfOk result (λ words. ArePlanWords size r Which.Only words.items) }
+    ensures err { (size : APageSize) (r : ARegion) → IsShortest size r plan.now → IfErr result (HasNoPlan size r Which.Only) }
 {
     match plan.only() {
         Ok(message) => Ok(message.write()),
@@ -29,8 +32,8 @@ fn only_words(plan: &Plan) -> Result<ArrayVec<u32, MAX_WORDS>, PlanRefusal>
 
 /// Returns the words of the message with this number of a plan, or the number of its messages.
 fn part_words(plan: &Plan, number: u32) -> Result<ArrayVec<u32, MAX_WORDS>, PlanRefusal>
-    ensures ok { IfOk result (λ words. PlanSends (Which.Message number) plan.now words.items) }
-    ensures err { IfErr result (PlanLacks (Which.Message number) plan.now) }
+    ensures ok { (size : APageSize) (r : ARegion) → IsShortest size r plan.now → IfOk result (λ words. ArePlanWords size r (Which.Message number) words.items) }
+    ensures err { (size : APageSize) (r : ARegion) → IsShortest size r plan.now → IfErr result (HasNoPlan size r (Which.Message number)) }
 {
     match plan.message(number) {
         Ok(message) => Ok(message.write()),
@@ -40,8 +43,8 @@ fn part_words(plan: &Plan, number: u32) -> Result<ArrayVec<u32, MAX_WORDS>, Plan
 
 /// Returns the words of this message of a plan, or the number of its messages.
 fn message_words(plan: &Plan, which: Which) -> Result<ArrayVec<u32, MAX_WORDS>, PlanRefusal>
-    ensures ok { IfOk result (λ words. PlanSends which plan.now words.items) }
-    ensures err { IfErr result (PlanLacks which plan.now) }
+    ensures ok { (size : APageSize) (r : ARegion) → IsShortest size r plan.now → IfOk result (λ words. ArePlanWords size r which words.items) }
+    ensures err { (size : APageSize) (r : ARegion) → IsShortest size r plan.now → IfErr result (HasNoPlan size r which) }
 {
     match which {
         Which::Only => only_words(plan),

@@ -1,6 +1,8 @@
 //! The codes of refusals that a script's line gets before it reaches the kernel.
 ghost use Rattle.std.specs.Prelude.{◌≡◌};
-ghost use Rattle.l4_shell.specs.Refusals.{script_refusal, plan_refusal, lacks_memory, call_refusal, pager_refusal, region_refusal};
+ghost use Rattle.l4_shell.specs.Refusals.{script_refusal, plan_refusal, lacks_memory, call_refusal, region_refusal};
+ghost use Rattle.l4_answers.specs.Refusals.{plainly};
+ghost use Rattle.l4_pager.specs.Regions.{code_of};
 
 use crate::commands::ScriptFault;
 use l4_answers::{Code, refused_code};
@@ -55,7 +57,7 @@ pub(crate) fn call_code(refusal: RecordRefusal) -> Code
 
 /// Returns the code of a refusal by a pager's table.
 fn pager_code(refusal: PagerRefusal) -> Code
-    ensures { result ≡ pager_refusal refusal }
+    ensures { result ≡ plainly (code_of refusal) }
 {
     match refusal {
         PagerRefusal::Overlap => Code::plain(b"P1"),

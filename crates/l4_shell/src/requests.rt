@@ -3,7 +3,7 @@ ghost use Rattle.std.specs.Prelude.{◌≡◌, true};
 ghost use Rattle.l4_ipc.specs.declared.calls.Call.TheVariants.{Ipc as Exchanges, Fault as Faults};
 ghost use Rattle.l4_pager.specs.Serving.{waiting};
 ghost use Rattle.l4_shell.specs.Inside.Exchanges.{is_ipc};
-ghost use Rattle.l4_shell.specs.Requests.{script_id, partner_id, space_id, create_call, set_pager_call, delete_call, receive_call, send_call, ipc_call, unmap_call};
+ghost use Rattle.l4_shell.specs.Calls.{script_id, partner_id, space_id, create_call, set_pager_call, delete_call, receive_call, send_call, ipc_call, unmap_call};
 
 use crate::delegations::Which;
 use crate::partners::{NewSpace, Partner};

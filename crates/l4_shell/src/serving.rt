@@ -4,10 +4,10 @@ ghost use Rattle.std.specs.List.{flat_map};
 ghost use Rattle.l4_ipc.specs.OwnCall.{ended_if};
 ghost use Rattle.l4_ipc.specs.NextSteps.{answer_of};
 ghost use Rattle.l4_answers.specs.Reports.{Report, AddsAll};
-ghost use Rattle.l4_shell.specs.Sessions.{session, ended_reports, waiting_reports, GoesOn};
+ghost use Rattle.l4_shell.specs.Sessions.{session, ended_reports, waiting_reports};
 ghost use Rattle.l4_record.specs.Seated.{is_among};
 ghost use Rattle.l4_servers.specs.Acting.{IsFirstReady};
-ghost use Rattle.l4_shell.specs.Inside.Telling.{next_reports, ended_later, TellsAppended, TellsActs};
+ghost use Rattle.l4_shell.specs.Inside.Telling.{next_reports, ended_later, TellsAppended, TellsActs, GoesOn};
 
 use crate::refusals::call_code;
 use crate::session::Session;

@@ -1,10 +1,11 @@
 //! A script's kernel and its servers, and the execution of a line's request on them.
 ghost use Rattle.std.specs.Prelude.{◌≡◌, ◌⊎◌, ◌∷◌, List, [], false, MatchOption};
 ghost use Rattle.l4_answers.specs.Reports.{Report, AddsAll};
-ghost use Rattle.l4_shell.specs.Sessions.{session, Enters, Creates, Deletes, ServesThread, AddsRegion, place_reports, ListsBelow, Shows, parent_answer, Delegates, TellsCount, CarriesOut, Refuses, LacksRoom};
+ghost use Rattle.l4_shell.specs.Sessions.{session, Enters, Creates, ServesThread, AddsRegion, place_reports, ListsBelow, Shows, parent_answer, Delegates, TellsCount, CarriesOut, Refuses, LacksRoom};
 ghost use Rattle.l4_shell.specs.Inside.Telling.{TellsCall, TellsRefusal};
 ghost use Rattle.l4_pager.specs.Serving.{waiting};
-ghost use Rattle.l4_servers.specs.Servers.{Servers as AllServers, is_served};
+ghost use Rattle.l4_servers.specs.Servers.{Servers as AllServers, is_served, without};
+ghost use Rattle.l4_shell.specs.Calls.{root, delete_call};
 
 use crate::delegations::{Which, plan_words};
 use crate::partners::Partner;
@@ -163,7 +164,7 @@ impl Session {
         call: &Call,
         sink: &mut S,
     )
-        ensures { (told : List Report) × Enters (session self.old.kernel self.old.servers) line thread call.now told (session self.new.kernel self.new.servers)
+        ensures { (told : List Report) × Enters (session self.old.kernel self.old.servers) line thread call.now self.old.servers told (session self.new.kernel self.new.servers)
             × AddsAll S.has_told sink.old sink.new told }
     {
         let Some(ended) = self.enter_and_tell(line, thread, call, sink) else {
@@ -187,7 +188,7 @@ impl Session {
     /// Root deletes a thread, which is served no longer and has no table.
     #[inline(never)]
     fn end_thread<S: Sink>(&mut self, line: u64, thread: u32, sink: &mut S)
-        ensures { (told : List Report) × Deletes (session self.old.kernel self.old.servers) line thread told (session self.new.kernel self.new.servers)
+        ensures { (told : List Report) × Enters (session self.old.kernel self.old.servers) line root (delete_call thread) (without self.old.servers thread) told (session self.new.kernel self.new.servers)
             × AddsAll S.has_told sink.old sink.new told }
     {
         let call = delete_call(thread);

@@ -7,13 +7,13 @@ use mathlib.Core.List.{append_assoc}
 use Rattle.l4_fpage.specs.declared.sizes.PageSize.{PageSize}
 use Rattle.std.specs.Io.KnownBytes.{Appends}
 use Rattle.l4_text.specs.Streams.{WentOut, HasTold, Tells}
-use Rattle.l4_answers.specs.Reports.{Report, is_refusal, report_text}
+use Rattle.l4_answers.specs.Reports.{Report, refused_line, report_text}
 use Rattle.l4_sinks.specs.declared.teller.Teller.{Teller}
 use Rattle.l4_decode.specs.Decoded.{IsMessageText}
 use Rattle.l4_threads.specs.declared.Reply.{Reply}
 use Rattle.l4_sinks.specs.Words.{says, received, reply_says}
 use Rattle.l4_sinks.specs.Texts.{mark, said, Means, Explains, IsAnswerText, AreAnswerTexts, last_refusal, sentence_text}
-use Rattle.l4_sinks.specs.Inside.Tellers.{IsSame, HasReported, HasWritten}
+use Rattle.l4_sinks.specs.Inside.Tellers.{HasReported, HasWritten}
 
 -- one answer more
 texts_more : (explains : Option PageSize) (told : List Report) (text : List ℕ) (report : Report) (last : List ℕ) → AreAnswerTexts explains told text → IsAnswerText explains report last
@@ -28,9 +28,9 @@ texts_more explains (first ∷ told) text report last are is = (
 )
 
 -- what the last refusal says, with one answer more
-refusal_more : (before : Option (List ℕ)) (told : List Report) (report : Report) → last_refusal before (told ++ report ∷ []) ≡ cond (is_refusal report) (Some (says report)) (last_refusal before told)
+refusal_more : (before : Option (List ℕ)) (told : List Report) (report : Report) → last_refusal before (told ++ report ∷ []) ≡ cond (is_some (refused_line report)) (Some (says report)) (last_refusal before told)
 refusal_more before [] report = refl
-refusal_more before (first ∷ told) report = refusal_more (cond (is_refusal first) (Some (says first)) before) told report
+refusal_more before (first ∷ told) report = refusal_more (cond (is_some (refused_line first)) (Some (says first)) before) told report
 
 keeps_none : {A : Type 0} (b : Bool) (x y : Option A) → cond b x (cond b y None) ≡ cond b x None
 keeps_none true x y = refl
@@ -53,7 +53,7 @@ reported contents first old new told report text h explains strict refused tells
 
 -- an answer that is no line's refusal
 pub told_more : {W : Type 0} (contents : W → Option (List ℕ)) (first old new : Teller W) (told : List Report) (report : Report) (text : List ℕ) → HasReported contents first old told
-    → is_refusal report ≡ false → new.explains ≡ old.explains → new.strict ≡ old.strict → new.refused ≡ old.refused
+    → is_some (refused_line report) ≡ false → new.explains ≡ old.explains → new.strict ≡ old.strict → new.refused ≡ old.refused
     → Tells (contents old.writer) (contents new.writer) old.out new.out text → IsAnswerText old.explains report text → HasReported contents first new (told ++ report ∷ [])
 told_more contents first old new told report text h none explains strict refused tells is =
     let had : last_refusal None (told ++ report ∷ []) ≡ last_refusal None told = refusal_more None told report ∙ ap (λ b. cond b (Some (says report)) (last_refusal None told)) none in
@@ -61,7 +61,7 @@ told_more contents first old new told report text h none explains strict refused
 
 -- a line's refusal
 pub told_refusal : {W : Type 0} (contents : W → Option (List ℕ)) (first old new : Teller W) (told : List Report) (report : Report) (text : List ℕ) → HasReported contents first old told
-    → is_refusal report ≡ true → new.explains ≡ old.explains → new.strict ≡ old.strict → new.refused ≡ cond old.strict (Some (says report)) old.refused
+    → is_some (refused_line report) ≡ true → new.explains ≡ old.explains → new.strict ≡ old.strict → new.refused ≡ cond old.strict (Some (says report)) old.refused
     → Tells (contents old.writer) (contents new.writer) old.out new.out text → IsAnswerText old.explains report text → HasReported contents first new (told ++ report ∷ [])
 told_refusal contents first old new told report text h one explains strict refused tells is =
     let had : last_refusal None (told ++ report ∷ []) ≡ Some (says report) = refusal_more None told report ∙ ap (λ b. cond b (Some (says report)) (last_refusal None told)) one in
@@ -81,7 +81,7 @@ unwanted false (Some size) is = absurd (false≢true is)
 
 -- a line's refusal whose reason is not wanted
 pub told_plainly : {W : Type 0} (contents : W → Option (List ℕ)) (first old new : Teller W) (told : List Report) (report : Report) → HasReported contents first old told
-    → is_refusal report ≡ true → false ≡ (old.strict || is_some old.explains) → new.explains ≡ old.explains → new.strict ≡ old.strict → new.refused ≡ old.refused
+    → is_some (refused_line report) ≡ true → false ≡ (old.strict || is_some old.explains) → new.explains ≡ old.explains → new.strict ≡ old.strict → new.refused ≡ old.refused
     → Tells (contents old.writer) (contents new.writer) old.out new.out (report_text report) → HasReported contents first new (told ++ report ∷ [])
 told_plainly contents first old new told report h one not explains strict refused tells =
     let no = unwanted old.strict old.explains not in

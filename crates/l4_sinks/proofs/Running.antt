@@ -7,7 +7,7 @@ use Rattle.l4_text.specs.Streams.{WentOut, HasTold}
 use Rattle.l4_text.specs.declared.faults.RunFault.{RunFault}
 use Rattle.l4_text.specs.declared.faults.RunFault.TheVariants.{Read, Write, Memory}
 use Rattle.l4_text.proofs.Gone.{appends_same}
-use Rattle.l4_answers.specs.Reports.{Report, is_refusal, has_refusal}
+use Rattle.l4_answers.specs.Reports.{Report, refused_line, has_refusal}
 use Rattle.l4_shell.specs.Scripts.{WasOpen, AnswersFirst as RunsFirst, Runs}
 use Rattle.l4_shell.proofs.OneAnswer.{none_more}
 use Rattle.l4_sinks.specs.declared.scripts.Ended.{Ended}
@@ -51,7 +51,7 @@ some_step false before words more = refl
 -- something was said where a line was refused
 some_said : (before : Option (List ℕ)) (told : List Report) → is_some (last_refusal before told) ≡ (is_some before || has_refusal told)
 some_said before [] = or_false (is_some before)
-some_said before (report ∷ told) = some_said (cond (is_refusal report) (Some (says report)) before) told ∙ some_step (is_refusal report) before (says report) (has_refusal told)
+some_said before (report ∷ told) = some_said (cond (is_some (refused_line report)) (Some (says report)) before) told ∙ some_step (is_some (refused_line report)) before (says report) (has_refusal told)
 
 -- an open strict teller has taken no refusal
 open_refused_none : {W : Type 0} (contents : W → Option (List ℕ)) (first now : Teller W) (told : List Report) → HasReported contents first now told → is_over now ≡ false → first.strict ≡ true

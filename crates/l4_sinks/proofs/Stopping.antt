@@ -1,5 +1,5 @@
 -- Where a line stops, and what that says of the commands.
-use Rattle.std.proofs.Common.{◌≡◌, ℕ, zero, suc, ◌+◌, Bool, true, false, ◌&&◌, cond, nat_le, List, [], ◌∷◌, ◌++◌, length, Option, Some, None, is_some, Result, Ok, Err, ok_or, codes, refl, sym, ap, subst, ◌∙◌, arith}
+use Rattle.std.proofs.Common.{◌≡◌, ℕ, zero, suc, ◌+◌, Bool, true, false, ◌&&◌, cond, nat_le, List, [], ◌∷◌, ◌++◌, length, Option, Some, None, is_some, is_ok, Result, ok_or, codes, refl, sym, ap, subst, ◌∙◌, arith}
 use Rattle.std.proofs.lemmas.Bool.{false≢true}
 use Rattle.std.proofs.lemmas.Option.{same_Some}
 use mathlib.Core.List.{append_assoc}
@@ -11,7 +11,7 @@ use Rattle.l4_text.specs.Grammar.{numbers_of}
 use Rattle.l4_text.specs.Numbers.{number_of, decimal_of}
 use Rattle.l4_shell.specs.declared.kinds.TokenKind.{TokenKind}
 use Rattle.l4_shell.specs.declared.kinds.TokenKind.TheVariants.{ThreadNumber, ThreadOrNew, ThreadOrNil, ThreadNilOrAny, Number, Rights}
-use Rattle.l4_shell.specs.Commands.{Command, Thread, SetPager, Delete, Receive, Send, Ipc, Fault, Delegate, Part, Unmap, Show, Parent, Region, Serve, Steps, thread_of, nil_or_thread_of, partner_of, new_space_of, rights_of, words_of, ◌▹◌, no_more, all_by, last_rights_of, region_of, thread_asked, set_pager_asked, delete_asked, receive_asked, send_asked, ipc_asked, delegate_asked, part_asked, unmap_asked, show_asked, parent_asked, fault_asked, region_asked, serve_asked, steps_asked, pager_command_of, command_of, is_word}
+use Rattle.l4_shell.specs.Commands.{thread_of, nil_or_thread_of, partner_of, new_space_of, rights_of, words_of, ◌▹◌, no_more, all_by, last_rights_of, region_of, command_of, is_word}
 use Rattle.l4_shell.specs.Kinds.{is_of}
 use Rattle.l4_sinks.specs.declared.stops.Expected.TheVariants.{Token, NumberOrEnd, LineEnd}
 use Rattle.l4_sinks.specs.Stops.{Shape, Place, wrong, shape_of, pager_shape_of, words_stop, kinds_stop, shape_stop, stop_of, BeginsCommand, StopsThere, IsStop}
@@ -39,16 +39,16 @@ one_read : {A B : Type 0} (o : Option A) (f : Bool) (tokens : List (List ℕ)) (
 one_read None f tokens asks stop other same rest = ap (λ b. ends (cond b stop (Some other))) same
 one_read (Some a) f tokens asks stop other same rest = rest a ∙ ap (λ b. ends (cond b stop (Some other))) same
 
-step_there : {A B : Type 0} (read : List ℕ → Option A) (asks : A → List (List ℕ) → Option B) (kind : TokenKind) (kinds : List TokenKind) (words : ℕ) → ((token : List ℕ) → is_some (read token) ≡ is_of kind token)
-    → ((a : A) → Agrees (asks a) kinds words) → (tokens : List (List ℕ)) (number : ℕ) → is_some ((read ▹ asks) tokens) ≡ ends (kinds_stop number (kind ∷ kinds) words tokens)
-step_there read asks kind kinds words same rest [] number = refl
-step_there read asks kind kinds words same rest (token ∷ tokens) number =
-    one_read (read token) (is_of kind token) tokens asks (kinds_stop (number + 1) kinds words tokens) (record { number = number; token = Some token; expected = Token kind }) (same token)
-    (λ a. (rest a).agrees tokens (number + 1))
+step_there : {A B C : Type 0} (read : List ℕ → Option A) (rest : B → List (List ℕ) → Option C) (make : A → B) (kind : TokenKind) (kinds : List TokenKind) (words : ℕ) → ((token : List ℕ) → is_some (read token) ≡ is_of kind token)
+    → ((b : B) → Agrees (rest b) kinds words) → (tokens : List (List ℕ)) (number : ℕ) → is_some ((read ▹ rest) make tokens) ≡ ends (kinds_stop number (kind ∷ kinds) words tokens)
+step_there read rest make kind kinds words same agree [] number = refl
+step_there read rest make kind kinds words same agree (token ∷ tokens) number =
+    one_read (read token) (is_of kind token) tokens (λ a. rest (make a)) (kinds_stop (number + 1) kinds words tokens) (record { number = number; token = Some token; expected = Token kind }) (same token)
+    (λ a. (agree (make a)).agrees tokens (number + 1))
 
-agrees_step : {A B : Type 0} (read : List ℕ → Option A) (asks : A → List (List ℕ) → Option B) (kind : TokenKind) (kinds : List TokenKind) (words : ℕ) → ((token : List ℕ) → is_some (read token) ≡ is_of kind token)
-    → ((a : A) → Agrees (asks a) kinds words) → Agrees (read ▹ asks) (kind ∷ kinds) words
-agrees_step read asks kind kinds words same rest = record { agrees = λ tokens number. step_there read asks kind kinds words same rest tokens number }
+agrees_step : {A B C : Type 0} (read : List ℕ → Option A) (kind : TokenKind) → ((token : List ℕ) → is_some (read token) ≡ is_of kind token) → {rest : B → List (List ℕ) → Option C} {kinds : List TokenKind} {words : ℕ}
+    → ((b : B) → Agrees (rest b) kinds words) → (make : A → B) → Agrees ((read ▹ rest) make) (kind ∷ kinds) words
+agrees_step read kind same {rest} {kinds} {words} agree make = record { agrees = λ tokens number. step_there read rest make kind kinds words same agree tokens number }
 
 made : {A B : Type 0} (o : Option A) (f : A → B) → is_some (option_and_then (λ a. Some (f a)) o) ≡ is_some o
 made None f = refl
@@ -121,133 +121,69 @@ same_rights token = refl
 
 -- COMMANDS
 
-by_thread : {B : Type 0} (asks : ℕ → List (List ℕ) → Option B) (kinds : List TokenKind) (words : ℕ) → ((n : ℕ) → Agrees (asks n) kinds words) → Agrees (thread_of ▹ asks) (ThreadNumber ∷ kinds) words
-by_thread asks kinds words rest = agrees_step thread_of asks ThreadNumber kinds words same_thread rest
-
-by_partner : {B : Type 0} (asks : _ → List (List ℕ) → Option B) (kinds : List TokenKind) (words : ℕ) → ((p : _) → Agrees (asks p) kinds words) → Agrees (partner_of ▹ asks) (ThreadNilOrAny ∷ kinds) words
-by_partner asks kinds words rest = agrees_step partner_of asks ThreadNilOrAny kinds words same_partner rest
-
-by_number : {B : Type 0} (asks : ℕ → List (List ℕ) → Option B) (kinds : List TokenKind) (words : ℕ) → ((n : ℕ) → Agrees (asks n) kinds words) → Agrees (number_of ▹ asks) (Number ∷ kinds) words
-by_number asks kinds words rest = agrees_step number_of asks Number kinds words same_number rest
-
-by_pager : {B : Type 0} (asks : _ → List (List ℕ) → Option B) (kinds : List TokenKind) (words : ℕ) → ((p : _) → Agrees (asks p) kinds words) → Agrees (nil_or_thread_of ▹ asks) (ThreadOrNil ∷ kinds) words
-by_pager asks kinds words rest = agrees_step nil_or_thread_of asks ThreadOrNil kinds words same_pager rest
-
 last_rights : Agrees last_rights_of (Rights ∷ []) 0
-last_rights = record { agrees = λ tokens number. (agrees_step rights_of no_more Rights [] 0 same_rights agrees_end).agrees tokens number }
+last_rights = record { agrees = λ tokens number. (agrees_step rights_of Rights same_rights agrees_end (λ r. r)).agrees tokens number }
 
-abbrev region_with : ℕ → ℕ → ℕ → RightsSet → Delegated
-region_with s t c r = record { source = s; target = t; count = c; rights = r }
+by_rights : {B : Type 0} (make : RightsSet → B) → Agrees (all_by last_rights_of make) (Rights ∷ []) 0
+by_rights make = agrees_all last_rights_of make _ 0 last_rights
 
-abbrev fault_with : ℕ → ℕ → ℕ → RightsSet → Command
-fault_with n a ip r = Fault n (record { address = a; ip = ip; access = r })
+by_thread : {B C : Type 0} {rest : B → List (List ℕ) → Option C} {kinds : List TokenKind} {words : ℕ} → ((b : B) → Agrees (rest b) kinds words) → (make : ℕ → B) → Agrees ((thread_of ▹ rest) make) (ThreadNumber ∷ kinds) words
+by_thread agree make = agrees_step thread_of ThreadNumber same_thread agree make
 
-abbrev entry_with : ℕ → ℕ → ℕ → ℕ → RightsSet → Command
-entry_with n f s c r = Region n (record { first = f; source = s; count = c; rights = r })
+by_space : {B C : Type 0} {rest : B → List (List ℕ) → Option C} {kinds : List TokenKind} {words : ℕ} → ((b : B) → Agrees (rest b) kinds words) → (make : _ → B) → Agrees ((new_space_of ▹ rest) make) (ThreadOrNew ∷ kinds) words
+by_space agree make = agrees_step new_space_of ThreadOrNew same_space agree make
+
+by_pager : {B C : Type 0} {rest : B → List (List ℕ) → Option C} {kinds : List TokenKind} {words : ℕ} → ((b : B) → Agrees (rest b) kinds words) → (make : _ → B) → Agrees ((nil_or_thread_of ▹ rest) make) (ThreadOrNil ∷ kinds) words
+by_pager agree make = agrees_step nil_or_thread_of ThreadOrNil same_pager agree make
+
+by_partner : {B C : Type 0} {rest : B → List (List ℕ) → Option C} {kinds : List TokenKind} {words : ℕ} → ((b : B) → Agrees (rest b) kinds words) → (make : _ → B) → Agrees ((partner_of ▹ rest) make) (ThreadNilOrAny ∷ kinds) words
+by_partner agree make = agrees_step partner_of ThreadNilOrAny same_partner agree make
+
+by_number : {B C : Type 0} {rest : B → List (List ℕ) → Option C} {kinds : List TokenKind} {words : ℕ} → ((b : B) → Agrees (rest b) kinds words) → (make : ℕ → B) → Agrees ((number_of ▹ rest) make) (Number ∷ kinds) words
+by_number agree make = agrees_step number_of Number same_number agree make
+
+abbrev region_from : ℕ → ℕ → ℕ → RightsSet → Delegated
+region_from s t c r = record { source = s; target = t; count = c; rights = r }
 
 region_kinds : Agrees region_of (Number ∷ Number ∷ Number ∷ Rights ∷ []) 0
 unfolding region_of
-region_kinds = record { agrees = λ tokens number. (by_number _ _ 0 (λ s. by_number _ _ 0 (λ t. by_number _ _ 0 (λ c. agrees_all last_rights_of (region_with s t c) (Rights ∷ []) 0 last_rights)))).agrees tokens number }
+region_kinds = record { agrees = λ tokens number. (by_number (by_number (by_number by_rights)) region_from).agrees tokens number }
 
-thread_kinds : Agrees thread_asked (ThreadNumber ∷ ThreadOrNew ∷ ThreadOrNil ∷ []) 0
-unfolding thread_asked
-thread_kinds = record { agrees = λ tokens number. (by_thread _ _ 0 (λ n. agrees_step new_space_of _ ThreadOrNew _ 0 same_space (λ space. by_pager _ _ 0 (λ pager. agrees_end (Thread n space pager))))).agrees tokens number }
-
-set_pager_kinds : Agrees set_pager_asked (ThreadNumber ∷ ThreadOrNil ∷ []) 0
-unfolding set_pager_asked
-set_pager_kinds = record { agrees = λ tokens number. (by_thread _ _ 0 (λ n. by_pager _ _ 0 (λ pager. agrees_end (SetPager n pager)))).agrees tokens number }
-
-delete_kinds : Agrees delete_asked (ThreadNumber ∷ []) 0
-unfolding delete_asked
-delete_kinds = record { agrees = λ tokens number. (by_thread _ _ 0 (λ n. agrees_end (Delete n))).agrees tokens number }
-
-receive_kinds : Agrees receive_asked (ThreadNumber ∷ ThreadNilOrAny ∷ Number ∷ []) 0
-unfolding receive_asked
-receive_kinds = record { agrees = λ tokens number. (by_thread _ _ 0 (λ n. by_partner _ _ 0 (λ p. by_number _ _ 0 (λ window. agrees_end (Receive n p window))))).agrees tokens number }
-
-send_kinds : Agrees send_asked (ThreadNumber ∷ ThreadNilOrAny ∷ []) 64
-unfolding send_asked
-send_kinds = record { agrees = λ tokens number. (by_thread _ _ 64 (λ n. by_partner _ _ 64 (λ to. agrees_words (Send n to)))).agrees tokens number }
-
-ipc_kinds : Agrees ipc_asked (ThreadNumber ∷ ThreadNilOrAny ∷ ThreadNilOrAny ∷ Number ∷ Number ∷ []) 64
-unfolding ipc_asked
-ipc_kinds = record { agrees = λ tokens number. (by_thread _ _ 64 (λ n. by_partner _ _ 64 (λ to. by_partner _ _ 64 (λ p. by_number _ _ 64 (λ t. by_number _ _ 64 (λ window. agrees_words (Ipc n to p t window))))))).agrees tokens number }
-
-delegate_kinds : Agrees delegate_asked (ThreadNumber ∷ ThreadNilOrAny ∷ Number ∷ Number ∷ Number ∷ Rights ∷ []) 0
-unfolding delegate_asked
-delegate_kinds = record { agrees = λ tokens number. (by_thread _ _ 0 (λ n. by_partner _ _ 0 (λ to. agrees_all region_of (Delegate n to) _ 0 region_kinds))).agrees tokens number }
-
-part_kinds : Agrees part_asked (ThreadNumber ∷ ThreadNilOrAny ∷ Number ∷ Number ∷ Number ∷ Number ∷ Rights ∷ []) 0
-unfolding part_asked
-part_kinds = record { agrees = λ tokens number. (by_thread _ _ 0 (λ n. by_partner _ _ 0 (λ to. by_number _ _ 0 (λ k. agrees_all region_of (Part n to k) _ 0 region_kinds)))).agrees tokens number }
-
-unmap_kinds : Agrees unmap_asked (ThreadNumber ∷ Number ∷ []) 64
-unfolding unmap_asked
-unmap_kinds = record { agrees = λ tokens number. (by_thread _ _ 64 (λ n. by_number _ _ 64 (λ control. agrees_words (Unmap n control)))).agrees tokens number }
-
-show_kinds : Agrees show_asked (ThreadNumber ∷ Number ∷ Number ∷ []) 0
-unfolding show_asked
-show_kinds = record { agrees = λ tokens number. (by_thread _ _ 0 (λ n. by_number _ _ 0 (λ first. by_number _ _ 0 (λ count. agrees_end (Show n first count))))).agrees tokens number }
-
-parent_kinds : Agrees parent_asked (ThreadNumber ∷ Number ∷ []) 0
-unfolding parent_asked
-parent_kinds = record { agrees = λ tokens number. (by_thread _ _ 0 (λ n. by_number _ _ 0 (λ page. agrees_end (Parent n page)))).agrees tokens number }
-
-fault_kinds : Agrees fault_asked (ThreadNumber ∷ Number ∷ Number ∷ Rights ∷ []) 0
-unfolding fault_asked
-fault_kinds = record { agrees = λ tokens number. (by_thread _ _ 0 (λ n. by_number _ _ 0 (λ a. by_number _ _ 0 (λ ip. agrees_all last_rights_of (fault_with n a ip) (Rights ∷ []) 0 last_rights)))).agrees tokens number }
-
-add_region_kinds : Agrees region_asked (ThreadNumber ∷ Number ∷ Number ∷ Number ∷ Rights ∷ []) 0
-unfolding region_asked
-add_region_kinds = record { agrees = λ tokens number. (by_thread _ _ 0 (λ n. by_number _ _ 0 (λ f. by_number _ _ 0 (λ s. by_number _ _ 0 (λ c. agrees_all last_rights_of (entry_with n f s c) (Rights ∷ []) 0 last_rights))))).agrees tokens number }
-
-serve_kinds : Agrees serve_asked (ThreadNumber ∷ []) 0
-unfolding serve_asked
-serve_kinds = record { agrees = λ tokens number. (by_thread _ _ 0 (λ n. agrees_end (Serve n))).agrees tokens number }
-
-steps_kinds : Agrees steps_asked [] 0
-steps_kinds = record { agrees = λ tokens number. (agrees_end Steps).agrees tokens number }
+by_region : {B : Type 0} (make : Delegated → B) → Agrees (all_by region_of make) (Number ∷ Number ∷ Number ∷ Rights ∷ []) 0
+by_region make = agrees_all region_of make _ 0 region_kinds
 
 -- LINES
 
-abbrev is_ok : {E : Type 0} → Result Command E → Bool
-is_ok (Ok command) = true
-is_ok (Err fault) = false
-
 -- a command reads just what its form lets through
-abbrev Reads : {E : Type 0} → List ℕ → List (List ℕ) → Result Command E → Option Shape → Type 0
+abbrev Reads : {A E : Type 0} → List ℕ → List (List ℕ) → Result A E → Option Shape → Type 0
 Reads name tokens asked shape = is_ok asked ≡ ends (shape_stop shape name tokens)
 
-choose : {E : Type 0} (name : List ℕ) (tokens : List (List ℕ)) (b : Bool) (x y : Result Command E) (f g : Option Shape) → Reads name tokens x f → Reads name tokens y g → Reads name tokens (cond b x y) (cond b f g)
+choose : {A E : Type 0} (name : List ℕ) (tokens : List (List ℕ)) (b : Bool) (x y : Result A E) (f g : Option Shape) → Reads name tokens x f → Reads name tokens y g → Reads name tokens (cond b x y) (cond b f g)
 choose name tokens true x y f g p q = p
 choose name tokens false x y f g p q = q
 
-one : {E : Type 0} (o : Option Command) (fault : E) (stop : Option Place) → is_some o ≡ ends stop → is_ok (ok_or o fault) ≡ ends stop
+one : {A E : Type 0} (o : Option A) (fault : E) (stop : Option Place) → is_some o ≡ ends stop → is_ok (ok_or o fault) ≡ ends stop
 one None fault stop same = same
-one (Some command) fault stop same = same
-
-pager_reads : (name : List ℕ) (tokens : List (List ℕ)) → Reads name tokens (pager_command_of name tokens) (pager_shape_of name)
-pager_reads name tokens =
-    choose name tokens (is_word (codes "fault") name) _ _ _ _ (one (fault_asked tokens) _ _ (fault_kinds.agrees tokens 2))
-    (choose name tokens (is_word (codes "region") name) _ _ _ _ (one (region_asked tokens) _ _ (add_region_kinds.agrees tokens 2))
-    (choose name tokens (is_word (codes "serve") name) _ _ _ _ (one (serve_asked tokens) _ _ (serve_kinds.agrees tokens 2))
-    (choose name tokens (is_word (codes "steps") name) _ _ _ None (one (steps_asked tokens) _ _ (steps_kinds.agrees tokens 2)) refl)))
+one (Some a) fault stop same = same
 
 reads : (name : List ℕ) (tokens : List (List ℕ)) → is_ok (command_of (name ∷ tokens)) ≡ ends (shape_stop (shape_of name) name tokens)
 unfolding command_of
 reads name tokens =
-    choose name tokens (is_word (codes "thread") name) _ _ _ _ (one (thread_asked tokens) _ _ (thread_kinds.agrees tokens 2))
-    (choose name tokens (is_word (codes "setpager") name) _ _ _ _ (one (set_pager_asked tokens) _ _ (set_pager_kinds.agrees tokens 2))
-    (choose name tokens (is_word (codes "delete") name) _ _ _ _ (one (delete_asked tokens) _ _ (delete_kinds.agrees tokens 2))
-    (choose name tokens (is_word (codes "recv") name) _ _ _ _ (one (receive_asked tokens) _ _ (receive_kinds.agrees tokens 2))
-    (choose name tokens (is_word (codes "send") name) _ _ _ _ (one (send_asked tokens) _ _ (send_kinds.agrees tokens 2))
-    (choose name tokens (is_word (codes "ipc") name) _ _ _ _ (one (ipc_asked tokens) _ _ (ipc_kinds.agrees tokens 2))
-    (choose name tokens (is_word (codes "delegate") name) _ _ _ _ (one (delegate_asked tokens) _ _ (delegate_kinds.agrees tokens 2))
-    (choose name tokens (is_word (codes "part") name) _ _ _ _ (one (part_asked tokens) _ _ (part_kinds.agrees tokens 2))
-    (choose name tokens (is_word (codes "unmap") name) _ _ _ _ (one (unmap_asked tokens) _ _ (unmap_kinds.agrees tokens 2))
-    (choose name tokens (is_word (codes "show") name) _ _ _ _ (one (show_asked tokens) _ _ (show_kinds.agrees tokens 2))
-    (choose name tokens (is_word (codes "parent") name) _ _ _ _ (one (parent_asked tokens) _ _ (parent_kinds.agrees tokens 2))
-    (pager_reads name tokens)))))))))))
+    choose name tokens (is_word (codes "thread") name) _ _ _ _ (one _ _ _ ((by_thread (by_space (by_pager agrees_end)) _).agrees tokens 2))
+    (choose name tokens (is_word (codes "setpager") name) _ _ _ _ (one _ _ _ ((by_thread (by_pager agrees_end) _).agrees tokens 2))
+    (choose name tokens (is_word (codes "delete") name) _ _ _ _ (one _ _ _ ((by_thread agrees_end _).agrees tokens 2))
+    (choose name tokens (is_word (codes "recv") name) _ _ _ _ (one _ _ _ ((by_thread (by_partner (by_number agrees_end)) _).agrees tokens 2))
+    (choose name tokens (is_word (codes "send") name) _ _ _ _ (one _ _ _ ((by_thread (by_partner agrees_words) _).agrees tokens 2))
+    (choose name tokens (is_word (codes "ipc") name) _ _ _ _ (one _ _ _ ((by_thread (by_partner (by_partner (by_number (by_number agrees_words)))) _).agrees tokens 2))
+    (choose name tokens (is_word (codes "delegate") name) _ _ _ _ (one _ _ _ ((by_thread (by_partner by_region) _).agrees tokens 2))
+    (choose name tokens (is_word (codes "part") name) _ _ _ _ (one _ _ _ ((by_thread (by_partner (by_number by_region)) _).agrees tokens 2))
+    (choose name tokens (is_word (codes "unmap") name) _ _ _ _ (one _ _ _ ((by_thread (by_number agrees_words) _).agrees tokens 2))
+    (choose name tokens (is_word (codes "show") name) _ _ _ _ (one _ _ _ ((by_thread (by_number (by_number agrees_end)) _).agrees tokens 2))
+    (choose name tokens (is_word (codes "parent") name) _ _ _ _ (one _ _ _ ((by_thread (by_number agrees_end) _).agrees tokens 2))
+    (choose name tokens (is_word (codes "fault") name) _ _ _ _ (one _ _ _ ((by_thread (by_number (by_number by_rights)) _).agrees tokens 2))
+    (choose name tokens (is_word (codes "region") name) _ _ _ _ (one _ _ _ ((by_thread (by_number (by_number (by_number by_rights))) _).agrees tokens 2))
+    (choose name tokens (is_word (codes "serve") name) _ _ _ _ (one _ _ _ ((by_thread agrees_end _).agrees tokens 2))
+    (choose name tokens (is_word (codes "steps") name) _ _ _ None (one _ _ _ ((agrees_end _).agrees tokens 2)) refl))))))))))))))
 
 -- a line is a command just where nothing stops
 command_ends : (tokens : List (List ℕ)) → is_ok (command_of tokens) ≡ ends (stop_of tokens)
@@ -404,28 +340,22 @@ all_fit name =
 
 -- LINES
 
-ok_of : {E : Type 0} (asked : Result Command E) → is_ok asked ≡ true → (command : Command) × (asked ≡ Ok command)
-ok_of (Ok command) is = (command, refl)
-ok_of (Err fault) is = absurd (false≢true is)
-
 begins : (tokens more : List (List ℕ)) → is_ok (command_of (tokens ++ more)) ≡ true → BeginsCommand tokens
-begins tokens more is =
-    let command = ok_of (command_of (tokens ++ more)) is in
-    (more, command.0, command.1)
+begins tokens more is = (more, is)
 
 begins_nothing : BeginsCommand []
 unfolding command_of
-begins_nothing = (codes "steps" ∷ [], Steps, refl)
+begins_nothing = (codes "steps" ∷ [], refl)
 
 not_begun : (tokens : List (List ℕ)) → ((more : List (List ℕ)) → is_ok (command_of (tokens ++ more)) ≡ false) → BeginsCommand tokens → ⊥
-not_begun tokens never b = false≢true (sym (never b.0) ∙ ap is_ok b.2)
+not_begun tokens never b = false≢true (sym (never b.0) ∙ b.1)
 
 stops_there : (o : Option (List ℕ)) (S : List (List ℕ) → Option Place) (name : List ℕ) (tokens : List (List ℕ)) (place : Place) → ((xs : List (List ℕ)) → is_ok (command_of (name ∷ xs)) ≡ ends (S xs)) → S tokens ≡ Some place
     → IsAt o S 2 tokens place → StopsThere (name ∷ tokens) place o
 stops_there None S name tokens place same is at = (
   omega (arith, at.0),
   begins (name ∷ tokens) at.1.0 (same (tokens ++ at.1.0) ∙ at.1.1),
-  λ command h. false≢true (sym (same tokens ∙ ap ends is) ∙ ap is_ok h),
+  λ h. false≢true (sym (same tokens ∙ ap ends is) ∙ h),
 )
 stops_there (Some token) S name tokens place same is at = (
   name ∷ at.before,
@@ -447,9 +377,9 @@ shape_at (Some shape) name tokens place form fit is =
 
 stop_case : (tokens : List (List ℕ)) (o : Option Place) → stop_of tokens ≡ o → IsStop tokens o
 unfolding command_of
-stop_case tokens None is = ok_of (command_of tokens) (command_ends tokens ∙ ap ends is)
+stop_case tokens None is = command_ends tokens ∙ ap ends is
 stop_case [] (Some place) is =
-    subst (λ (p : Place). StopsThere [] p p.token) (same_Some _ _ is) (refl, begins_nothing, λ command h. false≢true (ap is_ok h))
+    subst (λ (p : Place). StopsThere [] p p.token) (same_Some _ _ is) (refl, begins_nothing, λ h. false≢true h)
 stop_case (name ∷ tokens) (Some place) is = shape_at (shape_of name) name tokens place refl (all_fit name) is
 
 -- A line's stop is where no command goes on.

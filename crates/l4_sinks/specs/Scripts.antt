@@ -3,7 +3,7 @@ use Rattle.std.specs.Prelude.{ℕ, ◌≡◌, ◌⊎◌, Bool, true, false, List
 use Rattle.std.specs.List.{All}
 use Rattle.std.specs.Io.KnownBytes.{Consumes, Appends, IsAtEnd}
 use Rattle.l4_fpage.specs.declared.sizes.PageSize.{PageSize}
-use Rattle.l4_answers.specs.Reports.{Report, IsRefusalOf, has_refusal}
+use Rattle.l4_answers.specs.Reports.{Report, refused_line, has_refusal}
 use Rattle.l4_text.specs.Grammar.{TextLine, lines_of}
 use Rattle.l4_shell.specs.Sessions.{IsAnswered}
 use Rattle.l4_sinks.specs.declared.scripts.Ended.{Ended}
@@ -15,7 +15,7 @@ use Rattle.l4_text.specs.declared.faults.RunFault.TheVariants.{Read, Write, Memo
 -- no line is refused, or the last of so many alone, and its refusal is the last answer
 abbrev pub StopsAtRefusal : ℕ → List Report → Type 0
 StopsAtRefusal count told =
-    (has_refusal told ≡ false) ⊎ ((earlier : List Report) × (report : Report) × IsRefusalOf count report × (has_refusal earlier ≡ false) × (told ≡ earlier ++ report ∷ []))
+    (has_refusal told ≡ false) ⊎ ((earlier : List Report) × (report : Report) × (refused_line report ≡ Some count) × (has_refusal earlier ≡ false) × (told ≡ earlier ++ report ∷ []))
 
 -- The first lines of what was read were answered, each of them whole unless the input has ended; in a strict run none behind a refused one.
 pub record AnswersFirst (frames : ℕ) (size : PageSize) (strict : Bool) (old new : Option (List ℕ)) : Type 0 where

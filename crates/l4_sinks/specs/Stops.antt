@@ -1,9 +1,9 @@
 -- The token at which a line stops being a command, and what would be right there (this profile's own).
-use Rattle.std.specs.Prelude.{◌≡◌, ℕ, zero, suc, ◌+◌, List, [], ◌∷◌, ◌++◌, length, Option, Some, None, Ok, option_map, if◌then◌else◌, codes}
+use Rattle.std.specs.Prelude.{◌≡◌, ℕ, zero, suc, ◌+◌, List, [], ◌∷◌, ◌++◌, length, Option, Some, None, IsOk, option_map, if◌then◌else◌, codes}
 use Rattle.l4_msg.specs.Sizes.{max_words}
 use Rattle.l4_shell.specs.declared.kinds.TokenKind.{TokenKind}
 use Rattle.l4_shell.specs.declared.kinds.TokenKind.TheVariants.{ThreadNumber, ThreadOrNew, ThreadOrNil, ThreadNilOrAny, Number, Rights}
-use Rattle.l4_shell.specs.Commands.{Command, is_word, command_of}
+use Rattle.l4_shell.specs.Commands.{is_word, command_of}
 use Rattle.l4_shell.specs.Kinds.{is_of}
 use Rattle.l4_sinks.specs.declared.stops.Expected.{Expected}
 use Rattle.l4_sinks.specs.declared.stops.Expected.TheVariants.{CommandName, Token, NumberOrEnd, LineEnd}
@@ -86,18 +86,18 @@ stop_of (name ∷ tokens) = shape_stop (shape_of name) name tokens
 
 -- these tokens are a command, or begin one
 abbrev pub BeginsCommand : List (List ℕ) → Type 0
-BeginsCommand tokens = (more : List (List ℕ)) × (command : Command) × (command_of (tokens ++ more) ≡ Ok command)
+BeginsCommand tokens = (more : List (List ℕ)) × IsOk (command_of (tokens ++ more))
 
 -- the tokens before the stop begin a command, and with the token there they begin none
 abbrev pub StopsThere : List (List ℕ) → Place → Option (List ℕ) → Type 0
-StopsThere tokens place None = (place.number ≡ length tokens + 1) × BeginsCommand tokens × ((command : Command) → command_of tokens ≡ Ok command → ⊥)
+StopsThere tokens place None = (place.number ≡ length tokens + 1) × BeginsCommand tokens × (¬ IsOk (command_of tokens))
 StopsThere tokens place (Some token) =
     (before : List (List ℕ)) × (after : List (List ℕ)) × (tokens ≡ before ++ token ∷ after) × (place.number ≡ length before + 1)
     × BeginsCommand before × (BeginsCommand (before ++ token ∷ []) → ⊥)
 
 -- A LINE'S STOP: none of a command; of any other line the one token, or the end, that no command has there
 abbrev pub IsStop : List (List ℕ) → Option Place → Type 0
-IsStop tokens None = (command : Command) × (command_of tokens ≡ Ok command)
+IsStop tokens None = IsOk (command_of tokens)
 IsStop tokens (Some place) = StopsThere tokens place place.token
 
 -- AS VALUES OF THE CODE

@@ -1,8 +1,8 @@
 -- The text of answers, with or without what each means (this profile's own).
-use Rattle.std.specs.Prelude.{ℕ, ◌≡◌, List, [], ◌∷◌, ◌++◌, Option, None, Some, MatchOption, if◌then◌else◌}
+use Rattle.std.specs.Prelude.{ℕ, ◌≡◌, List, [], ◌∷◌, ◌++◌, Option, None, Some, is_some, MatchOption, if◌then◌else◌}
 use Rattle.l4_fpage.specs.declared.sizes.PageSize.{PageSize}
 use Rattle.l4_threads.specs.declared.Reply.{Reply}
-use Rattle.l4_answers.specs.Reports.{Report, Ended, report_text, is_refusal}
+use Rattle.l4_answers.specs.Reports.{Report, Ended, report_text, refused_line}
 use Rattle.l4_decode.specs.Decoded.{IsMessageText}
 use Rattle.l4_sinks.specs.Words.{says, reply_says, received}
 
@@ -36,7 +36,7 @@ IsAnswerText (Some size) report text = (words : List ℕ) × Explains size repor
 -- what the last of these answers says that refuses a line; before them this was said
 abbrev pub last_refusal : Option (List ℕ) → List Report → Option (List ℕ)
 last_refusal before [] = before
-last_refusal before (report ∷ reports) = last_refusal (if is_refusal report then Some (says report) else before) reports
+last_refusal before (report ∷ reports) = last_refusal (if is_some (refused_line report) then Some (says report) else before) reports
 
 -- the text of answers, one after another
 abbrev pub AreAnswerTexts : Option PageSize → List Report → List ℕ → Type 0

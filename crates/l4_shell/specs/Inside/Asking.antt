@@ -1,11 +1,17 @@
 -- What a line's command comes to.
-use Rattle.std.specs.Prelude.{Result, Ok, Err}
-use Rattle.l4_shell.specs.Commands.{Command}
-use Rattle.l4_shell.specs.Requests.{request_of}
-use Rattle.l4_shell.specs.declared.commands.ScriptFault.{ScriptFault}
+use Rattle.std.specs.Prelude.{ℕ, List, [], ◌∷◌, Option, None, drop, if◌then◌else◌}
+use Rattle.l4_shell.specs.Commands.{is_word, commands}
 use Rattle.l4_shell.specs.declared.requests.Request.{Request}
 
--- the request that a command comes to, where there is one
-abbrev pub requested : Result Command ScriptFault → Result Request ScriptFault
-requested (Ok command) = Ok (request_of command)
-requested (Err fault) = Err fault
+-- what the tokens after a name ask for by these rows, where they can be read
+abbrev pub asked_in : List (List ℕ × (List (List ℕ) → Option Request)) → List ℕ → List (List ℕ) → Option Request
+asked_in [] name tokens = None
+asked_in (row ∷ rows) name tokens = if is_word row.0 name then row.1 tokens else asked_in rows name tokens
+
+-- what the tokens after a command's name ask for
+abbrev pub asked : List ℕ → List (List ℕ) → Option Request
+asked name tokens = asked_in commands name tokens
+
+-- the rows of pagers and of the history
+abbrev pub pager_commands : List (List ℕ × (List (List ℕ) → Option Request))
+pager_commands = drop 11 commands

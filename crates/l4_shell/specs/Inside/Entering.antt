@@ -1,5 +1,5 @@
 -- A call that was entered, as a script's text tells it. (this profile's own)
-use Rattle.std.specs.Prelude.{◌≡◌, ℕ, List, ◌++◌, length, Ok}
+use Rattle.std.specs.Prelude.{◌≡◌, ℕ, List, ◌∷◌, ◌++◌, length, map, Ok}
 use Rattle.l4_ipc.specs.declared.calls.Call.{Call}
 use Rattle.l4_ipc.specs.declared.steps.Answer.{Answer}
 use Rattle.l4_ipc.specs.declared.steps.Step.TheVariants.{Start}
@@ -7,7 +7,13 @@ use Rattle.l4_ipc.specs.Machine.{Machine}
 use Rattle.l4_ipc.specs.Steps.{Steps, IsIdle}
 use Rattle.l4_ipc.specs.Following.{Done, AreNext}
 use Rattle.l4_record.specs.Seated.{Seated, CanEnter}
-use Rattle.l4_shell.specs.Sessions.{call_entries}
+use Rattle.l4_record.specs.Following.{start_entry}
+use Rattle.l4_record.specs.declared.entries.Entry.{Entry}
+use Rattle.l4_shell.specs.Sessions.{done_entry}
+
+-- the entries of a call: its start, and the steps that came next
+abbrev pub call_entries : ℕ → Call → Answer → List Done → List Entry
+call_entries n call answer steps = start_entry n call answer ∷ map (done_entry n) steps
 
 -- The call was entered: the history goes on by its start and by the steps that come next, each with the machine right after it.
 pub record Entered (old new : Seated) (n : ℕ) (call : Call) : Type 0 where

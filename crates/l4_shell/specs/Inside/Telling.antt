@@ -3,6 +3,8 @@ use Rattle.std.specs.Prelude.{◌≡◌, ℕ, ◌≤◌, Bool, List, [], ◌∷�
 use Rattle.std.specs.List.{flat_map}
 use Rattle.l4_ipc.specs.Machine.{Machine}
 use Rattle.l4_ipc.specs.declared.calls.Call.{Call}
+use Rattle.l4_ipc.specs.declared.steps.Answer.{Answer}
+use Rattle.l4_ipc.specs.declared.steps.Step.{Step}
 use Rattle.l4_ipc.specs.declared.steps.Step.TheVariants.{Start}
 use Rattle.l4_ipc.specs.declared.steps.NextStep.{NextStep}
 use Rattle.l4_ipc.specs.NextSteps.{step_of, answer_of}
@@ -12,7 +14,11 @@ use Rattle.l4_record.specs.Seated.{Seated, is_among, Refuses as RefusesCall}
 use Rattle.l4_shell.specs.Inside.Entering.{Entered}
 use Rattle.l4_answers.specs.Reports.{Report, RefusedLine, AddsAll}
 use Rattle.l4_shell.specs.Refusals.{call_refusal}
-use Rattle.l4_shell.specs.Sessions.{Session, ended_reports, step_reports, done_reports, ended_in, Act, act_reports, ended_by, AreActs, most_acts, StopsActing}
+use Rattle.l4_shell.specs.Sessions.{Session, ended_reports, done_reports, ended_in, waiting_reports, Act, steps_in, AreActs, most_acts, StopsActing}
+
+-- what is told of a step with this answer, in the machine right after it
+abbrev pub step_reports : Step → Answer → Machine → List Report
+step_reports step answer new = done_reports (record { step = step; answer = answer; after = new })
 
 -- what is told of a step that came next, where the replies of the calls that ended in it are read later
 abbrev pub next_reports : Machine → NextStep → List Report
@@ -48,5 +54,15 @@ pub record TellsActs {T : Type 0} (old : Session) (thread : ℕ) (ended : Bool) 
   pub few : length acts ≤ most_acts
   pub last : List Report
   pub stops : StopsActing between (length acts) last new
-  pub ended_is : ended ≡ is_among thread (ended_by acts)
-  pub tells : AddsAll has_told before after (flat_map act_reports acts ++ last)
+  pub ended_is : ended ≡ is_among thread (ended_in (steps_in acts))
+  pub tells : AddsAll has_told before after (flat_map done_reports (steps_in acts) ++ last)
+
+-- the same after a call of the thread in which the calls of these threads ended; the last report says that the thread's call has not ended
+pub record GoesOn (old : Session) (thread : ℕ) (ended : List ℕ) (told : List Report) (new : Session) : Type 0 where
+  pub acts : List Act
+  pub between : Session
+  pub are : AreActs old acts between
+  pub few : length acts ≤ most_acts
+  pub last : List Report
+  pub stops : StopsActing between (length acts) last new
+  pub told_is : told ≡ (flat_map done_reports (steps_in acts) ++ last) ++ waiting_reports thread (is_among thread (ended ++ ended_in (steps_in acts)))
