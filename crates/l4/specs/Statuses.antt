@@ -8,18 +8,14 @@ use Rattle.l4_step_lines.specs.declared.judging.JudgeFault.{JudgeFault}
 use Rattle.l4_step_lines.specs.declared.judging.JudgeFault.TheVariants.{List as OfList}
 use Rattle.l4_step_lines.specs.declared.running.Fault.TheVariants.{Stopped}
 use Rattle.l4_text.specs.declared.faults.RunFault.{RunFault}
-use Rattle.l4_why.specs.declared.asking.Presence.{Presence}
+use Rattle.l4_why.specs.declared.asking.WhyResult.{WhyResult}
+use Rattle.l4_why.specs.declared.asking.WhyResult.TheVariants.{Told}
 use Rattle.l4_why.specs.declared.asking.Presence.TheVariants.{Present}
 
--- run: 1 where a refused line ended a strict run
+-- run and history: 1 where a refused line ended a strict script
 abbrev pub script_status : Result Ended RunFault → ℕ
 script_status (Ok ended) = if is_some ended.refused then 1 else 0
 script_status (Err fault) = run_status fault
-
--- history: 0 at the end of the script
-abbrev pub history_status : Result ℕ RunFault → ℕ
-history_status (Ok lines) = 0
-history_status (Err fault) = run_status fault
 
 -- judge: 1 where the answers differ, 2 where the list is invalid
 abbrev pub judged_status : Result Bool JudgeFault → ℕ
@@ -27,9 +23,9 @@ judged_status (Ok agrees) = if agrees then 0 else 1
 judged_status (Err (OfList (Stopped fault))) = run_status fault
 judged_status (Err fault) = 2
 
--- why: 1 where the page is not present, or there is no such thread
-abbrev pub why_status : Result Presence RunFault → ℕ
-why_status (Ok Present) = 0
+-- why: 1 where the page is not present, where there is no such thread, or where a refused line ended a strict script
+abbrev pub why_status : Result WhyResult RunFault → ℕ
+why_status (Ok (Told Present)) = 0
 why_status (Ok _) = 1
 why_status (Err fault) = run_status fault
 

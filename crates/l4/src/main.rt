@@ -1,14 +1,14 @@
 //! The program `l4`: answers scripts of kernel calls (`l4 --help`).
 //!
 //! Exit statuses: 0 at the end of the script, for a plan, for a proved one and for a list that agrees; 1 if there is no plan, if it is not
-//! proved, if the page asked about is not present, if a refused line ended a strict run, or if another kernel's answers differ; 2 for a
+//! proved, if the page asked about is not present, if a refused line ended a strict script, or if another kernel's answers differ; 2 for a
 //! command line or a list that is not understood or a file that cannot be opened; 3 if a read or a write failed; 4 if there was no memory.
 #![tactic(auto)]
 
 mod reports;
 
 ghost use Rattle.std.specs.Prelude.{◌≡◌, IfErr};
-ghost use Rattle.l4.specs.Statuses.{script_status, history_status, judged_status, why_status, plan_status, check_status, text_status};
+ghost use Rattle.l4.specs.Statuses.{script_status, judged_status, why_status, plan_status, check_status, text_status};
 ghost use Rattle.l4_options.specs.Ranges.{IsFrameCount};
 
 use l4_decode::{Reading, decode};
@@ -21,11 +21,12 @@ use l4_options::{
 };
 use l4_plan::plan;
 use l4_plan_lines::{Answer, answer_lines, plan_lines};
+use l4_reasons::Reason;
 use l4_sinks::{Ended, Style, answer_script};
 use l4_step_lines::{Fault, JudgeFault, judge};
 use l4_symbols::write_words;
 use l4_text::{RunFault, ScriptReader};
-use l4_why::{Presence, ThreadPage, why};
+use l4_why::{Presence, Question, ThreadPage, WhyResult, why};
 use reports::{report_no_plan, report_no_thread, report_refused, report_unproved};
 use std::io::{Read, Write};
 use std::process::ExitCode;
@@ -34,7 +35,7 @@ use std::{fs, io};
 
 const NOT_FOUND: u8 = 1;
 
-/// The exit status of a strict run that a refused line ended.
+/// The exit status of a strict script that a refused line ended.
 const REFUSED: u8 = 1;
 
 /// The exit status if another kernel's answers differ.
@@ -56,7 +57,15 @@ fn opened<R: Files + Input + Eprint>(
     }
 }
 
-/// Reports how a script's answers ended. Returns the exit status.
+/// Reports why a refused line ended a strict script. Returns the exit status.
+fn refused(rt: &impl Eprint, reason: &Reason) -> u8
+    ensures { result ≡ 1 }
+{
+    report_refused(rt, reason);
+    REFUSED
+}
+
+/// Reports how a script ended whose answers or history were written. Returns the exit status.
 fn script_ended<R: Read, W: Write>(
     rt: &impl Eprint,
     answered: Result<Ended, RunFault>,
@@ -69,28 +78,8 @@ fn script_ended<R: Read, W: Write>(
     match answered {
         Ok(end) => {
             if let Some(reason) = end.refused {
-                report_refused(rt, &reason);
-                return REFUSED;
+                return refused(rt, &reason);
             }
-            warn_of_cut_line(rt, reader, file);
-            0
-        }
-        Err(fault) => stopped(rt, fault, file, cause(fault, reader, writer)),
-    }
-}
-
-/// Reports how the history of a script ended. Returns the exit status.
-fn history_ended<R: Read, W: Write>(
-    rt: &impl Eprint,
-    told: Result<u64, RunFault>,
-    file: Option<&str>,
-    reader: &WatchedReader<R>,
-    writer: &WatchedWriter<W>,
-) -> u8
-    ensures { result ≡ history_status told }
-{
-    match told {
-        Ok(_) => {
             warn_of_cut_line(rt, reader, file);
             0
         }
@@ -121,10 +110,10 @@ fn judged<R: Read, W: Write>(
     }
 }
 
-/// Reports why a page is not present. Returns the exit status.
+/// Reports why a page is not present, or why a line was refused. Returns the exit status.
 fn why_ended<R: Read, W: Write>(
     rt: &impl Eprint,
-    told: Result<Presence, RunFault>,
+    told: Result<WhyResult, RunFault>,
     file: Option<&str>,
     reader: &WatchedReader<R>,
     writer: &WatchedWriter<W>,
@@ -132,7 +121,8 @@ fn why_ended<R: Read, W: Write>(
     ensures { result ≡ why_status told }
 {
     let found = match told {
-        Ok(found) => found,
+        Ok(WhyResult::Told(found)) => found,
+        Ok(WhyResult::Refused(reason)) => return refused(rt, &reason),
         Err(fault) => return stopped(rt, fault, file, cause(fault, reader, writer)),
     };
     warn_of_cut_line(rt, reader, file);
@@ -235,6 +225,7 @@ fn run<R: AllocGlobal + Files + Input + Print + Eprint>(
 fn tell_history<R: AllocGlobal + Files + Input + Print + Eprint>(
     rt: &R,
     script: &ScriptOptions,
+    strict: bool,
     answers: bool,
 ) -> u8
     requires { IsFrameCount script.now.frames }
@@ -250,6 +241,7 @@ fn tell_history<R: AllocGlobal + Files + Input + Print + Eprint>(
             rt.alloc(),
             script.frames,
             script.size,
+            strict,
             &mut reader,
             &mut writer,
         )
@@ -258,11 +250,12 @@ fn tell_history<R: AllocGlobal + Files + Input + Print + Eprint>(
             rt.alloc(),
             script.frames,
             script.size,
+            strict,
             &mut reader,
             &mut writer,
         )
     };
-    history_ended(rt, told, file, &reader, &writer)
+    script_ended(rt, told, file, &reader, &writer)
 }
 
 /// Judges a step list with another kernel's answers.
@@ -294,7 +287,7 @@ fn judge_list<R: AllocGlobal + Files + Input + Print + Eprint>(
 fn tell_why<R: AllocGlobal + Files + Input + Print + Eprint>(
     rt: &R,
     script: &ScriptOptions,
-    asked: ThreadPage,
+    question: Question,
 ) -> u8
     requires { IsFrameCount script.now.frames }
 {
@@ -308,7 +301,7 @@ fn tell_why<R: AllocGlobal + Files + Input + Print + Eprint>(
         rt.alloc(),
         script.frames,
         script.size,
-        asked,
+        question,
         &mut reader,
         &mut writer,
     );
@@ -358,15 +351,29 @@ fn obey<R: AllocGlobal + Files + Input + Print + Eprint>(rt: &R, words: &[String
                 explain,
             },
         ) => run(rt, &script, strict, explain),
-        Ok(Options::History { script, answers }) => tell_history(rt, &script, answers),
+        Ok(
+            Options::History {
+                script,
+                strict,
+                answers,
+            },
+        ) => tell_history(rt, &script, strict, answers),
         Ok(Options::Judge { list, all }) => judge_list(rt, &list, all),
         Ok(
             Options::Why {
                 script,
+                strict,
                 thread,
                 page,
             },
-        ) => tell_why(rt, &script, ThreadPage { thread, page }),
+        ) => tell_why(
+            rt,
+            &script,
+            Question {
+                page: ThreadPage { thread, page },
+                strict,
+            },
+        ),
         Ok(Options::Plan { region, size }) => write_plan(rt, &region, size),
         Ok(Options::Check { region, size }) => check(rt, &region, size),
         Ok(

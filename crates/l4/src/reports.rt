@@ -18,7 +18,7 @@ fn report_code(rt: &impl Eprint, code: u32) {
     }
 }
 
-/// Reports why a refused line ended a strict run.
+/// Reports why a refused line ended a strict script.
 pub(crate) fn report_refused(rt: &impl Eprint, reason: &Reason) {
     let _ = eprintln!(rt; "error: {reason}");
 }

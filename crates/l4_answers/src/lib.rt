@@ -11,4 +11,4 @@ pub use refusals::{
     Code, add_code, put_refused_act, put_refused_line, put_region, put_steps, refused_code,
 };
 pub use replies::{put_expire, put_reply, put_transfer, put_waits, reply_words};
-pub use sink::{Silent, Sink};
+pub use sink::Sink;

@@ -1,5 +1,5 @@
 //! Receivers of the answers of a script.
-ghost use Rattle.std.specs.Prelude.{◌≡◌, List, Bool, false, OnOk, IfErr};
+ghost use Rattle.std.specs.Prelude.{◌≡◌, List, Bool, OnOk, IfErr};
 ghost use Rattle.std.specs.Option.{option_copied};
 ghost use Rattle.l4_answers.specs.Reports.{Report, RefusedLine, UnreadLine, RefusedAct, Transferred, TimedOut, Waits, Ended, Page, Shown, Parent, AddedRegion, StepCount, Adds, Keeps, AllOut};
 
@@ -82,50 +82,4 @@ pub trait Sink {
         ensures ok { OnOk result (AllOut has_told is_out self.old self.new) }
         ensures same { OnOk result (closed self.new ≡ closed self.old) }
         ensures err { IfErr result (λ e. (e ≡ RunFault.Write) × Keeps has_told self.old self.new) };
-}
-
-/// Ignores all answers, for a script whose history alone is needed.
-#[derive(Drop)]
-pub struct Silent;
-
-impl Sink for Silent {
-    ghost has_told = { λ first sink told. Unit {0} };
-
-    ghost is_out = { λ first sink told. Unit {0} };
-
-    ghost closed = { λ sink. false };
-
-    fn refused_line(&mut self, line: u64, code: &Code) {}
-
-    fn unread_line(&mut self, line: u64, code: &Code, bytes: &[u8]) {}
-
-    fn refused_act(&mut self, thread: u32, code: &Code) {}
-
-    fn transfer(&mut self, sender: u32, receiver: u32, outcome: Outcome) {}
-
-    fn expire(&mut self, number: u32) {}
-
-    fn waits(&mut self, number: u32) {}
-
-    fn ended(&mut self, number: u32, reply: Option<&Reply>) {}
-
-    fn page(&mut self, page: u32, mapping: &Mapping) {}
-
-    fn shown(&mut self, count: u32) {}
-
-    fn parent(&mut self, mapping: Option<Mapping>) {}
-
-    fn region_added(&mut self) {}
-
-    fn steps(&mut self, count: u64) {}
-
-    fn before_line(&mut self, lines: &LineReader) {}
-
-    fn is_closed(&self) -> bool {
-        false
-    }
-
-    fn finish(&mut self) -> Result<(), RunFault> {
-        Ok(())
-    }
 }

@@ -12,7 +12,7 @@ ghost use Rattle.l4_text.specs.Streams.{Tells, HasTold};
 
 use l4_ipc::{Kernel, PageSize};
 use l4_record::{Entry, History};
-use l4_shell::record;
+use l4_sinks::{Ended, record_script};
 use l4_step_lines::{put_answer, put_step};
 use l4_text::{Output, RunFault};
 use std::alloc::Global;
@@ -63,7 +63,8 @@ fn tell_answered<W: Write>(
 }
 
 /// Executes the script of the reader as `run` of `l4_shell` does. Instead of its answers, writes the steps of its history, each as a line
-/// that `run` of `l4_step_lines` reads. Writes nothing before the last line was read. Returns the number of the script's lines.
+/// that `run` of `l4_step_lines` reads. Writes nothing before the last line was read. A strict script ends at its first refused line, and
+/// the history of the preceding lines is written. Returns how the script ended, as `answer_script` of `l4_sinks` does.
 ///
 /// The caller must pass 1 to 4,096 frames.
 ///
@@ -73,15 +74,16 @@ pub fn history<R: Read, W: Write>(
     alloc: Global,
     frames: u32,
     size: PageSize,
+    strict: bool,
     reader: &mut R,
     writer: &mut W,
-) -> Result<u64, RunFault>
+) -> Result<Ended, RunFault>
     requires some { 1 ≤ frames }
     requires fit { frames ≤ max_frames }
-    ensures { TellsHistory frames size false (R.remaining reader.old) (R.remaining reader.new)
+    ensures { TellsHistory frames size strict false (R.remaining reader.old) (R.remaining reader.new)
         (W.contents writer.old) (W.contents writer.new) result }
 {
-    let Some((history, answered)) = record(alloc, frames, size, reader) else {
+    let Some((history, answered)) = record_script(alloc, frames, size, strict, reader) else {
         return Err(RunFault::Memory);
     };
     let mut out = Output::new();
@@ -101,18 +103,19 @@ pub fn answered_history<R: Read, W: Write>(
     alloc: Global,
     frames: u32,
     size: PageSize,
+    strict: bool,
     reader: &mut R,
     writer: &mut W,
-) -> Result<u64, RunFault>
+) -> Result<Ended, RunFault>
     requires some { 1 ≤ frames }
     requires fit { frames ≤ max_frames }
-    ensures { TellsHistory frames size true (R.remaining reader.old) (R.remaining reader.new)
+    ensures { TellsHistory frames size strict true (R.remaining reader.old) (R.remaining reader.new)
         (W.contents writer.old) (W.contents writer.new) result }
 {
     let Ok(mut kernel) = Kernel::boot(alloc, frames, size) else {
         return Err(RunFault::Memory);
     };
-    let Some((history, answered)) = record(alloc, frames, size, reader) else {
+    let Some((history, answered)) = record_script(alloc, frames, size, strict, reader) else {
         return Err(RunFault::Memory);
     };
     let mut out = Output::new();

@@ -13,7 +13,8 @@ use l4_options::{StepOptions, command_words, misread, show, status_of, step_opti
 use l4_provenance::{provenance, replay};
 use l4_provenance_check::check_provenance;
 use l4_record::History;
-use l4_shell::{RunFault, record};
+use l4_sinks::record_script;
+use l4_text::RunFault;
 use std::alloc::Global;
 use std::process::ExitCode;
 
@@ -99,7 +100,7 @@ fn judge_script<R: AllocGlobal + Input + Print + Eprint>(rt: &R, frames: u32, si
     requires some { 1 ≤ frames }
     requires fit { frames ≤ max_frames }
 {
-    let Some((history, _)) = record(rt.alloc(), frames, size, &mut rt.reader()) else {
+    let Some((history, _)) = record_script(rt.alloc(), frames, size, false, &mut rt.reader()) else {
         return stopped(rt, RunFault::Memory, None, None);
     };
     let Ok(mut kernel) = Kernel::boot(rt.alloc(), frames, size) else {

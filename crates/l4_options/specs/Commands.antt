@@ -48,13 +48,13 @@ abbrev pub run_command : Shape
 run_command = command (codes "run") (script_rules (switch (codes "strict") ∷ switch (codes "explain") ∷ []))
 
 abbrev pub history_command : Shape
-history_command = command (codes "history") (script_rules (switch (codes "answers") ∷ []))
+history_command = command (codes "history") (script_rules (switch (codes "strict") ∷ switch (codes "answers") ∷ []))
 
 abbrev pub judge_command : Shape
 judge_command = command (codes "judge") (script_rules (switch (codes "all") ∷ []))
 
 abbrev pub why_command : Shape
-why_command = command (codes "why") (needed_word (codes "thread") ∷ needed_word (codes "page") ∷ script_rules [])
+why_command = command (codes "why") (needed_word (codes "thread") ∷ needed_word (codes "page") ∷ script_rules (switch (codes "strict") ∷ []))
 
 -- plan and check
 abbrev pub region_command : Text → Shape
@@ -91,10 +91,12 @@ l4_steps_program = record {
 abbrev pub Asks : Text → List Row → Options → Type 0
 Asks name found (Run script strict explain) =
     (name ≡ codes "run") × IsScriptIn found script × (strict ≡ is_on found (codes "strict")) × (explain ≡ is_on found (codes "explain"))
-Asks name found (History script answers) = (name ≡ codes "history") × IsScriptIn found script × (answers ≡ is_on found (codes "answers"))
+Asks name found (History script strict answers) =
+    (name ≡ codes "history") × IsScriptIn found script × (strict ≡ is_on found (codes "strict")) × (answers ≡ is_on found (codes "answers"))
 Asks name found (Judge list all) = (name ≡ codes "judge") × IsScriptIn found list × (all ≡ is_on found (codes "all"))
-Asks name found (Why script thread page) =
-    (name ≡ codes "why") × IsScriptIn found script × IsNumberAt found (codes "thread") thread × IsNumberAt found (codes "page") page
+Asks name found (Why script strict thread page) =
+    (name ≡ codes "why") × IsScriptIn found script × (strict ≡ is_on found (codes "strict"))
+    × IsNumberAt found (codes "thread") thread × IsNumberAt found (codes "page") page
 Asks name found (Plan region size) = (name ≡ codes "plan") × IsRegionIn found region × IsSizeIn found size
 Asks name found (Check region size) = (name ≡ codes "check") × IsRegionIn found region × IsSizeIn found size
 Asks name found (Decode words reading size) =

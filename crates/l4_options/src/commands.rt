@@ -12,8 +12,8 @@ use crate::help::{ABOUT, CHECK, DECODE, HISTORY, JUDGE, PLAN, SCRIPT, WHY};
 use crate::requests::{OptionFault, Options};
 use crate::values::{
     all_option, answers_option, explain_option, file_argument, frames_option, help_text, is_on,
-    is_word, number_of, reading_of, reading_option, region_of, script_of, size_of, size_option,
-    strict_option, without_hyphens, words_argument, words_of,
+    is_strict, is_word, number_of, reading_of, reading_option, region_of, script_of, size_of,
+    size_option, strict_option, without_hyphens, words_argument, words_of,
 };
 use clap::error::ErrorKind;
 use clap::{Arg, ArgAction, ArgMatches, Command, Error};
@@ -69,7 +69,8 @@ fn of_page<'a>(alloc: Global) -> Result<Command<'a>, AllocError>
         .arg(needed_word(alloc, "page", "PAGE", "The number of the page in its space"))?
         .arg(file_argument(alloc, SCRIPT_FILE))?
         .arg(frames_option(alloc))?
-        .arg(size_option(alloc))
+        .arg(size_option(alloc))?
+        .arg(strict_option(alloc))
 }
 
 /// The command `judge`.
@@ -112,6 +113,7 @@ fn of_history<'a>(alloc: Global) -> Result<Command<'a>, AllocError>
         .arg(file_argument(alloc, SCRIPT_FILE))?
         .arg(frames_option(alloc))?
         .arg(size_option(alloc))?
+        .arg(strict_option(alloc))?
         .arg(answers_option(alloc))
 }
 
@@ -209,7 +211,7 @@ fn run_options(alloc: Global, matches: &ArgMatches<'_>) -> Result<Options, Optio
     match script_of(alloc, matches) {
         Ok(script) => Ok(Options::Run {
             script,
-            strict: is_on(matches, "strict"),
+            strict: is_strict(matches),
             explain: is_on(matches, "explain"),
         }),
         Err(fault) => Err(fault),
@@ -223,6 +225,7 @@ fn history_options(alloc: Global, matches: &ArgMatches<'_>) -> Result<Options, O
     match script_of(alloc, matches) {
         Ok(script) => Ok(Options::History {
             script,
+            strict: is_strict(matches),
             answers: is_on(matches, "answers"),
         }),
         Err(fault) => Err(fault),
@@ -249,6 +252,7 @@ fn why_options(alloc: Global, matches: &ArgMatches<'_>) -> Result<Options, Optio
     match script_of(alloc, matches) {
         Ok(script) => Ok(Options::Why {
             script,
+            strict: is_strict(matches),
             thread: number_of(alloc, matches, "thread", "THREAD")?,
             page: number_of(alloc, matches, "page", "PAGE")?,
         }),
@@ -349,8 +353,8 @@ fn requested<'a, S: AsStr>(alloc: Global, words: &'a [S]) -> Result<Options, Opt
 }
 
 /// Reads the words of the command line, the program's name first:
-/// `l4 run [FILE] [--frames N] [--strict] [--explain]`, `l4 history [FILE] [--frames N] [--answers]`,
-/// `l4 judge [FILE] [--frames N] [--all]`, `l4 why THREAD PAGE [FILE] [--frames N]`, `l4 plan SOURCE TARGET COUNT RIGHTS`, `l4 check` with the same words, `l4 decode [--as READING] WORD..`, `l4 encode TOKEN..`, each with
+/// `l4 run [FILE] [--frames N] [--strict] [--explain]`, `l4 history [FILE] [--frames N] [--strict] [--answers]`,
+/// `l4 judge [FILE] [--frames N] [--all]`, `l4 why THREAD PAGE [FILE] [--frames N] [--strict]`, `l4 plan SOURCE TARGET COUNT RIGHTS`, `l4 check` with the same words, `l4 decode [--as READING] WORD..`, `l4 encode TOKEN..`, each with
 /// `--page-size BYTES` where that is wanted, `--help`, `help` or `--version`. N is 256 and BYTES 4096 where they are left out; READING is
 /// message, fpage, window or id.
 ///

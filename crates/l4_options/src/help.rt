@@ -46,11 +46,11 @@ steps if it has the same --frames and --page-size.
 
 With --answers, each step is followed by the answer that it got in the script,
 in the words of l4_steps. These lines begin with '# ', so l4_steps skips them. A
-refused line of the script executes no step and is not reported. Use
-'l4 run --strict' to see refused lines.
+refused line of the script executes no step. It is reported only with --strict: the
+script ends there, and the steps before it are printed.
 
-Exit status: as for 'l4 run', but never 1. With --answers, 4 also if a step gets
-another answer when it is executed again, because memory ran out.";
+Exit status: as for 'l4 run'. With --answers, 4 also if a step gets another
+answer when it is executed again, because memory ran out.";
 
 pub(crate) const JUDGE: &str = "\
 Reads a step list from FILE, or from standard input if FILE is omitted, in the
@@ -89,8 +89,8 @@ pub(crate) const WHY: &str = "\
 Runs a script from FILE, or from standard input if FILE is omitted, as 'l4 run'
 does. Once the script has ended, prints how page PAGE got into the space of
 thread THREAD, instead of the script's answers: the page that sigma0 had at
-boot, and then each transfer in order. Refused lines are not reported here. Use
-'l4 run --strict' to see them.
+boot, and then each transfer in order. A refused line is reported only with
+--strict: the script ends there, and nothing is printed on standard output.
 
   sigma0 page P              page P of sigma0's space, which has frame P
   entry E transfer S R KIND SOURCE TARGET RIGHTS RIGHTS

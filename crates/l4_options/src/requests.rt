@@ -24,9 +24,10 @@ pub enum Options {
         strict: bool,
         explain: bool,
     },
-    /// Writes the history of a script, with the answers to each step if `answers`.
+    /// Writes the history of a script, up to its first refused line if `strict`, with the answers to each step if `answers`.
     History {
         script: ScriptOptions,
+        strict: bool,
         answers: bool,
     },
     /// Judges a step list with another kernel's answers: up to its first difference, or to its end if `all`.
@@ -34,9 +35,10 @@ pub enum Options {
         list: ScriptOptions,
         all: bool,
     },
-    /// Prints how a page got into the space of a thread, by a script.
+    /// Prints how a page got into the space of a thread, by a script. If `strict`, the script must have no refused line.
     Why {
         script: ScriptOptions,
+        strict: bool,
         thread: u32,
         page: u32,
     },

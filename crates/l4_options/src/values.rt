@@ -325,6 +325,13 @@ pub(crate) fn is_on(matches: &ArgMatches<'_>, id: &str) -> bool
     is_word(word_at(matches, id), "true")
 }
 
+/// Whether a script ends at its first refused line.
+pub(crate) fn is_strict(matches: &ArgMatches<'_>) -> bool
+    ensures { result ≡ is_on (found_in matches.now) (codes "strict") }
+{
+    is_on(matches, "strict")
+}
+
 /// The number of a thread, or of a part of a region, by the argument's name.
 pub(crate) fn number_of(
     alloc: Global,

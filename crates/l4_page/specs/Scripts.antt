@@ -22,7 +22,8 @@ TellsAnswers frames size explain script old new told =
 -- the text of the script's history
 abbrev pub TellsHistoryOf : ℕ → PageSize → Bool → List ℕ → List ℕ → List ℕ → Answer → Type 0
 TellsHistoryOf frames size answers script old new told =
-    ((rest : List ℕ) × (count : ℕ) × (text : List ℕ) × HasText frames size answers (Some script) (Some rest) (Ok count) text × IsTold text true count old new told)
+    ((rest : List ℕ) × (ended : Ended) × (text : List ℕ) × HasText frames size false answers (Some script) (Some rest) (Ok ended) text
+    × IsTold text true ended.lines old new told)
     ⊎ TellsNothing (codes "NoMemory") old new told
 
 abbrev pub is_there : Presence → Bool
@@ -33,6 +34,6 @@ is_there NoThread = false
 -- the text that says how a page got to where it is
 abbrev pub TellsWhyOf : ℕ → PageSize → ThreadPage → List ℕ → List ℕ → List ℕ → Answer → Type 0
 TellsWhyOf frames size asked script old new told =
-    ((rest : List ℕ) × (count : ℕ) × (found : Presence) × (text : List ℕ) × HasWhy frames size asked (Some script) (Some rest) count found text
+    ((rest : List ℕ) × (found : Presence) × (text : List ℕ) × HasWhy frames size (record { page = asked; strict = false }) (Some script) (Some rest) found text
     × IsTold text (is_there found) 0 old new told)
     ⊎ TellsNothing (codes "NoMemory") old new told

@@ -84,12 +84,12 @@ fn recorded(
     let mut rest = script;
     let mut text = Vec::new(alloc);
     let told = if answers {
-        answered_history(alloc, frames, size, &mut rest, &mut text)
+        answered_history(alloc, frames, size, false, &mut rest, &mut text)
     } else {
-        history(alloc, frames, size, &mut rest, &mut text)
+        history(alloc, frames, size, false, &mut rest, &mut text)
     };
     match told {
-        Ok(lines) => tell(text.as_slice(), true, lines, out),
+        Ok(ended) => tell(text.as_slice(), true, ended.lines, out),
         Err(_) => refused(NO_MEMORY),
     }
 }

@@ -7,7 +7,7 @@ ghost use Rattle.l4_page.specs.Scripts.{is_there, TellsWhyOf};
 use crate::given::{PageGiven, machine_of};
 use crate::telling::{NO_MEMORY, Told, refused, tell};
 use l4_fpage::PageSize;
-use l4_why::{Presence, ThreadPage, why};
+use l4_why::{Presence, Question, ThreadPage, WhyResult, why};
 use std::alloc::Global;
 
 /// Returns whether a page is present.
@@ -35,8 +35,13 @@ fn traced(
 {
     let mut rest = script;
     let mut text = Vec::new(alloc);
-    match why(alloc, frames, size, asked, &mut rest, &mut text) {
-        Ok(found) => tell(text.as_slice(), is_there(found), 0, out),
+    let question = Question {
+        page: asked,
+        strict: false,
+    };
+    match why(alloc, frames, size, question, &mut rest, &mut text) {
+        Ok(WhyResult::Told(found)) => tell(text.as_slice(), is_there(found), 0, out),
+        Ok(WhyResult::Refused(_)) => unreachable!(),
         Err(_) => refused(NO_MEMORY),
     }
 }

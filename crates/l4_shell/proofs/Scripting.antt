@@ -1,6 +1,6 @@
 -- The lines of a script, answered one by one.
 use Rattle.std.proofs.Common.{◌≡◌, ℕ, ◌+◌, ◌-◌, ◌==◌, ◌<◌, ◌≤◌, ◌⊎◌, Bool, true, false, cond, nat_lt, List, [], ◌∷◌, ◌++◌, length, length-append, take, filter, Option, Some, None, Result, Ok, Err, inl, inr, sym, ap, subst, ◌∙◌, refl, arith, length-take}
-use Rattle.std.specs.Io.KnownBytes.{Consumes, IsAtEnd}
+use Rattle.std.specs.Io.KnownBytes.{Consumes}
 use Rattle.std.specs.List.{All}
 use Rattle.std.proofs.lemmas.List.{append-nil, take_all}
 use Rattle.std.proofs.lemmas.List.Elements.{All-head, All-tail, All-push}
@@ -377,31 +377,22 @@ runs_not has_told is_out closed frames size m sv last old new before after sent 
     let t = some_told has_told closed (session m sv) last old new before after result tells in
     (first_answers has_told closed frames size m sv last old new before after boots sized none t, adds_kept has_told before after sent t.told t.adds kept)
 
--- the history alone is wanted, and the sink never closes
-pub records_on : {T : Type 0} (has_told : T → T → List Report → Type 0) (closed : T → Bool) (frames : ℕ) (size : PageSize) (m k : Seated) (sv sv' : Servers) (old new : Option (List ℕ)) (before after : T) (result : Result ℕ RunFault) (history : List Entry) → closed after ≡ false → IsBoot frames m.machine → m.machine.size ≡ size
-    → session m sv ≡ first_session frames m.machine → TellsScript (session m sv) (session k sv') old new has_told closed before after result → history ≡ k.history → Records frames size old new history result
+-- the history is wanted
+pub records_on : {T : Type 0} (has_told : T → T → List Report → Type 0) (closed : T → Bool) (frames : ℕ) (size : PageSize) (m k : Seated) (sv sv' : Servers) (old new : Option (List ℕ)) (before after : T) (result : Result ℕ RunFault) (history : List Entry) → IsBoot frames m.machine → m.machine.size ≡ size
+    → session m sv ≡ first_session frames m.machine → TellsScript (session m sv) (session k sv') old new has_told closed before after result → history ≡ k.history
+    → Records frames size old new has_told closed before after history result
 unfolding first_answers
-records_on has_told closed frames size m k sv sv' old new before after (Ok count) history opened boots sized none t is =
-    let a = first_answers has_told closed frames size m sv (session k sv') old new before after boots sized none t.some in
-    let end : IsAtEnd new × (t.some.lines ≡ lines_of t.some.read) = elim t.end [ inl ended ↦ ended | inr over ↦ absurd (false≢true (sym opened ∙ over)) ] in
-    record {
-      read = a.read;
-      «from» = a.from;
-      lines = a.lines;
-      answered = (end.0, end.1, t.number);
-      is_history = (a.told, a.is_answered, is);
-    }
-records_on has_told closed frames size m k sv sv' old new before after (Err Read) history opened boots sized none t is =
-    let a = first_answers has_told closed frames size m sv (session k sv') old new before after boots sized none t.some in
-    record {
-      read = a.read;
-      «from» = a.from;
-      lines = a.lines;
-      answered = t.whole;
-      is_history = (a.told, a.is_answered, is);
-    }
-records_on has_told closed frames size m k sv sv' old new before after (Err Write) history opened boots sized none t is = absurd t
-records_on has_told closed frames size m k sv sv' old new before after (Err Memory) history opened boots sized none t is = absurd t
+records_on has_told closed frames size m k sv sv' old new before after (Ok count) history boots sized none t is = (
+  record { first = first_answers has_told closed frames size m sv (session k sv') old new before after boots sized none t.some; adds = t.some.adds; is_history = is },
+  t.number,
+  t.end,
+)
+records_on has_told closed frames size m k sv sv' old new before after (Err Read) history boots sized none t is = (
+  record { first = first_answers has_told closed frames size m sv (session k sv') old new before after boots sized none t.some; adds = t.some.adds; is_history = is },
+  t.whole,
+)
+records_on has_told closed frames size m k sv sv' old new before after (Err Write) history boots sized none t is = absurd t
+records_on has_told closed frames size m k sv sv' old new before after (Err Memory) history boots sized none t is = absurd t
 
 -- the bytes of the line are those that were kept
 pub same_bytes : {T : Type 0} (has_told : T → T → List Report → Type 0) (last next : Session) (number : ℕ) (ending : Ending) (bytes kept : List ℕ) (s t : T) → bytes ≡ kept

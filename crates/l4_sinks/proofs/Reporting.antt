@@ -28,11 +28,11 @@ texts_more explains (first ∷ told) text report last are is = (
 )
 
 -- what the last refusal says, with one answer more
-refusal_more : (before : Option (List ℕ)) (told : List Report) (report : Report) → last_refusal before (told ++ report ∷ []) ≡ cond (is_some (refused_line report)) (Some (says report)) (last_refusal before told)
+pub refusal_more : (before : Option (List ℕ)) (told : List Report) (report : Report) → last_refusal before (told ++ report ∷ []) ≡ cond (is_some (refused_line report)) (Some (says report)) (last_refusal before told)
 refusal_more before [] report = refl
 refusal_more before (first ∷ told) report = refusal_more (cond (is_some (refused_line first)) (Some (says first)) before) told report
 
-keeps_none : {A : Type 0} (b : Bool) (x y : Option A) → cond b x (cond b y None) ≡ cond b x None
+pub keeps_none : {A : Type 0} (b : Bool) (x y : Option A) → cond b x (cond b y None) ≡ cond b x None
 keeps_none true x y = refl
 keeps_none false x y = refl
 

@@ -25,7 +25,7 @@ pub record IsNew {W : Type 0} (teller : Teller W) (writer : W) (strict : Bool) (
   pub strict_is : teller.strict ≡ strict
   pub refused_is : teller.refused ≡ None
 
-one_of_both : {A : Type 0} (b : Bool) (x : A) → cond b x x ≡ x
+pub one_of_both : {A : Type 0} (b : Bool) (x : A) → cond b x x ≡ x
 one_of_both true x = refl
 one_of_both false x = refl
 
@@ -49,7 +49,7 @@ some_step true (Some said) words more = refl
 some_step false before words more = refl
 
 -- something was said where a line was refused
-some_said : (before : Option (List ℕ)) (told : List Report) → is_some (last_refusal before told) ≡ (is_some before || has_refusal told)
+pub some_said : (before : Option (List ℕ)) (told : List Report) → is_some (last_refusal before told) ≡ (is_some before || has_refusal told)
 some_said before [] = or_false (is_some before)
 some_said before (report ∷ told) = some_said (cond (is_some (refused_line report)) (Some (says report)) before) told ∙ some_step (is_some (refused_line report)) before (says report) (has_refusal told)
 

@@ -1,1 +1,2 @@
+pub mod Silents
 pub mod Tellers

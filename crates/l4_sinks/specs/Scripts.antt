@@ -1,9 +1,10 @@
--- A script's run as its text.
+-- A script's run as its text, or as its history.
 use Rattle.std.specs.Prelude.{ℕ, ◌≡◌, ◌⊎◌, Bool, true, false, List, [], ◌∷◌, ◌++◌, length, filter, Option, None, Some, is_some, Result, Ok, Err, if◌then◌else◌}
 use Rattle.std.specs.List.{All}
 use Rattle.std.specs.Io.KnownBytes.{Consumes, Appends, IsAtEnd}
 use Rattle.l4_fpage.specs.declared.sizes.PageSize.{PageSize}
 use Rattle.l4_answers.specs.Reports.{Report, refused_line, has_refusal}
+use Rattle.l4_record.specs.declared.entries.Entry.{Entry}
 use Rattle.l4_text.specs.Grammar.{TextLine, lines_of}
 use Rattle.l4_shell.specs.Sessions.{IsAnswered}
 use Rattle.l4_sinks.specs.declared.scripts.Ended.{Ended}
@@ -54,3 +55,15 @@ RunsScript frames size strict explain old new written now (Err Read) =
 RunsScript frames size strict explain old new written now (Err Write) =
     (a : AnswersFirst frames size strict old new) × IsBegun (explains_by explain size) a.told written now
 RunsScript frames size strict explain old new written now (Err Memory) = (new ≡ old) × (now ≡ written)
+
+-- THE HISTORY OF A SCRIPT, with how many lines were answered, and why a refused one ended a strict run: it is that of all lines unless it did.
+-- Where a read failed, it is the history of the whole lines.
+abbrev pub RecordsScript : ℕ → PageSize → Bool → Option (List ℕ) → Option (List ℕ) → List Entry → Result Ended RunFault → Type 0
+RecordsScript frames size strict old new history (Ok ended) =
+    (a : AnswersFirst frames size strict old new) × (history ≡ a.is_answered.last.history) × (ended.lines ≡ length a.lines)
+    × (ended.refused ≡ (if strict then last_refusal None a.told else None))
+    × ((IsAtEnd new × (a.lines ≡ lines_of a.read)) ⊎ (is_some ended.refused ≡ true))
+RecordsScript frames size strict old new history (Err Read) =
+    (a : AnswersFirst frames size strict old new) × (history ≡ a.is_answered.last.history) × (a.lines ≡ filter (λ line. line.whole) (lines_of a.read))
+RecordsScript frames size strict old new history (Err Write) = ⊥
+RecordsScript frames size strict old new history (Err Memory) = ⊥

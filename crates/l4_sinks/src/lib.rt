@@ -4,9 +4,10 @@
 mod reasons;
 mod scripts;
 mod sentences;
+mod silent;
 mod stops;
 mod teller;
 
-pub use scripts::{Ended, Style, answer_script};
+pub use scripts::{Ended, Style, answer_script, record_script};
 pub use stops::{Expected, Stop, stop_of};
 pub use teller::Teller;

@@ -1,12 +1,14 @@
-//! Scripts from a reader to a writer.
-ghost use Rattle.std.specs.Prelude.{◌≡◌, ◌≤◌};
+//! Scripts from a reader to a writer, or to the history that they leave.
+ghost use Rattle.std.specs.Prelude.{◌≡◌, ◌≤◌, MatchOption};
 ghost use Rattle.l4_fpage.specs.Pages.{max_frames};
-ghost use Rattle.l4_sinks.specs.Scripts.{explains_by, RunsScript};
+ghost use Rattle.l4_sinks.specs.Scripts.{explains_by, RunsScript, RecordsScript};
 
+use crate::silent::Silent;
 use crate::teller::Teller;
 use l4_fpage::PageSize;
 use l4_reasons::Reason;
-use l4_shell::run;
+use l4_record::History;
+use l4_shell::{record, run};
 use l4_text::RunFault;
 use std::alloc::Global;
 use std::io::{Read, Write};
@@ -56,5 +58,33 @@ pub fn answer_script<R: Read, W: Write>(
     match answered {
         Ok(lines) => (writer, Ok(Ended { lines, refused })),
         Err(fault) => (writer, Err(fault)),
+    }
+}
+
+/// Executes the script that the reader gives as `answer_script` does, without writing its answers. A strict run ends at the first refused
+/// line. Returns the history of the lines that were answered, and how the script ended. Returns None if there is no memory for a kernel;
+/// then nothing was read.
+///
+/// `Read`: a read failed, and the history is that of the preceding lines.
+pub fn record_script<R: Read>(
+    alloc: Global,
+    frames: u32,
+    size: PageSize,
+    strict: bool,
+    reader: &mut R,
+) -> Option<(History, Result<Ended, RunFault>)>
+    requires some { 1 ≤ frames }
+    requires fit { frames ≤ max_frames }
+    ensures { MatchOption result (R.remaining reader.new ≡ R.remaining reader.old)
+        (λ r. RecordsScript frames size strict (R.remaining reader.old) (R.remaining reader.new) r.0.entries r.1) }
+{
+    let mut silent = Silent::new(strict);
+    let Some((history, answered)) = record(alloc, frames, size, reader, &mut silent) else {
+        return None;
+    };
+    let refused = silent.into_refused();
+    match answered {
+        Ok(lines) => Some((history, Ok(Ended { lines, refused }))),
+        Err(fault) => Some((history, Err(fault))),
     }
 }

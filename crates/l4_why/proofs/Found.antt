@@ -17,13 +17,16 @@ use Rattle.l4_record.specs.declared.links.ChainLink.{ChainLink}
 use Rattle.l4_record.specs.Chains.{IsProvenance, IsAbsent}
 use Rattle.l4_record.specs.Replays.{IsBootWith}
 use Rattle.l4_provenance.proofs.Back.{one_boot}
-use Rattle.l4_shell.specs.Histories.{Records}
+use Rattle.l4_sinks.specs.Scripts.{RecordsScript}
+use Rattle.l4_sinks.specs.declared.scripts.Ended.{Ended}
 use Rattle.l4_text.specs.Streams.{WentOut}
 use Rattle.l4_text.specs.declared.faults.RunFault.{RunFault}
 use Rattle.l4_text.specs.declared.faults.RunFault.TheVariants.{Read, Write, Memory}
 use Rattle.l4_why.specs.Telling.{IsWhy, HasWhy, TellsWhy, IsThreadText, IsPlaceText}
 use Rattle.l4_why.specs.Inside.Finding.{presence, answer_text, Holds, IsAnswer, IsOfThread}
 use Rattle.l4_why.specs.declared.asking.ThreadPage.{ThreadPage}
+use Rattle.l4_why.specs.declared.asking.Question.{Question}
+use Rattle.l4_why.specs.declared.asking.WhyResult.TheVariants.{Told, Refused}
 use Rattle.l4_why.specs.declared.asking.Presence.{Presence}
 use Rattle.l4_why.specs.declared.asking.Answer.{Answer}
 use Rattle.l4_why.specs.declared.asking.Answer.TheVariants.{Unknown, Absent, Chain}
@@ -52,13 +55,13 @@ why_of frames size history asked answer h =
 -- ON KERNELS OF ONE'S OWN
 
 -- a kernel of one's own has done the history
-pub record Ended (frames : ℕ) (size : PageSize) (history : List Entry) (now : Machine) : Type 0 where
+pub record HasEnded (frames : ℕ) (size : PageSize) (history : List Entry) (now : Machine) : Type 0 where
   pub boot : Machine
   pub boots : IsBoot frames boot
   pub size_is : boot.size ≡ size
   pub run : Run boot (steps_of history) (answers_of history) now
 
-module _ (frames : ℕ) (size : PageSize) (history : List Entry) (now : Machine) (asked : ThreadPage) (e : Ended frames size history now) where
+module _ (frames : ℕ) (size : PageSize) (history : List Entry) (now : Machine) (asked : ThreadPage) (e : HasEnded frames size history now) where
   answered : (answer : Answer) → Holds e.boot now history asked answer → IsAnswer frames size history asked answer
   answered answer holds = record { boot = e.boot; boots = e.boots; size_is = e.size_is; now = now; run = e.run; holds = holds }
 
@@ -85,32 +88,40 @@ module _ (frames : ℕ) (size : PageSize) (history : List Entry) (now : Machine)
 
 -- WHAT GOES OUT
 
-module _ (frames : ℕ) (size : PageSize) (asked : ThreadPage) (old new written now : Option (List ℕ)) (read : Result ℕ RunFault) (history : List Entry)
-    (records : Records frames size old new history read) where
+module _ (frames : ℕ) (size : PageSize) (question : Question) (old new written now : Option (List ℕ)) (read : Result Ended RunFault) (history : List Entry)
+    (records : RecordsScript frames size question.strict old new history read) where
+  -- what a result of the run says of its history
+  recorded : (r : Result Ended RunFault) → read ≡ r → RecordsScript frames size question.strict old new history r
+  recorded r is = subst (λ (x : Result Ended RunFault). RecordsScript frames size question.strict old new history x) is records
+
   -- the script was read to its end
-  module _ (count : ℕ) (whole : read ≡ Ok count) (answer : Answer) (holds : IsAnswer frames size history asked answer) where
-    has_why : HasWhy frames size asked old new count (presence answer) (answer_text history answer)
-    has_why = record {
-      history = history;
-      records = subst (λ (r : Result ℕ RunFault). Records frames size old new history r) whole records;
-      is_why = why_of frames size history asked answer holds;
-    }
+  module _ (ended : Ended) (whole : read ≡ Ok ended) where
+    module _ (to_end : ended.refused ≡ None) (answer : Answer) (holds : IsAnswer frames size history question.page answer) where
+      has_why : HasWhy frames size question old new (presence answer) (answer_text history answer)
+      has_why = record {
+        history = history;
+        ended = ended;
+        records = recorded (Ok ended) whole;
+        to_end = to_end;
+        is_why = why_of frames size history question.page answer holds;
+      }
 
-    -- all that is told of an answer
-    pub all_told : (found : Presence) → found ≡ presence answer → Appends written now (answer_text history answer)
-        → TellsWhy frames size asked old new written now (Ok found)
-    all_told found is out =
-        subst (λ (p : Presence). TellsWhy frames size asked old new written now (Ok p)) (sym is) (count, answer_text history answer, has_why, out)
+      -- all that is told of an answer
+      pub all_told : (found : Presence) → found ≡ presence answer → Appends written now (answer_text history answer)
+          → TellsWhy frames size question old new written now (Ok (Told found))
+      all_told found is out =
+          subst (λ (p : Presence). TellsWhy frames size question old new written now (Ok (Told p))) (sym is) (answer_text history answer, has_why, out)
 
-    -- a beginning of it
-    pub some_told : WentOut written now (answer_text history answer) → TellsWhy frames size asked old new written now (Err Write)
-    some_told out = record { count = count; found = presence answer; text = answer_text history answer; has_why = has_why; out = out }
+      -- a beginning of it
+      pub some_told : WentOut written now (answer_text history answer) → TellsWhy frames size question old new written now (Err Write)
+      some_told out = record { found = presence answer; text = answer_text history answer; has_why = has_why; out = out }
+
+    -- a refused line ended it
+    pub refused_told : (reason : List ℕ) → ended.refused ≡ Some reason → now ≡ written → TellsWhy frames size question old new written now (Ok (Refused reason))
+    refused_told reason is same = record { history = history; ended = ended; records = recorded (Ok ended) whole; refused = is; unwritten = same }
 
   -- it was not, and nothing was written
-  stopped : (fault : RunFault) → read ≡ Err fault → Records frames size old new history (Err fault)
-  stopped fault is = subst (λ (r : Result ℕ RunFault). Records frames size old new history r) is records
-
-  pub none_told : (fault : RunFault) → read ≡ Err fault → now ≡ written → TellsWhy frames size asked old new written now (Err fault)
-  none_told Read is same = record { history = history; records = stopped Read is; unwritten = same }
-  none_told Write is same = absurd (stopped Write is).answered
+  pub none_told : (fault : RunFault) → read ≡ Err fault → now ≡ written → TellsWhy frames size question old new written now (Err fault)
+  none_told Read is same = record { history = history; records = recorded (Err Read) is; unwritten = same }
+  none_told Write is same = absurd (recorded (Err Write) is)
   none_told Memory is same = same

@@ -1,5 +1,5 @@
 -- How a page of a thread's space got there, as it is written for a script (this profile's own).
-use Rattle.std.specs.Prelude.{ℕ, ◌≡◌, List, ◌++◌, Option, Some, None, Result, Ok, Err, codes}
+use Rattle.std.specs.Prelude.{ℕ, ◌≡◌, Bool, List, ◌++◌, Option, Some, None, Result, Ok, Err, codes}
 use Rattle.std.specs.Io.KnownBytes.{Appends}
 use Rattle.l4_fpage.specs.declared.sizes.PageSize.{PageSize}
 use Rattle.l4_mapdb.specs.declared.Mapping.{Mapping}
@@ -13,13 +13,17 @@ use Rattle.l4_record.specs.declared.entries.Entry.{Entry}
 use Rattle.l4_record.specs.History.{steps_of, answers_of}
 use Rattle.l4_record.specs.declared.links.ChainLink.{ChainLink}
 use Rattle.l4_record.specs.Chains.{IsProvenance, IsAbsent}
-use Rattle.l4_shell.specs.Histories.{Records}
+use Rattle.l4_sinks.specs.Scripts.{RecordsScript}
+use Rattle.l4_sinks.specs.declared.scripts.Ended.{Ended}
 use Rattle.l4_text.specs.Streams.{WentOut}
 use Rattle.l4_text.specs.declared.faults.RunFault.{RunFault}
 use Rattle.l4_text.specs.declared.faults.RunFault.TheVariants.{Read, Write, Memory}
 use Rattle.l4_answers.specs.Replies.{newline}
 use Rattle.l4_why.specs.Chains.{chain_text}
 use Rattle.l4_why.specs.declared.asking.ThreadPage.{ThreadPage}
+use Rattle.l4_why.specs.declared.asking.Question.{Question}
+use Rattle.l4_why.specs.declared.asking.WhyResult.{WhyResult}
+use Rattle.l4_why.specs.declared.asking.WhyResult.TheVariants.{Told, Refused}
 use Rattle.l4_why.specs.declared.asking.Presence.{Presence}
 use Rattle.l4_why.specs.declared.asking.Presence.TheVariants.{Present, Absent, NoThread}
 
@@ -59,31 +63,41 @@ pub record IsWhy (frames : ℕ) (size : PageSize) (history : List Entry) (asked 
   pub run : Run boot (steps_of history) (answers_of history) now
   pub is_text : IsThreadText boot now history (thread_at now.threads asked.thread) asked.page found text
 
--- a script with this number of lines was executed to its end, and this is the text about the page
-pub record HasWhy (frames : ℕ) (size : PageSize) (asked : ThreadPage) (old new : Option (List ℕ)) (count : ℕ) (found : Presence) (text : List ℕ) : Type 0 where
+-- a script was executed to its end, and this is the text about the page
+pub record HasWhy (frames : ℕ) (size : PageSize) (question : Question) (old new : Option (List ℕ)) (found : Presence) (text : List ℕ) : Type 0 where
   pub history : List Entry
-  pub records : Records frames size old new history (Ok count)
-  pub is_why : IsWhy frames size history asked found text
+  pub ended : Ended
+  pub records : RecordsScript frames size question.strict old new history (Ok ended)
+  pub to_end : ended.refused ≡ None
+  pub is_why : IsWhy frames size history question.page found text
+
+-- a refused line ended a strict script, for this reason, and nothing was written
+pub record HasRefused (frames : ℕ) (size : PageSize) (strict : Bool) (old new written now : Option (List ℕ)) (reason : List ℕ) : Type 0 where
+  pub history : List Entry
+  pub ended : Ended
+  pub records : RecordsScript frames size strict old new history (Ok ended)
+  pub refused : ended.refused ≡ Some reason
+  pub unwritten : now ≡ written
 
 -- the lines of a script before a read that failed were executed, and nothing was written
-pub record HasStopped (frames : ℕ) (size : PageSize) (old new written now : Option (List ℕ)) : Type 0 where
+pub record HasStopped (frames : ℕ) (size : PageSize) (strict : Bool) (old new written now : Option (List ℕ)) : Type 0 where
   pub history : List Entry
-  pub records : Records frames size old new history (Err Read)
+  pub records : RecordsScript frames size strict old new history (Err Read)
   pub unwritten : now ≡ written
 
 -- a prefix of the text was written
-pub record HasBegun (frames : ℕ) (size : PageSize) (asked : ThreadPage) (old new written now : Option (List ℕ)) : Type 0 where
-  pub count : ℕ
+pub record HasBegun (frames : ℕ) (size : PageSize) (question : Question) (old new written now : Option (List ℕ)) : Type 0 where
   pub found : Presence
   pub text : List ℕ
-  pub has_why : HasWhy frames size asked old new count found text
+  pub has_why : HasWhy frames size question old new found text
   pub out : WentOut written now text
 
--- The text about a script that was read to its end was written, or a prefix of it if a write failed. Nothing was written if a read failed or
--- memory ran out.
-abbrev pub TellsWhy : ℕ → PageSize → ThreadPage → Option (List ℕ) → Option (List ℕ) → Option (List ℕ) → Option (List ℕ) → Result Presence RunFault → Type 0
-TellsWhy frames size asked old new written now (Ok found) =
-    (count : ℕ) × (text : List ℕ) × HasWhy frames size asked old new count found text × Appends written now text
-TellsWhy frames size asked old new written now (Err Read) = HasStopped frames size old new written now
-TellsWhy frames size asked old new written now (Err Write) = HasBegun frames size asked old new written now
-TellsWhy frames size asked old new written now (Err Memory) = now ≡ written
+-- The text about a script that was read to its end was written, or a prefix of it if a write failed. Nothing was written if a refused line ended
+-- a strict script, a read failed, or memory ran out.
+abbrev pub TellsWhy : ℕ → PageSize → Question → Option (List ℕ) → Option (List ℕ) → Option (List ℕ) → Option (List ℕ) → Result WhyResult RunFault → Type 0
+TellsWhy frames size question old new written now (Ok (Told found)) =
+    (text : List ℕ) × HasWhy frames size question old new found text × Appends written now text
+TellsWhy frames size question old new written now (Ok (Refused reason)) = HasRefused frames size question.strict old new written now reason
+TellsWhy frames size question old new written now (Err Read) = HasStopped frames size question.strict old new written now
+TellsWhy frames size question old new written now (Err Write) = HasBegun frames size question old new written now
+TellsWhy frames size question old new written now (Err Memory) = now ≡ written

@@ -8,8 +8,9 @@ ghost use Rattle.l4_why.specs.Telling.{unknown_text, absent_text, TellsWhy};
 use crate::lines::put_chain;
 use l4_ipc::{Kernel, Mapping, PageSize, Place};
 use l4_provenance::{ChainLink, provenance, replay};
+use l4_reasons::Reason;
 use l4_record::History;
-use l4_shell::record;
+use l4_sinks::record_script;
 use l4_text::{Output, RunFault, Text};
 use std::alloc::Global;
 use std::io::{Read, Write};
@@ -21,6 +22,22 @@ pub struct ThreadPage {
     pub thread: u32,
     /// The number of the page.
     pub page: u32,
+}
+
+/// What is asked of a script: how this page got into the space of its thread. If `strict`, the script must have no refused line.
+#[derive(Clone, Copy)]
+pub struct Question {
+    pub page: ThreadPage,
+    pub strict: bool,
+}
+
+/// What was written for a script.
+#[derive(Drop)]
+pub enum WhyResult {
+    /// How the page got there, or that it is not present.
+    Told(Presence),
+    /// Nothing: a refused line ended a strict script, for this reason.
+    Refused(Reason),
 }
 
 /// Whether a page is present at the end of a script.
@@ -128,7 +145,7 @@ fn put_answer<W: Write>(
 
 /// Executes the script of the reader as `run` of `l4_shell` does. Instead of its answers, writes how a page of a thread's space got there:
 /// sigma0's page, the transfers of the chain, and the page at the end. Returns whether the page is present. If it is not, or if there is no
-/// such thread, that is what it writes.
+/// such thread, that is what it writes. A strict script ends at its first refused line; then nothing is written, and the reason is returned.
 ///
 /// The caller must pass 1 to 4,096 frames.
 ///
@@ -139,29 +156,32 @@ pub fn why<R: Read, W: Write>(
     alloc: Global,
     frames: u32,
     size: PageSize,
-    asked: ThreadPage,
+    question: Question,
     reader: &mut R,
     writer: &mut W,
-) -> Result<Presence, RunFault>
+) -> Result<WhyResult, RunFault>
     requires some { 1 ≤ frames }
     requires fit { frames ≤ max_frames }
-    ensures { TellsWhy frames size asked (R.remaining reader.old) (R.remaining reader.new)
+    ensures { TellsWhy frames size question (R.remaining reader.old) (R.remaining reader.new)
         (W.contents writer.old) (W.contents writer.new) result }
 {
-    let Some((history, read)) = record(alloc, frames, size, reader) else {
+    let Some((history, read)) = record_script(alloc, frames, size, question.strict, reader) else {
         return Err(RunFault::Memory);
     };
-    match read {
-        Ok(_) => {}
+    let refused = match read {
+        Ok(ended) => ended.refused,
         Err(fault) => return Err(fault),
+    };
+    if let Some(reason) = refused {
+        return Ok(WhyResult::Refused(reason));
     }
-    let Some(answer) = look(alloc, frames, size, &history, asked) else {
+    let Some(answer) = look(alloc, frames, size, &history, question.page) else {
         return Err(RunFault::Memory);
     };
     let mut out = Output::new();
     let found = put_answer(&history, &answer, &mut out, writer);
     match out.finish(writer) {
-        Ok(()) => Ok(found),
+        Ok(()) => Ok(WhyResult::Told(found)),
         Err(_) => Err(RunFault::Write),
     }
 }

@@ -4,4 +4,4 @@
 mod asking;
 mod lines;
 
-pub use asking::{Presence, ThreadPage, why};
+pub use asking::{Presence, Question, ThreadPage, WhyResult, why};

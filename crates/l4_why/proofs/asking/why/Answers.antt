@@ -1,21 +1,26 @@
 use Rattle.std.proofs.Common.{refl}
 use Rattle.l4_text.proofs.Telling.{all_out, some_out}
-use Rattle.l4_why.proofs.Found.{all_told, some_told, none_told}
+use Rattle.l4_why.proofs.Found.{all_told, some_told, refused_told, none_told}
 use Rattle.l4_why.proofs.asking.why.Goals as goal
 
 pub returns-in-Err : goal.returns-in-Err
 returns-in-Err g c =
-    none_told c.args.frames c.args.size c.args.asked (g.R.Read.remaining c.args.reader.now) (g.R.Read.remaining c.record.new.reader) (g.W.Write.contents c.args.writer.now)
+    none_told c.args.frames c.args.size c.args.question (g.R.Read.remaining c.args.reader.now) (g.R.Read.remaining c.record_script.new.reader) (g.W.Write.contents c.args.writer.now)
     (g.W.Write.contents c.args.writer.now) c.in-Some.read c.in-Some.history.entries c.in-Some.ensures c.in-Err.fault c.in-Err.is refl
+
+pub returns-in-Some-refused : goal.returns-in-Some-refused
+returns-in-Some-refused g c =
+    refused_told c.args.frames c.args.size c.args.question (g.R.Read.remaining c.args.reader.now) (g.R.Read.remaining c.record_script.new.reader) (g.W.Write.contents c.args.writer.now)
+    (g.W.Write.contents c.args.writer.now) c.in-Some.read c.in-Some.history.entries c.in-Some.ensures c.in-Ok.ended c.in-Ok.is c.in-Some-refused.reason c.in-Some-refused.is refl
 
 pub returns-in-Ok-finish : goal.returns-in-Ok-finish
 returns-in-Ok-finish g c =
-    all_told c.args.frames c.args.size c.args.asked (g.R.Read.remaining c.args.reader.now) (g.R.Read.remaining c.record.new.reader) (g.W.Write.contents c.args.writer.now)
-    (g.W.Write.contents c.finish.new.writer) c.in-Some.read c.in-Some.history.entries c.in-Some.ensures c.in-Ok.field-0 c.in-Ok.is c.in-Some-look.answer c.in-Some-look.ensures
+    all_told c.args.frames c.args.size c.args.question (g.R.Read.remaining c.args.reader.now) (g.R.Read.remaining c.record_script.new.reader) (g.W.Write.contents c.args.writer.now)
+    (g.W.Write.contents c.finish.new.writer) c.in-Some.read c.in-Some.history.entries c.in-Some.ensures c.in-Ok.ended c.in-Ok.is c.in_default-refused.is c.in-Some-look.answer c.in-Some-look.ensures
     c.put_answer-found.result c.put_answer-found.ensures.found (all_out _ _ _ _ _ _ c.new-out.ensures c.put_answer-found.ensures.told c.in-Ok-finish.ensures.ok)
 
 pub returns : goal.returns
 returns g c =
-    some_told c.args.frames c.args.size c.args.asked (g.R.Read.remaining c.args.reader.now) (g.R.Read.remaining c.record.new.reader) (g.W.Write.contents c.args.writer.now)
-    (g.W.Write.contents c.finish.new.writer) c.in-Some.read c.in-Some.history.entries c.in-Some.ensures c.in-Ok.field-0 c.in-Ok.is c.in-Some-look.answer c.in-Some-look.ensures
+    some_told c.args.frames c.args.size c.args.question (g.R.Read.remaining c.args.reader.now) (g.R.Read.remaining c.record_script.new.reader) (g.W.Write.contents c.args.writer.now)
+    (g.W.Write.contents c.finish.new.writer) c.in-Some.read c.in-Some.history.entries c.in-Some.ensures c.in-Ok.ended c.in-Ok.is c.in_default-refused.is c.in-Some-look.answer c.in-Some-look.ensures
     (some_out _ _ _ _ _ _ c.new-out.ensures c.put_answer-found.ensures.told c.in-Err-finish.ensures.err.1)

@@ -1,0 +1,111 @@
+//! A sink that writes nothing.
+ghost use Rattle.std.specs.Prelude.{◌≡◌, None, Some, is_some, if◌then◌else◌};
+ghost use Rattle.l4_sinks.specs.Inside.Silents.{HasHeard, is_stopped};
+ghost use Rattle.l4_sinks.specs.Words.{line_refusal_says, unread_says};
+
+use crate::reasons::{refusal_reason, unread_reason};
+use l4_answers::{Code, Sink};
+use l4_ipc::Outcome;
+use l4_mapdb::Mapping;
+use l4_reasons::Reason;
+use l4_text::{LineReader, RunFault};
+use l4_threads::Reply;
+
+/// Ignores all answers, for a script of which the history alone is needed. A strict one takes no answer after the first refused line, and
+/// keeps why that line is refused.
+#[derive(Drop)]
+pub(crate) struct Silent {
+    strict: bool,
+    refused: Option<Reason>,
+}
+
+impl Silent {
+    /// Returns a sink to which nothing was reported.
+    pub(crate) fn new(strict: bool) -> Silent
+        ensures strict { result.strict ≡ strict }
+        ensures refused { result.refused ≡ None }
+    {
+        Silent {
+            strict,
+            refused: None,
+        }
+    }
+
+    /// Returns why the line was refused that ended a strict run.
+    pub(crate) fn into_refused(self) -> Option<Reason>
+        ensures { result ≡ self.refused }
+    {
+        let Silent { strict: _, refused } = self;
+        refused
+    }
+
+    /// Keeps why a line cannot be read. It is a function of its own, so that its reason is built only in a strict run.
+    #[cold]
+    #[inline(never)]
+    fn keep_unread(&mut self, line: u64, code: &Code, bytes: &[u8])
+        ensures strict { self.new.strict ≡ self.old.strict }
+        ensures refused { self.new.refused ≡ Some (unread_says line code.now bytes.now) }
+    {
+        self.refused = Some(unread_reason(line, code, bytes));
+    }
+
+    /// Keeps why a line is refused.
+    #[cold]
+    #[inline(never)]
+    fn keep_refused(&mut self, line: u64, code: &Code)
+        ensures strict { self.new.strict ≡ self.old.strict }
+        ensures refused { self.new.refused ≡ Some (line_refusal_says line code.now) }
+    {
+        self.refused = Some(refusal_reason(line, code));
+    }
+}
+
+impl Sink for Silent {
+    ghost has_told = { HasHeard };
+
+    ghost is_out = { HasHeard };
+
+    ghost closed = { is_stopped };
+
+    fn refused_line(&mut self, line: u64, code: &Code) {
+        if self.strict {
+            self.keep_refused(line, code);
+        }
+    }
+
+    fn unread_line(&mut self, line: u64, code: &Code, bytes: &[u8]) {
+        if self.strict {
+            self.keep_unread(line, code, bytes);
+        }
+    }
+
+    fn refused_act(&mut self, thread: u32, code: &Code) {}
+
+    fn transfer(&mut self, sender: u32, receiver: u32, outcome: Outcome) {}
+
+    fn expire(&mut self, number: u32) {}
+
+    fn waits(&mut self, number: u32) {}
+
+    fn ended(&mut self, number: u32, reply: Option<&Reply>) {}
+
+    fn page(&mut self, page: u32, mapping: &Mapping) {}
+
+    fn shown(&mut self, count: u32) {}
+
+    fn parent(&mut self, mapping: Option<Mapping>) {}
+
+    fn region_added(&mut self) {}
+
+    fn steps(&mut self, count: u64) {}
+
+    fn before_line(&mut self, lines: &LineReader) {}
+
+    fn is_closed(&self) -> bool {
+        self.refused.is_some()
+    }
+
+    fn finish(&mut self) -> Result<(), RunFault> {
+        Ok(())
+    }
+}
