@@ -4,7 +4,7 @@ use Rattle.l4_fpage.specs.declared.sizes.PageSize.{PageSize}
 use Rattle.l4_record.specs.declared.entries.Entry.{Entry}
 use Rattle.l4_text.specs.declared.faults.RunFault.{RunFault}
 use Rattle.l4_text.specs.declared.faults.RunFault.TheVariants.{Read, Write, Memory}
-use Rattle.l4_answers.specs.Reports.{Report, is_refusal, has_refusal}
+use Rattle.l4_answers.specs.Reports.{Report, refused_line, has_refusal}
 use Rattle.l4_shell.specs.Histories.{Records}
 use Rattle.l4_shell.specs.Scripts.{WasOpen, AnswersFirst as RunsFirst}
 use Rattle.l4_shell.proofs.OneAnswer.{none_more}
@@ -18,13 +18,13 @@ use Rattle.l4_sinks.proofs.Reporting.{refusal_more, keeps_none}
 use Rattle.l4_sinks.proofs.Running.{one_of_both, some_said}
 
 -- an answer that is no line's refusal
-pub heard_other : (first now : Silent) (told : List Report) (report : Report) → is_refusal report ≡ false → HasHeard first now told → HasHeard first now (told ++ report ∷ [])
+pub heard_other : (first now : Silent) (told : List Report) (report : Report) → is_some (refused_line report) ≡ false → HasHeard first now told → HasHeard first now (told ++ report ∷ [])
 heard_other first now told report none h =
     let had : last_refusal None (told ++ report ∷ []) ≡ last_refusal None told = refusal_more None told report ∙ ap (λ b. cond b (Some (says report)) (last_refusal None told)) none in
     record { strict = h.strict; refused = h.refused ∙ ap (λ (o : Option (List ℕ)). cond first.strict o None) (sym had) }
 
 -- a line's refusal
-pub heard_refusal : (first old new : Silent) (told : List Report) (report : Report) → is_refusal report ≡ true → new.strict ≡ old.strict → new.refused ≡ cond old.strict (Some (says report)) old.refused
+pub heard_refusal : (first old new : Silent) (told : List Report) (report : Report) → is_some (refused_line report) ≡ true → new.strict ≡ old.strict → new.refused ≡ cond old.strict (Some (says report)) old.refused
     → HasHeard first old told → HasHeard first new (told ++ report ∷ [])
 heard_refusal first old new told report one strict refused h =
     let had : last_refusal None (told ++ report ∷ []) ≡ Some (says report) = refusal_more None told report ∙ ap (λ b. cond b (Some (says report)) (last_refusal None told)) one in
@@ -39,13 +39,13 @@ heard_refusal first old new told report one strict refused h =
     }
 
 -- in a strict run
-pub heard_kept : (first old new : Silent) (told : List Report) (report : Report) → is_refusal report ≡ true → old.strict ≡ true → new.strict ≡ old.strict → new.refused ≡ Some (says report)
+pub heard_kept : (first old new : Silent) (told : List Report) (report : Report) → is_some (refused_line report) ≡ true → old.strict ≡ true → new.strict ≡ old.strict → new.refused ≡ Some (says report)
     → HasHeard first old told → HasHeard first new (told ++ report ∷ [])
 heard_kept first old new told report one is strict refused h =
     heard_refusal first old new told report one strict (refused ∙ sym (ap (λ b. cond b (Some (says report)) old.refused) is)) h
 
 -- in any other
-pub heard_plainly : (first old : Silent) (told : List Report) (report : Report) → is_refusal report ≡ true → old.strict ≡ false
+pub heard_plainly : (first old : Silent) (told : List Report) (report : Report) → is_some (refused_line report) ≡ true → old.strict ≡ false
     → HasHeard first old told → HasHeard first old (told ++ report ∷ [])
 heard_plainly first old told report one is h =
     heard_refusal first old old told report one refl (sym (ap (λ b. cond b (Some (says report)) old.refused) is)) h
