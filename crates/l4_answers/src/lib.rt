@@ -6,7 +6,7 @@ mod refusals;
 mod replies;
 mod sink;
 
-pub use pages::{add_page, add_place, put_page, put_parent, put_shown};
+pub use pages::{add_page, add_place, add_rights, put_page, put_parent, put_shown};
 pub use refusals::{
     Code, add_code, put_refused_act, put_refused_line, put_region, put_steps, refused_code,
 };

@@ -10,7 +10,7 @@ use l4_text::{Output, Text};
 use std::io::Write;
 
 /// Returns the letters of the rights, with a hyphen for each missing right.
-pub fn letters(rights: Rights) -> [u8; 3]
+fn letters(rights: Rights) -> [u8; 3]
     ensures { result ≡ rights_text rights }
 {
     let bits = rights.bits();
@@ -19,6 +19,15 @@ pub fn letters(rights: Rights) -> [u8; 3]
         if bits & 2 != 0 { b'w' } else { b'-' },
         if bits & 1 != 0 { b'x' } else { b'-' },
     ]
+}
+
+/// Adds the letters of rights, such as `r-x`.
+pub fn add_rights(text: &mut Text, rights: Rights)
+    requires { length text.old + 3 ≤ text_bytes }
+    ensures value { text.new ≡ text.old ++ rights_text rights }
+    ensures len { length text.new ≡ length text.old + 3 }
+{
+    text.add(letters(rights).as_slice());
 }
 
 /// Adds `page P frame F RIGHTS`.

@@ -6,7 +6,8 @@ ghost use Rattle.l4_decode.specs.Fpages.{pages_text, bytes_text, extent_text, pl
 ghost use Rattle.l4_text.specs.Sizes.{text_bytes};
 
 use crate::refusals::add_refusal;
-use crate::spelling::{add_count, add_hex, add_rights, begin_line};
+use crate::spelling::{add_count, add_hex, begin_line};
+use l4_answers::add_rights;
 use l4_fpage::{Fpage, PageSize};
 use l4_msg::Acceptor;
 use l4_text::Text;

@@ -5,7 +5,8 @@ ghost use Rattle.l4_text.specs.Sizes.{text_bytes};
 
 use crate::fpages::add_place;
 use crate::refusals::add_refusal;
-use crate::spelling::{add_count, add_hex, add_length, add_rights};
+use crate::spelling::{add_count, add_hex, add_length};
+use l4_answers::add_rights;
 use l4_fpage::PageSize;
 use l4_msg::{FrameRequest, Message, MsgFault, PageFault};
 use l4_text::Text;

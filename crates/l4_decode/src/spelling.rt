@@ -1,10 +1,8 @@
 //! Spells words, labels and lines.
 ghost use Rattle.std.specs.Prelude.{◌≡◌, ◌≤◌, ◌<◌, ◌^◌, ◌+◌, ◌++◌, [], ◌∷◌, length, codes, decimal};
-ghost use Rattle.l4_answers.specs.Pages.{rights_text};
 ghost use Rattle.l4_decode.specs.Spelling.{hex_text, label_text};
 ghost use Rattle.l4_text.specs.Sizes.{text_bytes};
 
-use l4_fpage::Rights;
 use l4_text::Text;
 
 /// Adds a word: 0x and eight digits.
@@ -47,27 +45,6 @@ pub(crate) fn add_count(text: &mut Text, number: u32)
     ensures len { length text.new ≤ length text.old + 20 }
 {
     text.add_number(u64::from(number));
-}
-
-/// Returns the letters of the rights, with a hyphen for each missing right.
-fn letters(rights: Rights) -> [u8; 3]
-    ensures { result ≡ rights_text rights }
-{
-    let bits = rights.bits();
-    [
-        if bits & 4 != 0 { b'r' } else { b'-' },
-        if bits & 2 != 0 { b'w' } else { b'-' },
-        if bits & 1 != 0 { b'x' } else { b'-' },
-    ]
-}
-
-/// Adds the letters of rights.
-pub(crate) fn add_rights(text: &mut Text, rights: Rights)
-    requires { length text.old + 3 ≤ text_bytes }
-    ensures value { text.new ≡ text.old ++ rights_text rights }
-    ensures len { length text.new ≡ length text.old + 3 }
-{
-    text.add(letters(rights).as_slice());
 }
 
 /// Begins the line of a word: what it is taken as, with the space after it, and the word.

@@ -4,7 +4,8 @@ ghost use Rattle.l4_msg.specs.Tags.{TagReads};
 ghost use Rattle.l4_decode.specs.Tags.{access_text, protocol_text, tag_text, tag_line};
 ghost use Rattle.l4_text.specs.Sizes.{text_bytes};
 
-use crate::spelling::{add_label, add_rights, begin_line};
+use crate::spelling::{add_label, begin_line};
+use l4_answers::add_rights;
 use l4_fpage::Rights;
 use l4_msg::{FAULT_LABEL, REQUEST_LABEL, Tag};
 use l4_text::Text;

@@ -1,12 +1,11 @@
 //! What answers mean, each in a sentence.
 ghost use Rattle.std.specs.Prelude.{◌≡◌, ◌≤◌, length, bytes_eq};
-ghost use Rattle.l4_refusals.specs.Texts.{spelled};
 ghost use Rattle.l4_sinks.specs.Words.{transfer_says, origin_says, parent_says, failed_says, ipc_says, gone_says, reply_says, code_says, number_name, kind_says, expected_says, expired_says, waits_says, page_says, shown_says, region_says, steps_says};
 
 use crate::stops::Expected;
 use l4_ipc::Outcome;
 use l4_mapdb::{Mapping, Place};
-use l4_refusals::text_of;
+use l4_refusals::{number_of, text_of};
 use l4_shell::TokenKind;
 use l4_threads::Reply;
 
@@ -214,17 +213,6 @@ pub(crate) fn expected_says(expected: Expected) -> &'static [u8]
     }
 }
 
-/// The number of a code.
-fn spelled(code: &[u8]) -> u32
-    ensures { result ≡ spelled code.now }
-{
-    match code {
-        [first, second, ..] => u32::from(*first) * 256 + u32::from(*second),
-        [first] => u32::from(*first) * 256,
-        [] => 0,
-    }
-}
-
 /// Whether a word is this one.
 pub(crate) fn is(word: &[u8], name: &[u8]) -> bool
     ensures { result ≡ bytes_eq word.now name.now }
@@ -250,7 +238,7 @@ pub(crate) fn code_says(code: &[u8]) -> &'static [u8]
     if is(code, b"S4") {
         return b"the line does not end with a newline";
     }
-    text_of(spelled(code)).line
+    text_of(number_of(code)).line
 }
 
 /// What the number that a code carries is.

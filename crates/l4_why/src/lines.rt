@@ -1,39 +1,16 @@
 //! The lines of a chain of moves.
 ghost use Rattle.std.specs.Prelude.{◌≡◌, ◌≤◌, ◌+◌, ◌++◌, length, slice_get};
-ghost use Rattle.l4_answers.specs.Pages.{rights_text};
 ghost use Rattle.l4_record.specs.Chains.{origin_of};
 ghost use Rattle.l4_text.specs.Streams.{Tells};
 ghost use Rattle.l4_text.specs.Sizes.{text_bytes};
 ghost use Rattle.l4_why.specs.Chains.{sigma0_line, step_parties, entry_parties, kind_text, moved_text, link_line, link_lines, chain_text};
 
-use l4_answers::put_page;
-use l4_fpage::Rights;
+use l4_answers::{add_rights, put_page};
 use l4_ipc::{Mapping, Place, Step};
 use l4_provenance::ChainLink;
 use l4_record::{Entry, History};
 use l4_text::{Output, Text};
 use std::io::Write;
-
-/// Returns the letters of the rights, with a hyphen for each missing right.
-fn letters(rights: Rights) -> [u8; 3]
-    ensures { result ≡ rights_text rights }
-{
-    let bits = rights.bits();
-    [
-        if bits & 4 != 0 { b'r' } else { b'-' },
-        if bits & 2 != 0 { b'w' } else { b'-' },
-        if bits & 1 != 0 { b'x' } else { b'-' },
-    ]
-}
-
-/// Adds the letters of rights.
-fn add_rights(text: &mut Text, rights: Rights)
-    requires { length text.old + 3 ≤ text_bytes }
-    ensures value { text.new ≡ text.old ++ rights_text rights }
-    ensures len { length text.new ≡ length text.old + 3 }
-{
-    text.add(letters(rights).as_slice());
-}
 
 /// Returns the page of sigma0 at which the chain begins.
 fn first_page(links: &[ChainLink], place: Place) -> u32
