@@ -8,9 +8,9 @@ use Rattle.l4_step_lines.specs.declared.judging.JudgeFault.{JudgeFault}
 use Rattle.l4_step_lines.specs.declared.judging.JudgeFault.TheVariants.{List as OfList}
 use Rattle.l4_step_lines.specs.declared.running.Fault.TheVariants.{Stopped}
 use Rattle.l4_text.specs.declared.faults.RunFault.{RunFault}
-use Rattle.l4_why.specs.declared.asking.WhyResult.{WhyResult}
-use Rattle.l4_why.specs.declared.asking.WhyResult.TheVariants.{Told}
-use Rattle.l4_why.specs.declared.asking.Presence.TheVariants.{Present}
+use Rattle.l4_history.specs.declared.asking.WhyResult.{WhyResult}
+use Rattle.l4_history.specs.declared.asking.WhyResult.TheVariants.{Told}
+use Rattle.l4_history.specs.declared.asking.Presence.TheVariants.{Present}
 
 -- run and history: 1 where a refused line ended a strict script
 abbrev pub script_status : Result Ended RunFault → ℕ

@@ -26,7 +26,7 @@ use l4_sinks::{Ended, Style, answer_script};
 use l4_step_lines::{Fault, JudgeFault, judge};
 use l4_symbols::write_words;
 use l4_text::{RunFault, ScriptReader};
-use l4_why::{Presence, Question, ThreadPage, WhyResult, why};
+use l4_history::{Presence, Question, ThreadPage, WhyResult, why};
 use reports::{report_no_plan, report_no_thread, report_refused, report_unproved};
 use std::io::{Read, Write};
 use std::process::ExitCode;

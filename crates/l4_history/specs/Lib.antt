@@ -1,2 +1,4 @@
+pub mod Chains
 pub mod Histories
 pub mod Inside
+pub mod Telling

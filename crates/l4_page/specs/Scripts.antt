@@ -4,10 +4,10 @@ use Rattle.l4_fpage.specs.declared.sizes.PageSize.{PageSize}
 use Rattle.l4_sinks.specs.Scripts.{RunsScript}
 use Rattle.l4_sinks.specs.declared.scripts.Ended.{Ended}
 use Rattle.l4_history.specs.Histories.{HasText}
-use Rattle.l4_why.specs.Telling.{HasWhy}
-use Rattle.l4_why.specs.declared.asking.ThreadPage.{ThreadPage}
-use Rattle.l4_why.specs.declared.asking.Presence.{Presence}
-use Rattle.l4_why.specs.declared.asking.Presence.TheVariants.{Present, Absent, NoThread}
+use Rattle.l4_history.specs.Telling.{HasWhy}
+use Rattle.l4_history.specs.declared.asking.ThreadPage.{ThreadPage}
+use Rattle.l4_history.specs.declared.asking.Presence.{Presence}
+use Rattle.l4_history.specs.declared.asking.Presence.TheVariants.{Present, Absent, NoThread}
 use Rattle.l4_page.specs.declared.telling.Told.{Told as Answer}
 use Rattle.l4_page.specs.Told.{IsTold, TellsNothing}
 

@@ -7,7 +7,7 @@ ghost use Rattle.l4_page.specs.Scripts.{is_there, TellsWhyOf};
 use crate::given::{PageGiven, machine_of};
 use crate::telling::{NO_MEMORY, Told, refused, tell};
 use l4_fpage::PageSize;
-use l4_why::{Presence, Question, ThreadPage, WhyResult, why};
+use l4_history::{Presence, Question, ThreadPage, WhyResult, why};
 use std::alloc::Global;
 
 /// Returns whether a page is present.

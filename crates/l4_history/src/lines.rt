@@ -3,7 +3,7 @@ ghost use Rattle.std.specs.Prelude.{◌≡◌, ◌≤◌, ◌+◌, ◌++◌, len
 ghost use Rattle.l4_record.specs.Chains.{origin_of};
 ghost use Rattle.l4_text.specs.Streams.{Tells};
 ghost use Rattle.l4_text.specs.Sizes.{text_bytes};
-ghost use Rattle.l4_why.specs.Chains.{sigma0_line, step_parties, entry_parties, kind_text, moved_text, link_line, link_lines, chain_text};
+ghost use Rattle.l4_history.specs.Chains.{sigma0_line, step_parties, entry_parties, kind_text, moved_text, link_line, link_lines, chain_text};
 
 use l4_answers::{add_rights, put_page};
 use l4_ipc::{Mapping, Place, Step};

@@ -22,14 +22,14 @@ use Rattle.l4_sinks.specs.declared.scripts.Ended.{Ended}
 use Rattle.l4_text.specs.Streams.{WentOut}
 use Rattle.l4_text.specs.declared.faults.RunFault.{RunFault}
 use Rattle.l4_text.specs.declared.faults.RunFault.TheVariants.{Read, Write, Memory}
-use Rattle.l4_why.specs.Telling.{IsWhy, HasWhy, TellsWhy, IsThreadText, IsPlaceText}
-use Rattle.l4_why.specs.Inside.Finding.{presence, answer_text, Holds, IsAnswer, IsOfThread}
-use Rattle.l4_why.specs.declared.asking.ThreadPage.{ThreadPage}
-use Rattle.l4_why.specs.declared.asking.Question.{Question}
-use Rattle.l4_why.specs.declared.asking.WhyResult.TheVariants.{Told, Refused}
-use Rattle.l4_why.specs.declared.asking.Presence.{Presence}
-use Rattle.l4_why.specs.declared.asking.Answer.{Answer}
-use Rattle.l4_why.specs.declared.asking.Answer.TheVariants.{Unknown, Absent, Chain}
+use Rattle.l4_history.specs.Telling.{IsWhy, HasWhy, TellsWhy, IsThreadText, IsPlaceText}
+use Rattle.l4_history.specs.Inside.Finding.{presence, answer_text, Holds, IsAnswer, IsOfThread}
+use Rattle.l4_history.specs.declared.asking.ThreadPage.{ThreadPage}
+use Rattle.l4_history.specs.declared.asking.Question.{Question}
+use Rattle.l4_history.specs.declared.asking.WhyResult.TheVariants.{Told, Refused}
+use Rattle.l4_history.specs.declared.asking.Presence.{Presence}
+use Rattle.l4_history.specs.declared.asking.Answer.{Answer}
+use Rattle.l4_history.specs.declared.asking.Answer.TheVariants.{Unknown, Absent, Chain}
 
 -- WHAT IS FOUND
 

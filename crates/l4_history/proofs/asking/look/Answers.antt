@@ -1,7 +1,7 @@
 use Rattle.std.proofs.Common.{sym, ◌∙◌}
 use Rattle.l4_record.proofs.Choice.{none_is, some_is}
-use Rattle.l4_why.proofs.Found.{is_unknown, is_absent, is_found_absent, is_chain}
-use Rattle.l4_why.proofs.asking.look.Goals as goal
+use Rattle.l4_history.proofs.Found.{is_unknown, is_absent, is_found_absent, is_chain}
+use Rattle.l4_history.proofs.asking.look.Goals as goal
 
 pub returns-in_default-thread : goal.returns-in_default-thread
 returns-in_default-thread c =

@@ -19,13 +19,13 @@ use Rattle.l4_text.specs.Streams.{WentOut}
 use Rattle.l4_text.specs.declared.faults.RunFault.{RunFault}
 use Rattle.l4_text.specs.declared.faults.RunFault.TheVariants.{Read, Write, Memory}
 use Rattle.l4_answers.specs.Replies.{newline}
-use Rattle.l4_why.specs.Chains.{chain_text}
-use Rattle.l4_why.specs.declared.asking.ThreadPage.{ThreadPage}
-use Rattle.l4_why.specs.declared.asking.Question.{Question}
-use Rattle.l4_why.specs.declared.asking.WhyResult.{WhyResult}
-use Rattle.l4_why.specs.declared.asking.WhyResult.TheVariants.{Told, Refused}
-use Rattle.l4_why.specs.declared.asking.Presence.{Presence}
-use Rattle.l4_why.specs.declared.asking.Presence.TheVariants.{Present, Absent, NoThread}
+use Rattle.l4_history.specs.Chains.{chain_text}
+use Rattle.l4_history.specs.declared.asking.ThreadPage.{ThreadPage}
+use Rattle.l4_history.specs.declared.asking.Question.{Question}
+use Rattle.l4_history.specs.declared.asking.WhyResult.{WhyResult}
+use Rattle.l4_history.specs.declared.asking.WhyResult.TheVariants.{Told, Refused}
+use Rattle.l4_history.specs.declared.asking.Presence.{Presence}
+use Rattle.l4_history.specs.declared.asking.Presence.TheVariants.{Present, Absent, NoThread}
 
 -- the text for a thread that does not exist
 abbrev pub unknown_text : List ℕ

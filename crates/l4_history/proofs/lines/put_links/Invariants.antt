@@ -1,7 +1,7 @@
 use Rattle.std.proofs.Common.{take}
 use Rattle.l4_text.specs.Streams.{Tells}
-use Rattle.l4_why.specs.Chains.{link_lines}
-use Rattle.l4_why.proofs.lines.put_links.Given as goal
+use Rattle.l4_history.specs.Chains.{link_lines}
+use Rattle.l4_history.proofs.lines.put_links.Given as goal
 
 abbrev pub invariant-loop-link : goal.invariant-loop-link
 invariant-loop-link g l =

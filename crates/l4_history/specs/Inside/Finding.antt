@@ -10,13 +10,13 @@ use Rattle.l4_ipc.specs.Runs.{Run}
 use Rattle.l4_record.specs.declared.entries.Entry.{Entry}
 use Rattle.l4_record.specs.History.{steps_of, answers_of}
 use Rattle.l4_record.specs.Chains.{IsProvenance, IsAbsent}
-use Rattle.l4_why.specs.Chains.{chain_text}
-use Rattle.l4_why.specs.Telling.{unknown_text, absent_text}
-use Rattle.l4_why.specs.declared.asking.ThreadPage.{ThreadPage}
-use Rattle.l4_why.specs.declared.asking.Presence.{Presence}
-use Rattle.l4_why.specs.declared.asking.Presence.TheVariants as is
-use Rattle.l4_why.specs.declared.asking.Answer.{Answer}
-use Rattle.l4_why.specs.declared.asking.Answer.TheVariants.{Unknown, Absent, Chain}
+use Rattle.l4_history.specs.Chains.{chain_text}
+use Rattle.l4_history.specs.Telling.{unknown_text, absent_text}
+use Rattle.l4_history.specs.declared.asking.ThreadPage.{ThreadPage}
+use Rattle.l4_history.specs.declared.asking.Presence.{Presence}
+use Rattle.l4_history.specs.declared.asking.Presence.TheVariants as is
+use Rattle.l4_history.specs.declared.asking.Answer.{Answer}
+use Rattle.l4_history.specs.declared.asking.Answer.TheVariants.{Unknown, Absent, Chain}
 
 abbrev pub presence : Answer → Presence
 presence Unknown = is.NoThread

@@ -1,7 +1,7 @@
 use Rattle.std.proofs.Common.{refl}
 use Rattle.l4_text.proofs.Telling.{all_out, some_out}
-use Rattle.l4_why.proofs.Found.{all_told, some_told, refused_told, none_told}
-use Rattle.l4_why.proofs.asking.why.Goals as goal
+use Rattle.l4_history.proofs.Found.{all_told, some_told, refused_told, none_told}
+use Rattle.l4_history.proofs.asking.why.Goals as goal
 
 pub returns-in-Err : goal.returns-in-Err
 returns-in-Err g c =

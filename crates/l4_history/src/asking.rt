@@ -2,8 +2,8 @@
 ghost use Rattle.std.specs.Prelude.{◌≡◌, ◌≤◌, IfSome};
 ghost use Rattle.l4_fpage.specs.Pages.{max_frames};
 ghost use Rattle.l4_text.specs.Streams.{Tells};
-ghost use Rattle.l4_why.specs.Inside.Finding.{IsAnswer, presence, answer_text};
-ghost use Rattle.l4_why.specs.Telling.{unknown_text, absent_text, TellsWhy};
+ghost use Rattle.l4_history.specs.Inside.Finding.{IsAnswer, presence, answer_text};
+ghost use Rattle.l4_history.specs.Telling.{unknown_text, absent_text, TellsWhy};
 
 use crate::lines::put_chain;
 use l4_ipc::{Kernel, Mapping, PageSize, Place};
