@@ -226,10 +226,10 @@ answered_read has_told closed m last old mid new now after kept number before s 
     }
 
 -- where nothing is kept of a line there is nothing of it
-nothing_kept : (bytes : List ℕ) → take 4096 bytes ≡ [] → bytes ≡ []
+pub nothing_kept : (bytes : List ℕ) → take 4096 bytes ≡ [] → bytes ≡ []
 nothing_kept bytes h = empty_list bytes (omega (arith, ap length h, length-take 4096 bytes))
 
-something_kept : (bytes : List ℕ) → 0 < length (take 4096 bytes) → 0 < length bytes
+pub something_kept : (bytes : List ℕ) → 0 < length (take 4096 bytes) → 0 < length bytes
 something_kept bytes h = omega (arith, h, length-take 4096 bytes)
 
 -- at the end no line is left

@@ -9,3 +9,4 @@ pub mod Scripts
 pub mod Sessions
 pub mod Sizes
 pub mod Inside
+pub mod ByLines

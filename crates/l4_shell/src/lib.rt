@@ -2,6 +2,7 @@
 #![tactic(auto)]
 
 mod answering;
+mod by_lines;
 mod commands;
 mod delegations;
 mod kinds;
@@ -15,6 +16,7 @@ mod running;
 mod serving;
 mod session;
 
+pub use by_lines::ScriptRun;
 pub use kinds::{TokenKind, is_of_kind};
 pub use l4_text::RunFault;
 pub use laws::the_size_of_pages_stays;
