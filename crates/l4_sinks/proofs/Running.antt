@@ -29,7 +29,7 @@ pub one_of_both : {A : Type 0} (b : Bool) (x : A) → cond b x x ≡ x
 one_of_both true x = refl
 one_of_both false x = refl
 
-nothing_reported : {W : Type 0} (contents : W → Option (List ℕ)) (t : Teller W) (writer : W) (strict : Bool) (explains : Option PageSize) → IsNew t writer strict explains → HasReported contents t t []
+pub nothing_reported : {W : Type 0} (contents : W → Option (List ℕ)) (t : Teller W) (writer : W) (strict : Bool) (explains : Option PageSize) → IsNew t writer strict explains → HasReported contents t t []
 nothing_reported contents t writer strict explains is = (
   record { explains = refl; strict = refl; refused = is.refused_is ∙ sym (one_of_both t.strict None) },
   ([], refl, subst (λ (o : List ℕ × Bool). HasTold (contents t.writer) (contents t.writer) o.0 o.1 []) (sym is.out_is) ([], refl, appends_same (contents t.writer))),

@@ -1,0 +1,5 @@
+mod Agreeing
+mod Answering
+mod FirstLine
+mod Taking
+mod TestedLines

@@ -1,0 +1,74 @@
+-- The answers that a script expects of its lines, in comments below them (this profile's own).
+use Rattle.std.specs.Prelude.{ℕ, ◌≡◌, ◌+◌, ◌==◌, ◌&&◌, ◌⊎◌, Bool, false, not, List, [], ◌∷◌, ◌++◌, length, drop, codes, bytes_eq, Option, Some, None, is_some, if◌then◌else◌}
+use Rattle.std.specs.List.{flat_map}
+use Rattle.l4_answers.specs.Reports.{Report}
+use Rattle.l4_text.specs.Grammar.{TextLine, is_silent}
+use Rattle.l4_shell.specs.Requests.{asked_of}
+use Rattle.l4_shell.specs.Sessions.{Session, AnswersLine}
+use Rattle.l4_sinks.specs.Texts.{AreAnswerTexts}
+
+-- EXPECTATIONS
+
+-- the line begins with `#=`
+abbrev pub is_marked : List ℕ → Bool
+is_marked (first ∷ second ∷ bytes) = first == 35 && second == 61
+is_marked bytes = false
+
+-- an answer behind a space
+abbrev pub answer_in : List ℕ → Option (List ℕ)
+answer_in [] = None
+answer_in (space ∷ answer) = if space == 32 && not (length answer == 0) then Some answer else None
+
+-- the answer behind `#= `
+abbrev pub expected_in : List ℕ → Option (List ℕ)
+expected_in bytes = if is_marked bytes then answer_in (drop 2 bytes) else None
+
+-- stands for any further answers
+abbrev pub rest : List ℕ
+rest = codes ".."
+
+abbrev pub is_rest : List ℕ → Bool
+is_rest answer = bytes_eq answer rest
+
+abbrev pub one : Option (List ℕ) → List (List ℕ)
+one None = []
+one (Some answer) = answer ∷ []
+
+-- all answers that lines expect
+abbrev pub expected_by : List TextLine → List (List ℕ)
+expected_by lines = flat_map (λ line. one (expected_in line.bytes)) lines
+
+-- THE ANSWERS EXPECTED OF A LINE: those in the lines below it, up to the next line that is neither empty nor a comment
+abbrev pub expected_below : List TextLine → List (List ℕ)
+expected_below [] = []
+expected_below (line ∷ lines) = if is_silent line.bytes then (one (expected_in line.bytes) ++ expected_below lines) else []
+
+-- AGREEMENT
+
+-- answers, each in a line
+abbrev pub lines_text : List (List ℕ) → List ℕ
+lines_text answers = flat_map (λ answer. answer ++ 10 ∷ []) answers
+
+-- `..` is expected last, and the text begins with the answers expected before it
+abbrev pub Begins : List (List ℕ) → List ℕ → Type 0
+Begins expected text = (first : List (List ℕ)) × (more : List ℕ) × (expected ≡ first ++ rest ∷ []) × (text ≡ lines_text first ++ more)
+
+-- nothing is expected, or exactly the answers in this text, or the first of them
+abbrev pub Agrees : List (List ℕ) → List ℕ → Type 0
+Agrees expected text = (expected ≡ []) ⊎ ((text ≡ lines_text expected) ⊎ Begins expected text)
+
+-- The line with this number was answered, and its answers, as `l4 run` writes them, agree with those expected below it. A line that begins
+-- with `#=` has an answer behind that.
+pub record IsAsExpected (old : Session) (number : ℕ) (line : TextLine) (below : List TextLine) (new : Session) : Type 0 where
+  pub told : List Report
+  pub text : List ℕ
+  pub answers : AnswersLine old number (asked_of line) told new
+  pub is_text : AreAnswerTexts None told text
+  pub agrees : is_silent line.bytes ≡ false → Agrees (expected_below below) text
+  pub readable : is_marked line.bytes ≡ is_some (expected_in line.bytes)
+
+-- lines, of which the first has this number, were answered as expected, one after another
+abbrev pub AreAsExpected : Session → ℕ → List TextLine → Session → Type 0
+AreAsExpected old number [] new = new ≡ old
+AreAsExpected old number (line ∷ lines) new =
+    (between : Session) × IsAsExpected old number line lines between × AreAsExpected between (number + 1) lines new

@@ -1,0 +1,10 @@
+//! Scripts that state the answers that they expect: what `l4 test` does.
+#![tactic(auto)]
+
+mod due;
+mod marks;
+mod outcomes;
+mod testing;
+
+pub use outcomes::{Difference, Failure, Fault, Passed};
+pub use testing::test_script;
