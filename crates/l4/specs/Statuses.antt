@@ -1,5 +1,8 @@
 -- The exit statuses of the commands of l4, by how their work ended (this profile's own).
 use Rattle.std.specs.Prelude.{ℕ, Bool, Result, Ok, Err, is_some, if◌then◌else◌}
+use Rattle.l4_expectations.specs.declared.outcomes.Failure.{Failure}
+use Rattle.l4_expectations.specs.declared.outcomes.Failure.TheVariants.{Differs, Malformed, Stopped as StoppedTest}
+use Rattle.l4_expectations.specs.declared.outcomes.Passed.{Passed}
 use Rattle.l4_options.specs.Statuses.{run_status}
 use Rattle.l4_plan_lines.specs.Answers.{is_proved}
 use Rattle.l4_plan_lines.specs.declared.answers.Answer.{Answer}
@@ -16,6 +19,13 @@ use Rattle.l4_history.specs.declared.asking.Presence.TheVariants.{Present}
 abbrev pub script_status : Result Ended RunFault → ℕ
 script_status (Ok ended) = if is_some ended.refused then 1 else 0
 script_status (Err fault) = run_status fault
+
+-- test: 1 where an answer is not the expected one, 2 where a line cannot be part of a test
+abbrev pub test_status : Result Passed Failure → ℕ
+test_status (Ok passed) = 0
+test_status (Err (Differs difference)) = 1
+test_status (Err (Malformed number fault)) = 2
+test_status (Err (StoppedTest fault)) = run_status fault
 
 -- judge: 1 where the answers differ, 2 where the list is invalid
 abbrev pub judged_status : Result Bool JudgeFault → ℕ

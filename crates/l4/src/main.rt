@@ -1,11 +1,13 @@
 //! The program `l4`: answers scripts of kernel calls (`l4 --help`).
 //!
-//! Exit statuses: 0 at the end of the script, for a plan, for a proved one and for a list that agrees; 1 if there is no plan, if it is not
-//! proved, if the page asked about is not present, if a refused line ended a strict script, or if another kernel's answers differ; 2 for a
-//! command line or a list that is not understood or a file that cannot be opened; 3 if a read or a write failed; 4 if there was no memory.
+//! Exit statuses: 0 at the end of the script, for a plan, for a proved one, for a list that agrees and for scripts that pass; 1 if there is
+//! no plan, if it is not proved, if the page asked about is not present, if a refused line ended a strict script, or if answers differ from
+//! those in a list or in a tested script; 2 for a command line, a list or a tested script that is not understood or a file that cannot be
+//! opened; 3 if a read or a write failed; 4 if there was no memory.
 #![tactic(auto)]
 
 mod reports;
+mod tested;
 
 ghost use Rattle.std.specs.Prelude.{◌≡◌, IfErr};
 ghost use Rattle.l4.specs.Statuses.{script_status, judged_status, why_status, plan_status, check_status, text_status};
@@ -32,6 +34,7 @@ use std::io::{Read, Write};
 use std::process::ExitCode;
 use std::rt::Files;
 use std::{fs, io};
+use tested::test_files;
 
 const NOT_FOUND: u8 = 1;
 
@@ -383,6 +386,7 @@ fn obey<R: AllocGlobal + Files + Input + Print + Eprint>(rt: &R, words: &[String
                 size,
             },
         ) => tell_words(rt, words.as_slice(), reading, size),
+        Ok(Options::Test { files, tap }) => test_files(rt, files.as_slice(), tap),
         Ok(Options::Encode(words)) => print_words(rt, words.as_slice()),
         Ok(Options::Show(text)) => show(rt, text.as_str()),
         Err(fault) => misread(rt, &fault),

@@ -80,3 +80,21 @@ one_word words i other text numbers after n less before is read pushed =
 pub all_words : (words : List (Bor Text)) (i : ℕ) (numbers : List ℕ) → length words ≤ i → AreRead words i numbers
     → map number_of (map (λ s. s.now) words) ≡ map Some numbers
 all_words words i numbers all read = ap (λ (ws : List (Bor Text)). map number_of (map (λ s. s.now) ws)) (sym (take_all i words all)) ∙ read
+
+-- ---- names
+
+-- these are copies of the first i words
+abbrev pub AreCopied : {S : Type 0} → (S → Text) → List (Bor Text) → ℕ → List S → Type 0
+AreCopied bytes words i copies = map bytes copies ≡ map (λ s. s.now) (take i words)
+
+pub one_copy : {S : Type 0} (bytes : S → Text) (words : List (Bor Text)) (i : ℕ) (other : Bor Text) (copies after : List S) (copy : S) → i < length words → AreCopied bytes words i copies
+    → bytes copy ≡ (get_or words i other).now → after ≡ copies ++ copy ∷ [] → AreCopied bytes words (i + 1) after
+one_copy bytes words i other copies after copy less before is pushed =
+    ap (map bytes) pushed
+    ∙ map-append bytes copies (copy ∷ [])
+    ∙ ap₂ (λ (a b : List Text). a ++ b) before (ap (λ (t : Text). t ∷ []) is)
+    ∙ sym (ap (λ (ws : List (Bor Text)). map (λ s. s.now) ws) (take_more words i other less)
+    ∙ map-append (λ s. s.now) (take i words) (get_or words i other ∷ []))
+
+pub all_copies : {S : Type 0} (bytes : S → Text) (words : List (Bor Text)) (i : ℕ) (copies : List S) → length words ≤ i → AreCopied bytes words i copies → map bytes copies ≡ map (λ s. s.now) words
+all_copies bytes words i copies all are = are ∙ ap (λ (ws : List (Bor Text)). map (λ s. s.now) ws) (take_all i words all)

@@ -1,5 +1,6 @@
 -- The commands of the programs, as clap reads them, and what the words of a command line ask for (this profile's own).
-use Rattle.std.specs.Prelude.{◌≡◌, ◌⊎◌, List, [], ◌∷◌, length, codes, Some, true, false}
+use Rattle.std.specs.Prelude.{◌≡◌, ◌⊎◌, List, [], ◌∷◌, length, map, codes, Some, true, false}
+use Rattle.std.specs.String.{string_bytes}
 use Rattle.clap.specs.Faults.{fault_of}
 use Rattle.clap.specs.Kinds.{IsAmong, Kinds}
 use Rattle.clap.specs.Lexer.{usize_max}
@@ -7,9 +8,9 @@ use Rattle.clap.specs.Simple.{App, Shape, new_rule, new_shape, matches_of, subco
 use Rattle.clap.specs.Walk.{Row, Rule, Text}
 use Rattle.clap.specs.declared.builder.action.ArgAction.TheVariants.{Set, Append, SetTrue}
 use Rattle.clap.specs.declared.error.kind.ErrorKind.TheVariants.{DisplayHelp, DisplayVersion}
-use Rattle.l4_options.specs.Spelled.{AreEncodedIn, AreFramesIn, AreNumbersIn, IsNumberAt, IsReadingIn, IsRegionIn, IsScriptIn, IsSizeIn, is_on}
+use Rattle.l4_options.specs.Spelled.{AreEncodedIn, AreFilesIn, AreFramesIn, AreNumbersIn, IsNumberAt, IsReadingIn, IsRegionIn, IsScriptIn, IsSizeIn, is_on}
 use Rattle.l4_options.specs.declared.requests.Options.{Options}
-use Rattle.l4_options.specs.declared.requests.Options.TheVariants.{Run, History, Judge, Why, Plan, Check, Decode, Encode, Show}
+use Rattle.l4_options.specs.declared.requests.Options.TheVariants.{Run, History, Judge, Why, Plan, Check, Decode, Encode, Test, Show}
 use Rattle.l4_options.specs.declared.requests.StepOptions.{StepOptions}
 use Rattle.l4_options.specs.declared.requests.StepOptions.TheVariants.{Run as RunSteps, Show as ShowText}
 
@@ -68,11 +69,14 @@ decode_command = command (codes "decode") (needed_words (codes "words") ∷ opti
 abbrev pub encode_command : Shape
 encode_command = command (codes "encode") (needed_words (codes "tokens") ∷ option (codes "as") ∷ option (codes "page-size") ∷ [])
 
+abbrev pub test_command : Shape
+test_command = command (codes "test") (needed_words (codes "files") ∷ switch (codes "tap") ∷ [])
+
 -- the commands of l4
 abbrev pub l4_commands : List Shape
 l4_commands =
     run_command ∷ history_command ∷ judge_command ∷ why_command ∷ region_command (codes "plan") ∷ region_command (codes "check")
-    ∷ decode_command ∷ encode_command ∷ []
+    ∷ decode_command ∷ encode_command ∷ test_command ∷ []
 
 -- the program l4, which takes one of its commands
 abbrev pub l4_program : App
@@ -102,6 +106,7 @@ Asks name found (Check region size) = (name ≡ codes "check") × IsRegionIn fou
 Asks name found (Decode words reading size) =
     (name ≡ codes "decode") × AreNumbersIn found words.items × IsReadingIn found (length words.items) reading × IsSizeIn found size
 Asks name found (Encode words) = (name ≡ codes "encode") × AreEncodedIn found words.items
+Asks name found (Test files tap) = (name ≡ codes "test") × AreFilesIn found (map string_bytes files.items) × (tap ≡ is_on found (codes "tap"))
 Asks name found (Show text) = ⊥
 
 -- the words ask for a text: the usage or the version

@@ -157,3 +157,7 @@ IsKindIn found kind = spelled_or None kind_of (first_of (codes "as") found) ≡ 
 abbrev pub AreEncodedIn : List Row → List ℕ → Type 0
 AreEncodedIn found words =
     (size : PageSize) × (kind : Option WordKind) × IsSizeIn found size × IsKindIn found kind × Encodes kind size (words_at found (codes "tokens")) words
+
+-- the names of the files to test
+abbrev pub AreFilesIn : List Row → List Text → Type 0
+AreFilesIn found files = files ≡ words_at found (codes "files")

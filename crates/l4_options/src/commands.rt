@@ -10,6 +10,7 @@ ghost use Rattle.l4_options.specs.Ranges.{IsInRange};
 use crate::encoding::{encode_options, of_tokens};
 use crate::help::{ABOUT, CHECK, DECODE, HISTORY, JUDGE, PLAN, SCRIPT, WHY};
 use crate::requests::{OptionFault, Options};
+use crate::testing::{of_files, test_options};
 use crate::values::{
     all_option, answers_option, explain_option, file_argument, frames_option, help_text, is_on,
     is_strict, is_word, number_of, reading_of, reading_option, region_of, script_of, size_of,
@@ -160,7 +161,8 @@ fn known<'a>(alloc: Global) -> Result<Command<'a>, AllocError>
             CHECK,
         )?)?
         .subcommand(of_words(alloc)?)?
-        .subcommand(of_tokens(alloc)?)
+        .subcommand(of_tokens(alloc)?)?
+        .subcommand(of_files(alloc)?)
 }
 
 /// The rights among the words of a plan or a check that were taken for an option, as the word and as it can be written.
@@ -332,6 +334,9 @@ fn command_options(
     if is_word(name, "encode") {
         return encode_options(alloc, matches);
     }
+    if is_word(name, "test") {
+        return test_options(alloc, matches);
+    }
     Err(OptionFault::Memory)
 }
 
@@ -354,7 +359,7 @@ fn requested<'a, S: AsStr>(alloc: Global, words: &'a [S]) -> Result<Options, Opt
 
 /// Reads the words of the command line, the program's name first:
 /// `l4 run [FILE] [--frames N] [--strict] [--explain]`, `l4 history [FILE] [--frames N] [--strict] [--answers]`,
-/// `l4 judge [FILE] [--frames N] [--all]`, `l4 why THREAD PAGE [FILE] [--frames N] [--strict]`, `l4 plan SOURCE TARGET COUNT RIGHTS`, `l4 check` with the same words, `l4 decode [--as READING] WORD..`, `l4 encode TOKEN..`, each with
+/// `l4 judge [FILE] [--frames N] [--all]`, `l4 why THREAD PAGE [FILE] [--frames N] [--strict]`, `l4 plan SOURCE TARGET COUNT RIGHTS`, `l4 check` with the same words, `l4 decode [--as READING] WORD..`, `l4 encode [--as KIND] TOKEN..`, `l4 test FILE.. [--tap]`, each with
 /// `--page-size BYTES` where that is wanted, `--help`, `help` or `--version`. N is 256 and BYTES 4096 where they are left out; READING is
 /// message, fpage, window or id.
 ///

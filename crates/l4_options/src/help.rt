@@ -142,6 +142,32 @@ as an fpage, a window or an id.
 
 Exit status: 0, or 2 if the command line is invalid, 3 if a write failed.";
 
+/// The help of `l4 test` below its options.
+pub(crate) const TEST: &str = "\
+Runs each script on a new kernel, and compares the answers to each line with the
+answers that it expects. Expectations are comments, so 'l4 run' ignores them.
+
+  #= ANSWER                  expects this answer to the nearest line above that is
+                             neither empty nor a comment. The expectations of a
+                             line are all of its answers, in order
+  #= ..                      allows any further answers to that line
+  #! --frames N --page-size BYTES
+                             as the first line, sets options of 'l4 run'
+
+A line without expectations may have any answers. The refusal of a line is an
+answer. Prints one line per file:
+
+  FILE: N lines, M expectations, passed
+  FILE: line L: expected ANSWER, found ANSWER
+
+The second form is the first difference. 'no further answer' stands for an answer
+that is not there. If there are more answers than expected, L is the line that they
+answer.
+
+Exit status: 0 all scripts passed; 1 an answer differs; 2 invalid command line, file
+cannot be opened, or a line cannot be part of a test; 3 read or write failed; 4 out
+of memory. With several files, it is the greatest of theirs.";
+
 pub(crate) const ENCODE: &str = "\
 Prints the words that tokens stand for. Without --as, or with --as message, the
 tokens are a message: the tag, then the untyped words, and then the items. Pages

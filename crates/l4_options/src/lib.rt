@@ -10,6 +10,7 @@ mod requests;
 mod step_commands;
 mod step_help;
 mod streams;
+mod testing;
 mod values;
 
 pub use commands::options;

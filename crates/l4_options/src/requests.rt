@@ -58,6 +58,11 @@ pub enum Options {
         reading: Reading,
         size: PageSize,
     },
+    /// Compares the answers to the scripts in these files with those that they expect. Prints the results in TAP if `tap`.
+    Test {
+        files: Vec<String>,
+        tap: bool,
+    },
     /// Prints these words.
     Encode(ArrayVec<u32, MAX_WORDS>),
     /// Prints this text: the usage, or the version.

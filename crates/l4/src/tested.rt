@@ -1,0 +1,278 @@
+//! `l4 test`: scripts that state the answers that they expect.
+ghost use Rattle.std.specs.Prelude.{◌≡◌, ◌⊎◌, IfOk, IfSome};
+ghost use Rattle.l4.specs.Statuses.{test_status};
+ghost use Rattle.l4_options.specs.Ranges.{IsFrameCount};
+
+use crate::DIFFERS;
+use l4_expectations::{Difference, Failure, Fault, Passed, test_script};
+use l4_options::{
+    NOT_UNDERSTOOD, OptionFault, Options, ScriptOptions, WatchedReader, not_opened, options,
+    stopped,
+};
+use l4_text::{Ending, LineReader, RunFault, next_token};
+use std::alloc::Global;
+use std::io::{ErrorKind, Read};
+use std::rt::Files;
+use std::{fs, io, str};
+
+/// The words of `l4 run` with both of its options, each with a value.
+const MOST_WORDS: usize = 6;
+
+/// The first token of a first line with options.
+const MARK: &[u8] = b"#!";
+
+/// The number of bytes of the longest line, with its newline.
+const FRONT: u64 = 4_097;
+
+/// Why a first line has wrong options.
+const WRONG_OPTIONS: &str = "after '#!', only --frames N and --page-size BYTES are allowed";
+
+/// Where a result is printed: the name of its file, and its number in TAP.
+#[derive(Drop)]
+struct Place<'a> {
+    file: &'a str,
+    tap: bool,
+    number: usize,
+}
+
+/// Returns the status, or that of a write that failed.
+fn printed(rt: &impl Eprint, written: io::Result<()>, status: u8) -> u8
+    ensures { (result ≡ status) ⊎ (result ≡ 3) }
+{
+    match written {
+        Ok(()) => status,
+        Err(error) => stopped(rt, RunFault::Write, None, Some(error)),
+    }
+}
+
+/// Prints that a script passed.
+fn report_passed<R: Print + Eprint>(rt: &R, place: &Place<'_>, passed: Passed) -> u8
+    ensures { (result ≡ 0) ⊎ (result ≡ 3) }
+{
+    let Passed {
+        lines,
+        expectations,
+    } = passed;
+    let file = place.file;
+    if place.tap {
+        let number = place.number;
+        let written = println!(rt;
+            "ok {number} - {file}: {lines} lines, {expectations} expectations"
+        );
+        return printed(rt, written, 0);
+    }
+    let written = println!(rt; "{file}: {lines} lines, {expectations} expectations, passed");
+    printed(rt, written, 0)
+}
+
+/// Returns an answer, or the words for none.
+fn named(answer: &[u8]) -> &str {
+    if answer.is_empty() {
+        return "no further answer";
+    }
+    str::from_utf8(answer).unwrap_or("an answer that is not valid UTF-8")
+}
+
+/// Prints the first difference.
+fn report_difference<R: Print + Eprint>(rt: &R, place: &Place<'_>, differs: &Difference) -> u8
+    ensures { (result ≡ 1) ⊎ (result ≡ 3) }
+{
+    let file = place.file;
+    let line = differs.line;
+    let expected = named(differs.expected.as_slice());
+    let found = named(differs.found.as_slice());
+    if place.tap {
+        let number = place.number;
+        let written = println!(rt;
+            "not ok {number} - {file}: line {line}: expected {expected}, found {found}"
+        );
+        return printed(rt, written, DIFFERS);
+    }
+    let written = println!(rt; "{file}: line {line}: expected {expected}, found {found}");
+    printed(rt, written, DIFFERS)
+}
+
+/// Says why a line cannot be part of a test.
+fn reason(fault: Fault) -> &'static str {
+    match fault {
+        Fault::Cut => "the line does not end with a newline",
+        Fault::Long => "the line is longer than 4,096 bytes",
+        Fault::NoAnswer => "'#=' must be followed by a space and an answer, or by a space and '..'",
+        Fault::NoLine => "the line expects an answer, but no line above it has answers",
+        Fault::AfterRest =>
+            "the line expects an answer, but '#= ..' above it has ended the expectations",
+    }
+}
+
+/// Prints on standard error why a line cannot be part of a test.
+fn report_malformed<R: Print + Eprint>(rt: &R, place: &Place<'_>, line: u64, reason: &str) -> u8
+    ensures { (result ≡ 2) ⊎ (result ≡ 3) }
+{
+    let file = place.file;
+    let _ = eprintln!(rt; "error: {file}: line {line}: {reason}");
+    if place.tap {
+        let number = place.number;
+        let written = println!(rt; "not ok {number} - {file}: line {line}: {reason}");
+        return printed(rt, written, NOT_UNDERSTOOD);
+    }
+    NOT_UNDERSTOOD
+}
+
+/// Prints in TAP that a script was not tested to its end, after the reason was reported. Returns the status, or that of a write that failed.
+fn report_untested<R: Print + Eprint>(rt: &R, place: &Place<'_>, status: u8) -> u8
+    ensures { (result ≡ status) ⊎ (result ≡ 3) }
+{
+    if !place.tap {
+        return status;
+    }
+    let file = place.file;
+    let number = place.number;
+    let written = println!(rt; "not ok {number} - {file}: the script was not tested to its end");
+    printed(rt, written, status)
+}
+
+/// Returns the options that `l4 run` reads from these words. None if they are not understood, name a file, or have other options.
+fn options_in(alloc: Global, words: &[&str]) -> Result<Option<ScriptOptions>, RunFault>
+    ensures { IfOk result (λ o. IfSome o (λ script. IsFrameCount script.frames)) }
+{
+    match options(alloc, words) {
+        Ok(
+            Options::Run {
+                script,
+                strict: false,
+                explain: false,
+            },
+        ) => {
+            if script.file.is_some() {
+                return Ok(None);
+            }
+            Ok(Some(script))
+        }
+        Err(OptionFault::Memory) => Err(RunFault::Memory),
+        _ => Ok(None),
+    }
+}
+
+/// Returns the options in the words behind `#!`. None if they are wrong.
+fn options_behind(alloc: Global, line: &[u8]) -> Result<Option<ScriptOptions>, RunFault>
+    ensures { IfOk result (λ o. IfSome o (λ script. IsFrameCount script.frames)) }
+{
+    let mut words = ["l4", "run", "", "", "", ""];
+    let mut rest = line;
+    for count in 2..MOST_WORDS {
+        let Some((token, after)) = next_token(rest) else {
+            return options_in(alloc, &words[..count]);
+        };
+        let Ok(word) = str::from_utf8(token) else {
+            return Ok(None);
+        };
+        words[count] = word;
+        rest = after;
+    }
+    if next_token(rest).is_some() {
+        return Ok(None);
+    }
+    options_in(alloc, &words)
+}
+
+/// Returns the options of a script that begins with these bytes. None if those in its first line are wrong.
+fn options_of(alloc: Global, front: &[u8]) -> Result<Option<ScriptOptions>, RunFault>
+    ensures { IfOk result (λ o. IfSome o (λ script. IsFrameCount script.frames)) }
+{
+    let mut reader = front;
+    let mut lines = LineReader::new();
+    let Ok(Some(Ending::Whole)) = lines.next(&mut reader) else {
+        return options_behind(alloc, b"");
+    };
+    if !lines.line().starts_with(MARK) {
+        return options_behind(alloc, b"");
+    }
+    match next_token(lines.line()) {
+        Some((MARK, rest)) => options_behind(alloc, rest),
+        _ => Ok(None),
+    }
+}
+
+/// Reads the first bytes of a script: all of its first line, if it is not too long.
+fn front_of<Q: Read>(alloc: Global, reader: &mut Q) -> Result<Vec<u8>, RunFault> {
+    let mut front = Vec::new(alloc);
+    match (&mut *reader).take(FRONT).read_to_end(&mut front) {
+        Ok(_) => Ok(front),
+        Err(error) => match error.kind() {
+            ErrorKind::OutOfMemory => Err(RunFault::Memory),
+            _ => Err(RunFault::Read),
+        },
+    }
+}
+
+/// Prints the result of a test. Returns the exit status, which is 3 if the result cannot be printed.
+fn report<Q: Read, R: Print + Eprint>(
+    rt: &R,
+    place: &Place<'_>,
+    tested: Result<Passed, Failure>,
+    reader: &WatchedReader<Q>,
+) -> u8
+    ensures { (result ≡ test_status tested) ⊎ (result ≡ 3) }
+{
+    match tested {
+        Ok(passed) => report_passed(rt, place, passed),
+        Err(Failure::Differs(difference)) => report_difference(rt, place, &difference),
+        Err(Failure::Malformed(line, fault)) => report_malformed(rt, place, line, reason(fault)),
+        Err(Failure::Stopped(fault)) => {
+            let status = stopped(rt, fault, Some(place.file), reader.error());
+            report_untested(rt, place, status)
+        }
+    }
+}
+
+/// Tests the script that a reader gives, and prints the result. Returns the exit status.
+fn test_reader<Q: Read, R: AllocGlobal + Print + Eprint>(
+    rt: &R,
+    place: &Place<'_>,
+    reader: &mut WatchedReader<Q>,
+) -> u8 {
+    let front = match front_of(rt.alloc(), reader) {
+        Ok(front) => front,
+        Err(fault) => return report(rt, place, Err(Failure::Stopped(fault)), reader),
+    };
+    let script = match options_of(rt.alloc(), front.as_slice()) {
+        Ok(Some(script)) => script,
+        Ok(None) => return report_malformed(rt, place, 1, WRONG_OPTIONS),
+        Err(fault) => return report(rt, place, Err(Failure::Stopped(fault)), reader),
+    };
+    let mut whole = front.as_slice().chain(&mut *reader);
+    let tested = test_script(rt.alloc(), script.frames, script.size, &mut whole);
+    report(rt, place, tested, reader)
+}
+
+/// Tests the script in a file, and prints the result. Returns the exit status.
+fn test_file<R: AllocGlobal + Files + Print + Eprint>(rt: &R, place: &Place<'_>) -> u8 {
+    match fs::open(rt, place.file) {
+        Ok(file) => test_reader(rt, place, &mut WatchedReader::new(file)),
+        Err(error) => report_untested(rt, place, not_opened(rt, place.file, error)),
+    }
+}
+
+/// Tests the scripts in these files. Returns the greatest of their exit statuses.
+#[inline(never)]
+pub(crate) fn test_files<R: AllocGlobal + Files + Print + Eprint>(
+    rt: &R,
+    files: &[String],
+    tap: bool,
+) -> u8 {
+    let mut greatest = 0;
+    if tap {
+        let count = files.len();
+        let written = println!(rt; "TAP version 13\n1..{count}");
+        greatest = printed(rt, written, 0);
+    }
+    for index in 0..files.len() {
+        let place = Place {
+            file: files[index].as_str(),
+            tap,
+            number: index + 1,
+        };
+        greatest = greatest.max(test_file(rt, &place));
+    }
+    greatest
+}
