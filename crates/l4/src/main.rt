@@ -15,7 +15,7 @@ ghost use Rattle.l4_options.specs.Ranges.{IsFrameCount};
 
 use l4_decode::{Reading, decode};
 use l4_fpage::PageSize;
-use l4_history::{answered_history, history};
+use l4_history::{Presence, Question, ThreadPage, WhyResult, answered_history, history, why};
 use l4_msg::Region;
 use l4_options::{
     NOT_UNDERSTOOD, Options, ScriptOptions, WatchedReader, WatchedWriter, cause, command_words,
@@ -28,7 +28,6 @@ use l4_sinks::{Ended, Style, answer_script};
 use l4_step_lines::{Fault, JudgeFault, judge};
 use l4_symbols::write_words;
 use l4_text::{RunFault, ScriptReader};
-use l4_history::{Presence, Question, ThreadPage, WhyResult, why};
 use reports::{report_no_plan, report_no_thread, report_refused, report_unproved};
 use std::io::{Read, Write};
 use std::process::ExitCode;
