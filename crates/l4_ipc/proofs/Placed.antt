@@ -1,8 +1,11 @@
 -- The effect of a delegation, place by place: what the moves of a region do to mappings that are a forest.
-use Rattle.std.proofs.Common.{◌≡◌, ◌≢◌, ℕ, ◌+◌, ◌<◌, ◌↔◌, ◌⊎◌, false, Some, IsTrue, refl, sym, ap, ◌∙◌, subst, inl, inr}
+use Rattle.std.proofs.Common.{◌≡◌, ◌≢◌, ℕ, ◌+◌, ◌<◌, ◌↔◌, ◌⊎◌, false, List, [], ◌∷◌, Some, IsTrue, refl, sym, ap, ◌∙◌, subst, inl, inr}
+use Rattle.std.specs.List.{All}
 use Rattle.std.proofs.lemmas.Bool.{false≢true}
+use Rattle.std.proofs.lemmas.List.Elements.{All-nil, All-cons}
 use Rattle.l4_fpage.specs.Rights.{common, no_rights}
 use Rattle.l4_msg.specs.Moves.{RegionMoves}
+use Rattle.l4_msg.specs.Regions.{part_of_region}
 use Rattle.l4_msg.specs.declared.regions.Region.{Region}
 use Rattle.l4_mapdb.specs.declared.Place.{Place}
 use Rattle.l4_mapdb.specs.declared.Mapping.{Mapping}
@@ -13,45 +16,11 @@ use Rattle.l4_mapdb.proofs.Filled.{BecomesBy, by_kind}
 use Rattle.l4_mapdb.proofs.Unique.{same_rights}
 use Rattle.l4_ipc.specs.Moving.{IsUsedMove}
 use Rattle.l4_ipc.specs.Delegation.{Delegates}
-use Rattle.l4_ipc.proofs.Delegating.{not_granted, parent_kept, parent_same}
-
--- the page of the region with this number, in the sender's space and in the receiver's
-abbrev pub source_at : ℕ → Region → ℕ → Place
-source_at «from» r index = record { space = «from»; page = r.source + index }
-
-abbrev pub target_at : ℕ → Region → ℕ → Place
-target_at to r index = record { space = to; page = r.target + index }
-
--- the page of the region with this number is present in the sender's space, has this mapping, and shares a right with the region
-pub record IsHandedOn (old : Mappings) («from» : ℕ) (r : Region) (index : ℕ) (shows : Mapping) : Type 0 where
-  pub within : index < r.count
-  pub at : shown old (source_at «from» r index) ≡ Some shows
-  pub some_right : common shows.rights r.rights ≢ no_rights
-
--- the place is where such a page goes: its mapping has the page's frame, the common rights, and the sender's page as parent
-pub record IsNewPlace (old : Mappings) («from» to : ℕ) (r : Region) (place : Place) (m : Mapping) : Type 0 where
-  pub index : ℕ
-  pub shows : Mapping
-  pub handed_on : IsHandedOn old «from» r index shows
-  pub place_is : place ≡ target_at to r index
-  pub frame : m.frame ≡ shows.frame
-  pub rights : m.rights ≡ common shows.rights r.rights
-  pub parent : m.parent ≡ Some (source_at «from» r index)
-
--- Such a page goes to a present place, and this place is that place or descends from it.
-pub record IsReplaced (old : Mappings) («from» to : ℕ) (r : Region) (place : Place) : Type 0 where
-  pub index : ℕ
-  pub shows : Mapping
-  pub handed_on : IsHandedOn old «from» r index shows
-  pub present : IsPresent old (target_at to r index)
-  pub below : IsOrDescends old place (target_at to r index)
-
--- Afterwards the sender's pages of the region are at their new places. Every other place has the mapping that it had, except the replaced
--- places and their descendants, which are no longer present. Nothing else is new.
-pub record IsPlaced (old : Mappings) («from» to : ℕ) (r : Region) (new : Mappings) : Type 0 where
-  pub spaces : new.spaces ≡ old.spaces
-  pub places : (place : Place) (m : Mapping) →
-      (shown new place ≡ Some m) ↔ (IsNewPlace old «from» to r place m ⊎ ((shown old place ≡ Some m) × ¬ (IsReplaced old «from» to r place)))
+use Rattle.l4_ipc.specs.Events.{Event, Follow}
+use Rattle.l4_ipc.specs.Machine.{Machine}
+use Rattle.l4_ipc.specs.Placed.{source_at, target_at, IsHandedOn, IsNewPlace, IsReplaced, IsPlaced, PlacesDelegations}
+use Rattle.l4_ipc.proofs.Delegating.{delivers_delegations, not_granted, parent_kept, parent_same}
+use Rattle.l4_ipc.proofs.Tracing.{AreForests}
 
 module _ (old new : Mappings) (from to : ℕ) (r : Region) (forest : IsForest old) (does : Delegates old from to r new) where
   abbrev Used : PageMove → Type 0
@@ -165,3 +134,12 @@ module _ (old new : Mappings) (from to : ℕ) (r : Region) (forest : IsForest ol
           ),
     );
   }
+
+-- each event of a run places its delegations
+pub all_placed : (events : List Event) (old new : Machine) → Follow old events new → AreForests events → All PlacesDelegations events
+all_placed [] old new f forests = All-nil PlacesDelegations
+all_placed (event ∷ events) old new f forests =
+    All-cons PlacesDelegations event events
+    (λ r items pages number sender receiver sends takes d. is_placed event.before.mappings event.after.mappings sender.space receiver.space (part_of_region r pages number) forests.0
+        (delivers_delegations event f.1 r items pages number sender receiver sends takes d).effect)
+    (all_placed events event.after new f.2 forests.2)

@@ -12,4 +12,5 @@ pub mod Constructors
 pub mod Events
 pub mod Provenance
 pub mod Delegation
+pub mod Placed
 pub mod Inside

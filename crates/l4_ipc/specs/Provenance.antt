@@ -77,7 +77,7 @@ HaveProvenance start events now = (place : Place) (shows : Mapping) → shown no
 
 -- WHAT A FLUSH ENDS
 
--- the event is an Unmap that removes every right of the place, and so the place
+-- The event is an Unmap that removes all three rights of the place, whether or not it has them, and so the place.
 pub record Flushes (event : Event) (place : Place) : Type 0 where
   pub number : ℕ
   pub call : UnmapCall
