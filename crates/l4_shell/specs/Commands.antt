@@ -62,7 +62,7 @@ abbrev pub first_by : {A : Type 0} → (List ℕ → Option A) → List (List �
 first_by read [] = None
 first_by read (token ∷ tokens) = read token >>= λ a. Some (a, tokens)
 
--- reads one token, hands its value to what is made, and then reads the tokens after it
+-- reads one token, gives its value to the function that makes the result, and then reads the tokens after it
 infixr 10 ◌▹◌
 abbrev pub ◌▹◌ : {A B C : Type 0} → (List ℕ → Option A) → (B → List (List ℕ) → Option C) → (A → B) → List (List ℕ) → Option C
 (read ▹ rest) make tokens = first_by read tokens >>= λ a. rest (make a.0) a.1
@@ -95,37 +95,38 @@ entry_with f s c r = record { first = f; source = s; count = c; rights = r }
 -- a message is its tag.
 abbrev pub commands : List (List ℕ × (List (List ℕ) → Option Request))
 commands =
-    -- root creates a thread of this number, in this space and with this pager
+    -- thread N SPACE PAGER: root creates a thread of this number, in this space and with this pager
     (codes "thread", (thread_of ▹ new_space_of ▹ nil_or_thread_of ▹ no_more) (λ n space pager. CreateThread n (create_call n space pager)))
-    -- root changes a thread's pager
+    -- setpager N PAGER: root changes a thread's pager
     ∷ (codes "setpager", (thread_of ▹ nil_or_thread_of ▹ no_more) (λ n pager. Enter root (set_pager_call n pager)))
-    -- root deletes a thread
+    -- delete N: root deletes a thread
     ∷ (codes "delete", (thread_of ▹ no_more) EndThread)
-    -- a thread receives from a partner, with this window
-    ∷ (codes "recv", (thread_of ▹ partner_of ▹ number_of ▹ no_more) (λ n p window. Enter n (receive_call p window)))
-    -- a thread sends these words to a partner
+    -- recv N FROM WINDOW: a thread receives from a partner, with this window
+    ∷ (codes "recv", (thread_of ▹ partner_of ▹ number_of ▹ no_more) (λ n «from» window. Enter n (receive_call «from» window)))
+    -- send N TO WORD..: a thread sends these words to a partner
     ∷ (codes "send", (thread_of ▹ partner_of ▹ all_by words_of) (λ n to words. Enter n (send_call to words)))
-    -- a thread sends these words to a partner, and then receives from another one, with these timeouts and this window
+    -- ipc N TO FROM TIMEOUTS WINDOW WORD..: a thread sends these words to a partner, and then receives from another one, with these timeouts
+    -- and this window
     ∷ (
       codes "ipc",
       (thread_of ▹ partner_of ▹ partner_of ▹ number_of ▹ number_of ▹ all_by words_of)
-          (λ n to p t window words. Enter n (ipc_call to p t window words)),
+          (λ n to «from» timeouts window words. Enter n (ipc_call to «from» timeouts window words)),
     )
-    -- a thread sends the only message of the region's plan to a partner
+    -- delegate N TO SOURCE TARGET COUNT RIGHTS: a thread sends the only message of the region's plan to a partner
     ∷ (codes "delegate", (thread_of ▹ partner_of ▹ all_by region_of) (λ n to region. SendPlan n to Only region))
-    -- a thread sends the message with this number, from 0, of the region's plan to a partner
+    -- part N TO K SOURCE TARGET COUNT RIGHTS: a thread sends the message with this number, from 0, of the region's plan to a partner
     ∷ (codes "part", (thread_of ▹ partner_of ▹ number_of ▹ all_by region_of) (λ n to k region. SendPlan n to (Message k) region))
-    -- a thread revokes rights: the control word, and the message registers
+    -- unmap N CONTROL WORD..: a thread revokes rights, by the control word and the message registers
     ∷ (codes "unmap", (thread_of ▹ number_of ▹ all_by words_of) (λ n control words. Enter n (unmap_call control words)))
-    -- the present pages of a thread's space among this number of pages from a first one on
+    -- show N FIRST COUNT: the present pages of a thread's space among this number of pages from a first one on
     ∷ (codes "show", (thread_of ▹ number_of ▹ number_of ▹ no_more) ListPages)
-    -- the parent of a page of a thread's space
+    -- parent N PAGE: the parent of a page of a thread's space
     ∷ (codes "parent", (thread_of ▹ number_of ▹ no_more) TellParent)
-    -- a thread raises a page fault
-    ∷ (codes "fault", (thread_of ▹ number_of ▹ number_of ▹ all_by last_rights_of) (λ n a ip r. Enter n (fault_call a ip r)))
-    -- a region is added to a thread's table
+    -- fault N ADDRESS IP RIGHTS: a thread raises a page fault
+    ∷ (codes "fault", (thread_of ▹ number_of ▹ number_of ▹ all_by last_rights_of) (λ n address ip rights. Enter n (fault_call address ip rights)))
+    -- region P FIRST SOURCE COUNT RIGHTS: a region is added to a thread's table
     ∷ (codes "region", (thread_of ▹ number_of ▹ number_of ▹ number_of ▹ all_by last_rights_of) (λ n f s c r. AddRegion n (entry_with f s c r)))
-    -- a thread is served
+    -- serve P: a thread is served
     ∷ (codes "serve", (thread_of ▹ no_more) ServeThread)
     -- how many entries the history has
     ∷ (codes "steps", no_more TellSteps)

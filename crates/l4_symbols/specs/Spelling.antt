@@ -88,7 +88,7 @@ fpage_in token = do
   rights ← rights_in granted.1
   Ok (record { pages = pages; rights = rights })
 
--- FIRST+COUNT, where a number alone is a word
+-- FIRST+COUNT; +COUNT cannot be left out, because a number alone is the word itself
 unfoldable pub run_in : List ℕ → Result WindowParts Reason
 run_in token = do
   parts ← ok_or (cut_at 43 token) Window
