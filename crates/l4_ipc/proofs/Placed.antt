@@ -141,5 +141,5 @@ all_placed [] old new f forests = All-nil PlacesDelegations
 all_placed (event ∷ events) old new f forests =
     All-cons PlacesDelegations event events
     (λ r items pages number sender receiver sends takes d. is_placed event.before.mappings event.after.mappings sender.space receiver.space (part_of_region r pages number) forests.0
-        (delivers_delegations event f.1 r items pages number sender receiver sends takes d).effect)
+    (delivers_delegations event f.1 r items pages number sender receiver sends takes d).effect)
     (all_placed events event.after new f.2 forests.2)
