@@ -62,7 +62,8 @@ fn add_page_line(out: &mut Output, page: u32, mapping: &Mapping)
 /// Writes `page P frame F RIGHTS`. It is inlined into its callers, which then do not look up the page's parent.
 #[inline(always)]
 pub fn put_page<W: Write>(page: u32, mapping: &Mapping, out: &mut Output, writer: &mut W)
-    ensures { Tells (W.contents writer.old) (W.contents writer.new) out.old out.new (page_text page mapping.now) }
+    ensures { Tells (W.contents writer.old) (W.contents writer.new) out.old out.new
+        (page_text page mapping.now) }
 {
     out.make_room(writer);
     add_page_line(out, page, mapping);
@@ -81,7 +82,8 @@ fn add_shown(out: &mut Output, count: u32)
 
 /// Writes `shown K`.
 pub fn put_shown<W: Write>(count: u32, out: &mut Output, writer: &mut W)
-    ensures { Tells (W.contents writer.old) (W.contents writer.new) out.old out.new (shown_text count) }
+    ensures { Tells (W.contents writer.old) (W.contents writer.new) out.old out.new
+        (shown_text count) }
 {
     out.make_room(writer);
     add_shown(out, count);
@@ -124,7 +126,8 @@ fn add_parent(out: &mut Output, mapping: Option<Mapping>)
 
 /// Writes `parent SPACE PAGE`, `parent none` or `absent`, for the mapping of a page.
 pub fn put_parent<W: Write>(mapping: Option<Mapping>, out: &mut Output, writer: &mut W)
-    ensures { Tells (W.contents writer.old) (W.contents writer.new) out.old out.new (parent_text mapping) }
+    ensures { Tells (W.contents writer.old) (W.contents writer.new) out.old out.new
+        (parent_text mapping) }
 {
     out.make_room(writer);
     add_parent(out, mapping);

@@ -148,7 +148,8 @@ pub fn add_code(text: &mut Text, code: &Code)
 /// Adds a code, and the number that it carries, to what is held back, and ends the line.
 fn add_code_line(out: &mut Output, code: &Code)
     requires { length out.old.0 + 30 ≤ held_bytes }
-    ensures { out.new ≡ (out.old.0 ++ code.now.name ++ number_text code.now.number ++ newline, out.old.1) }
+    ensures { out.new
+        ≡ (out.old.0 ++ code.now.name ++ number_text code.now.number ++ newline, out.old.1) }
 {
     out.add(code.name);
     if let Some(number) = code.number {
@@ -171,7 +172,8 @@ fn add_refused_line(out: &mut Output, line: u64, code: &Code)
 
 /// Writes `line L refused CODE` or `line L refused CODE I`.
 pub fn put_refused_line<W: Write>(line: u64, code: &Code, out: &mut Output, writer: &mut W)
-    ensures { Tells (W.contents writer.old) (W.contents writer.new) out.old out.new (refused_text line code.now) }
+    ensures { Tells (W.contents writer.old) (W.contents writer.new) out.old out.new
+        (refused_text line code.now) }
 {
     out.make_room(writer);
     add_refused_line(out, line, code);
@@ -190,7 +192,8 @@ fn add_refused_act(out: &mut Output, thread: u32, code: &Code)
 
 /// Writes `N refused CODE`, for the call of a served thread.
 pub fn put_refused_act<W: Write>(thread: u32, code: &Code, out: &mut Output, writer: &mut W)
-    ensures { Tells (W.contents writer.old) (W.contents writer.new) out.old out.new (refused_act_text thread code.now) }
+    ensures { Tells (W.contents writer.old) (W.contents writer.new) out.old out.new
+        (refused_act_text thread code.now) }
 {
     out.make_room(writer);
     add_refused_act(out, thread, code);
@@ -217,7 +220,8 @@ fn add_steps(out: &mut Output, count: u64)
 
 /// Writes `steps K`.
 pub fn put_steps<W: Write>(count: u64, out: &mut Output, writer: &mut W)
-    ensures { Tells (W.contents writer.old) (W.contents writer.new) out.old out.new (steps_text count) }
+    ensures { Tells (W.contents writer.old) (W.contents writer.new) out.old out.new
+        (steps_text count) }
 {
     out.make_room(writer);
     add_steps(out, count);

@@ -48,7 +48,8 @@ pub fn put_transfer<W: Write>(
     out: &mut Output,
     writer: &mut W,
 )
-    ensures { Tells (W.contents writer.old) (W.contents writer.new) out.old out.new (transfer_text sender receiver outcome) }
+    ensures { Tells (W.contents writer.old) (W.contents writer.new) out.old out.new
+        (transfer_text sender receiver outcome) }
 {
     out.make_room(writer);
     add_transfer(out, sender, receiver, outcome);
@@ -67,7 +68,8 @@ fn add_expire(out: &mut Output, number: u32)
 
 /// Writes `expire N`.
 pub fn put_expire<W: Write>(number: u32, out: &mut Output, writer: &mut W)
-    ensures { Tells (W.contents writer.old) (W.contents writer.new) out.old out.new (expire_text number) }
+    ensures { Tells (W.contents writer.old) (W.contents writer.new) out.old out.new
+        (expire_text number) }
 {
     out.make_room(writer);
     add_expire(out, number);
@@ -86,7 +88,8 @@ fn add_numbered<const COUNT: usize>(out: &mut Output, number: u32, rest: [u8; CO
 
 /// Writes `N waits`.
 pub fn put_waits<W: Write>(number: u32, out: &mut Output, writer: &mut W)
-    ensures { Tells (W.contents writer.old) (W.contents writer.new) out.old out.new (waits_text number) }
+    ensures { Tells (W.contents writer.old) (W.contents writer.new) out.old out.new
+        (waits_text number) }
 {
     out.make_room(writer);
     add_numbered(out, number, *b" waits\n");
@@ -123,7 +126,8 @@ fn add_ipc_head(out: &mut Output, number: u32, reply: &IpcReply)
 /// Adds `N fault failed CODE`.
 fn add_failed_head(out: &mut Output, number: u32, code: u32)
     requires { length out.old.0 + 80 ≤ held_bytes }
-    ensures value { out.new ≡ (out.old.0 ++ (decimal number ++ codes " fault failed " ++ decimal code), out.old.1) }
+    ensures value { out.new
+        ≡ (out.old.0 ++ (decimal number ++ codes " fault failed " ++ decimal code), out.old.1) }
     ensures len { length out.new.0 ≤ length out.old.0 + 80 }
 {
     add_numbered(out, number, *b" fault failed ");
@@ -178,7 +182,8 @@ fn add_ipc(out: &mut Output, number: u32, reply: &IpcReply)
 /// Writes how a thread's call ended. Most calls are Ipcs, or faults that were answered.
 #[inline(always)]
 fn put_last_reply<W: Write>(number: u32, reply: &Reply, out: &mut Output, writer: &mut W)
-    ensures { Tells (W.contents writer.old) (W.contents writer.new) out.old out.new (reply_text number (Some reply.now)) }
+    ensures { Tells (W.contents writer.old) (W.contents writer.new) out.old out.new
+        (reply_text number (Some reply.now)) }
 {
     if let Reply::Ipc(ipc) = reply {
         out.make_room(writer);
@@ -193,7 +198,8 @@ fn put_last_reply<W: Write>(number: u32, reply: &Reply, out: &mut Output, writer
 
 /// Writes how a thread's call ended. A thread that was deleted has no reply.
 pub fn put_reply<W: Write>(number: u32, reply: Option<&Reply>, out: &mut Output, writer: &mut W)
-    ensures { Tells (W.contents writer.old) (W.contents writer.new) out.old out.new (reply_text number (option_copied reply.entry)) }
+    ensures { Tells (W.contents writer.old) (W.contents writer.new) out.old out.new
+        (reply_text number (option_copied reply.entry)) }
 {
     match reply {
         Some(reply) => put_last_reply(number, reply, out, writer),
@@ -204,7 +210,8 @@ pub fn put_reply<W: Write>(number: u32, reply: Option<&Reply>, out: &mut Output,
 /// Writes how a thread's call ended, as `put_reply` does, for any reply.
 #[inline(never)]
 fn put_any_reply<W: Write>(number: u32, reply: Option<&Reply>, out: &mut Output, writer: &mut W)
-    ensures { Tells (W.contents writer.old) (W.contents writer.new) out.old out.new (reply_text number (option_copied reply.entry)) }
+    ensures { Tells (W.contents writer.old) (W.contents writer.new) out.old out.new
+        (reply_text number (option_copied reply.entry)) }
 {
     out.make_room(writer);
     add_reply_head(out, number, reply);

@@ -115,7 +115,9 @@ pub extern "C" fn l4_check_plan_sized(
     pages: &[u32],
     page_bytes: u32,
 ) -> Verdict
-    ensures { InBytes page_bytes (λ size. TellsCheck size (region_of given.now) words.now pages.now result) (result ≡ verdict_of (spelled (codes "B4")) 0) }
+    ensures { InBytes page_bytes
+        (λ size. TellsCheck size (region_of given.now) words.now pages.now result)
+        (result ≡ verdict_of (spelled (codes "B4")) 0) }
 {
     match size_of(page_bytes) {
         Some(size) => judged(given, size, words, pages),
@@ -150,7 +152,9 @@ pub extern "C" fn l4_check_too_long_sized(
     pages: &[u32],
     page_bytes: u32,
 ) -> Verdict
-    ensures { InBytes page_bytes (λ size. TellsLongCheck size (region_of given.now) pages.now result) (result ≡ verdict_of (spelled (codes "B4")) 0) }
+    ensures { InBytes page_bytes
+        (λ size. TellsLongCheck size (region_of given.now) pages.now result)
+        (result ≡ verdict_of (spelled (codes "B4")) 0) }
 {
     match size_of(page_bytes) {
         Some(size) => judged_too_long(given, size, pages),

@@ -11,7 +11,8 @@ use std::alloc::Global;
 
 /// Writes an executed step to the array at this place, if the array is long enough.
 fn note(steps: &mut [NextResult], at: u32, next: NextStep)
-    ensures there { at < length steps.old → steps.new ≡ slice_set steps.old at (done_result (step_of next) (answer_of next)) }
+    ensures there { at < length steps.old → steps.new
+        ≡ slice_set steps.old at (done_result (step_of next) (answer_of next)) }
     ensures beyond { length steps.old ≤ at → steps.new ≡ steps.old }
 {
     let at = at as usize;
@@ -63,7 +64,8 @@ pub extern "C" fn l4_enter(
     words: &[u32],
     steps: &mut [NextResult],
 ) -> EnterResult
-    ensures { Enters handle.old.value thread call.now words.now steps.old result steps.new handle.new.value }
+    ensures { Enters handle.old.value thread call.now words.now steps.old result steps.new
+        handle.new.value }
 {
     let Some(mut kernel) = handle.take(alloc) else {
         return EnterResult {

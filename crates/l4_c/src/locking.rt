@@ -65,7 +65,9 @@ pub extern "C" fn l4_lock_new_sized(
     frames: u32,
     page_bytes: u32,
 ) -> u32
-    ensures { InBytes page_bytes (λ size. MakesLock handle.old.value size frames result handle.new.value) ((result ≡ spelled (codes "B4")) × (handle.new.value ≡ handle.old.value)) }
+    ensures { InBytes page_bytes
+        (λ size. MakesLock handle.old.value size frames result handle.new.value)
+        ((result ≡ spelled (codes "B4")) × (handle.new.value ≡ handle.old.value)) }
 {
     match size_of(page_bytes) {
         Some(size) => make(alloc, handle, size, frames),
@@ -233,7 +235,10 @@ pub extern "C" fn l4_lock_seat_of(alloc: Global, handle: &mut LockHandle, number
 
 /// Returns the receipt of a seat at a place.
 fn receipt(lock: &SeatedLock, number: u32, place: usize) -> ReceiptResult
-    ensures { result ≡ receipt_result (option_and_then (λ (p : SeatState). slice_get p.receipts place) (seat_at lock.now.books number)) }
+    ensures { result
+        ≡ receipt_result
+        (option_and_then (λ (p : SeatState). slice_get p.receipts place)
+        (seat_at lock.now.books number)) }
 {
     let Some(seat) = lock.seat(number) else {
         return no_receipt(0);

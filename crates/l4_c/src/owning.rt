@@ -46,7 +46,9 @@ pub extern "C" fn l4_boot_sized(
     frames: u32,
     page_bytes: u32,
 ) -> u32
-    ensures { InBytes page_bytes (λ size. Boots handle.old.value size frames result handle.new.value) ((result ≡ spelled (codes "B4")) × (handle.new.value ≡ handle.old.value)) }
+    ensures { InBytes page_bytes
+        (λ size. Boots handle.old.value size frames result handle.new.value)
+        ((result ≡ spelled (codes "B4")) × (handle.new.value ≡ handle.old.value)) }
 {
     match size_of(page_bytes) {
         Some(size) => boot(alloc, handle, size, frames),

@@ -58,7 +58,8 @@ pub extern "C" fn l4_pager_new_sized(
     handle: &mut PagerHandle,
     page_bytes: u32,
 ) -> u32
-    ensures { InBytes page_bytes (λ size. MakesTable handle.old.value size result handle.new.value) ((result ≡ spelled (codes "B4")) × (handle.new.value ≡ handle.old.value)) }
+    ensures { InBytes page_bytes (λ size. MakesTable handle.old.value size result handle.new.value)
+        ((result ≡ spelled (codes "B4")) × (handle.new.value ≡ handle.old.value)) }
 {
     match size_of(page_bytes) {
         Some(size) => make(alloc, handle, size),

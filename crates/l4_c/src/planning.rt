@@ -69,7 +69,8 @@ pub extern "C" fn l4_plan_region(given: &RegionGiven) -> PlanResult
 /// before every other refusal.
 #[unsafe(no_mangle)]
 pub extern "C" fn l4_plan_region_sized(given: &RegionGiven, page_bytes: u32) -> PlanResult
-    ensures { InBytes page_bytes (λ size. TellsPlan size (region_of given.now) result) (result ≡ plan_result (spelled (codes "B4")) 0 0) }
+    ensures { InBytes page_bytes (λ size. TellsPlan size (region_of given.now) result)
+        (result ≡ plan_result (spelled (codes "B4")) 0 0) }
 {
     match size_of(page_bytes) {
         Some(size) => planned(given, size),
@@ -143,7 +144,8 @@ pub extern "C" fn l4_plan_message_sized(
     number: u32,
     page_bytes: u32,
 ) -> PartResult
-    ensures { InBytes page_bytes (λ size. TellsPart size (region_of given.now) number result) (result ≡ part_result (spelled (codes "B4")) 0 [] []) }
+    ensures { InBytes page_bytes (λ size. TellsPart size (region_of given.now) number result)
+        (result ≡ part_result (spelled (codes "B4")) 0 [] []) }
 {
     match size_of(page_bytes) {
         Some(size) => part(given, size, number),
@@ -200,7 +202,9 @@ pub extern "C" fn l4_plan_pages(given: &RegionGiven, out: &mut [u32]) -> u32
 /// Does the same as `l4_plan_pages` for pages of `page_bytes` bytes. Returns 0 if no page has that many bytes.
 #[unsafe(no_mangle)]
 pub extern "C" fn l4_plan_pages_sized(given: &RegionGiven, out: &mut [u32], page_bytes: u32) -> u32
-    ensures told { InBytes page_bytes (λ size. TellsPages size (region_of given.now) out.old out.new result) ((result ≡ 0) × (out.new ≡ out.old)) }
+    ensures told { InBytes page_bytes
+        (λ size. TellsPages size (region_of given.now) out.old out.new result)
+        ((result ≡ 0) × (out.new ≡ out.old)) }
     ensures room { length out.new ≡ length out.old }
 {
     match size_of(page_bytes) {

@@ -61,7 +61,8 @@ impl KernelHandle {
 
     /// Moves the kernel out of the handle, and leaves the handle empty. Returns `None` if the handle is empty.
     pub fn take(&mut self, alloc: Global) -> Option<Box<Kernel>>
-        ensures taken { MatchOption result (self.old.value ≡ None) (λ kernel. self.old.value ≡ Some kernel.value) }
+        ensures taken { MatchOption result (self.old.value ≡ None)
+            (λ kernel. self.old.value ≡ Some kernel.value) }
         ensures empty { self.new.value ≡ None }
     {
         match replace(self, KernelHandle::empty()).into_loose(alloc) {

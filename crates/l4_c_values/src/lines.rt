@@ -190,7 +190,8 @@ fn outcome_text(outcome: u32) -> &'static [u8]
 
 /// Returns the line of a transfer, without its newline.
 fn transfer_line(given: &NextResult) -> Text
-    ensures { result ≡ codes "transfer " ++ decimal given.now.thread ++ space ++ decimal given.now.receiver ++ outcome_text given.now.outcome }
+    ensures { result ≡ codes "transfer " ++ decimal given.now.thread ++ space
+        ++ decimal given.now.receiver ++ outcome_text given.now.outcome }
 {
     let mut text = Text::new();
     text.add(b"transfer ");

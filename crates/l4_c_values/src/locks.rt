@@ -59,7 +59,8 @@ impl LockHandle {
 
     /// Moves the locked kernel out of the handle, and leaves the handle empty. Returns `None` if the handle is empty.
     pub fn take(&mut self, alloc: Global) -> Option<Box<SeatedLock>>
-        ensures taken { MatchOption result (self.old.value ≡ None) (λ lock. self.old.value ≡ Some lock.value) }
+        ensures taken { MatchOption result (self.old.value ≡ None)
+            (λ lock. self.old.value ≡ Some lock.value) }
         ensures empty { self.new.value ≡ None }
     {
         match replace(self, LockHandle::empty()).into_loose(alloc) {

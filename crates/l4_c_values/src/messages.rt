@@ -1,7 +1,10 @@
 //! Makes the results that contain a message.
 ghost use Rattle.std.specs.Prelude.{◌≡◌, ℕ, List};
 ghost use Rattle.l4_msg.specs.Messages.{CanBeWritten, MessageFails};
+ghost use Rattle.l4_answers.specs.Refusals.{message_refusal};
+ghost use Rattle.l4_refusals.specs.Texts.{spelled};
 ghost use Rattle.l4_c_values.specs.Messages.{no_message_result, message_result, TellsUnread};
+ghost use Rattle.l4_c_values.specs.Told.{carried};
 
 use crate::numbers::{message_detail, message_number};
 use crate::results::padded;
@@ -32,7 +35,10 @@ pub fn no_message(refusal: u32, detail: u32) -> MessageResult
 
 /// Returns the refusal of words that are not a message.
 pub fn unread(fault: MsgFault) -> MessageResult
-    ensures { (words : List ℕ) → MessageFails words fault → TellsUnread words result }
+    ensures value { result
+        ≡ no_message_result (spelled (message_refusal fault).name)
+        (carried (message_refusal fault).number) }
+    ensures told { (words : List ℕ) → MessageFails words fault → TellsUnread words result }
 {
     no_message(message_number(fault), message_detail(fault))
 }

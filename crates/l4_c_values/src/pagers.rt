@@ -59,7 +59,8 @@ impl PagerHandle {
 
     /// Moves the table out of the handle, and leaves the handle empty. Returns `None` if the handle is empty.
     pub fn take(&mut self, alloc: Global) -> Option<Box<RegionPager>>
-        ensures taken { MatchOption result (self.old.value ≡ None) (λ table. self.old.value ≡ Some table.value) }
+        ensures taken { MatchOption result (self.old.value ≡ None)
+            (λ table. self.old.value ≡ Some table.value) }
         ensures empty { self.new.value ≡ None }
     {
         match replace(self, PagerHandle::empty()).into_loose(alloc) {

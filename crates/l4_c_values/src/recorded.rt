@@ -143,7 +143,12 @@ fn no_call(kind: u32) -> CallGiven
 
 /// Returns an Ipc as C gets it.
 fn ipc_given(call: &IpcCall) -> CallGiven
-    ensures { result ≡ record (no_call 1) { to = call.now.to.0; «from» = call.now.«from».0; timeouts = call.now.timeouts; acceptor = call.now.acceptor } }
+    ensures { result ≡ record (no_call 1) {
+      to = call.now.to.0;
+      «from» = call.now.«from».0;
+      timeouts = call.now.timeouts;
+      acceptor = call.now.acceptor;
+    } }
 {
     let mut given = no_call(1);
     given.to = call.to.0;

@@ -175,7 +175,16 @@ fn transfer_told(
     ended_count: u32,
     ended: [u32; 2],
 ) -> NextResult
-    ensures { result ≡ record { refusal = 0; kind = 1; thread = sender; receiver = receiver; outcome = outcome_number outcome; ended_count = ended_count; ended = ended; reserved = filled 2 [] } }
+    ensures { result ≡ record {
+      refusal = 0;
+      kind = 1;
+      thread = sender;
+      receiver = receiver;
+      outcome = outcome_number outcome;
+      ended_count = ended_count;
+      ended = ended;
+      reserved = filled 2 [];
+    } }
 {
     NextResult {
         refusal: 0,

@@ -58,7 +58,8 @@ impl Sigma0Handle {
 
     /// Moves the table out of the handle, and leaves the handle empty. Returns `None` if the handle is empty.
     pub fn take(&mut self, alloc: Global) -> Option<Box<Sigma0>>
-        ensures taken { MatchOption result (self.old.value ≡ None) (λ table. self.old.value ≡ Some table.value) }
+        ensures taken { MatchOption result (self.old.value ≡ None)
+            (λ table. self.old.value ≡ Some table.value) }
         ensures empty { self.new.value ≡ None }
     {
         match replace(self, Sigma0Handle::empty()).into_loose(alloc) {

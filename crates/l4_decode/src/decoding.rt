@@ -63,7 +63,8 @@ fn tell_words<W: Write>(
     requires kind { length kind.now ≤ 20 }
     requires there { places.0 + places.1 ≤ length words.now }
     requires short { length mark.now ≤ 2 }
-    ensures { Tells (W.contents writer.old) (W.contents writer.new) out.old out.new (words_lines mark.now kind.now words.now places.0 places.1) }
+    ensures { Tells (W.contents writer.old) (W.contents writer.new) out.old out.new
+        (words_lines mark.now kind.now words.now places.0 places.1) }
 {
     let (from, count) = places;
     for k in 0..count {
@@ -83,7 +84,8 @@ fn tell_items<W: Write>(
 )
     requires there { places.0 + 2 * places.1 ≤ length words.now }
     requires short { length mark.now ≤ 2 }
-    ensures { Tells (W.contents writer.old) (W.contents writer.new) out.old out.new (items_lines mark.now size words.now places.0 places.1) }
+    ensures { Tells (W.contents writer.old) (W.contents writer.new) out.old out.new
+        (items_lines mark.now size words.now places.0 places.1) }
 {
     let (from, count) = places;
     for k in 0..count {
@@ -96,7 +98,8 @@ fn tell_items<W: Write>(
 #[tactic(auto, unfolding(crate::specs::Decoded::each_line))]
 fn tell_each<W: Write>(words: &[u32], size: PageSize, mark: &[u8], out: &mut Output, writer: &mut W)
     requires { length mark.now ≤ 2 }
-    ensures { Tells (W.contents writer.old) (W.contents writer.new) out.old out.new (each_line mark.now size words.now) }
+    ensures { Tells (W.contents writer.old) (W.contents writer.new) out.old out.new
+        (each_line mark.now size words.now) }
 {
     if words.is_empty() {
         return;
@@ -140,7 +143,8 @@ fn tell_word<W: Write>(
     out: &mut Output,
     writer: &mut W,
 )
-    ensures { Tells (W.contents writer.old) (W.contents writer.new) out.old out.new (word_text size reading word) }
+    ensures { Tells (W.contents writer.old) (W.contents writer.new) out.old out.new
+        (word_text size reading word) }
 {
     match reading {
         Reading::Each => {
@@ -165,7 +169,8 @@ fn tell_alone<W: Write>(
     out: &mut Output,
     writer: &mut W,
 )
-    ensures { Tells (W.contents writer.old) (W.contents writer.new) out.old out.new (words_text size reading words.now) }
+    ensures { Tells (W.contents writer.old) (W.contents writer.new) out.old out.new
+        (words_text size reading words.now) }
 {
     for k in 0..words.len() {
         tell_word(words[k], reading, size, out, writer);

@@ -80,7 +80,8 @@ pub(crate) fn tell_item<W: Write>(
     writer: &mut W,
 )
     requires { length mark.now ≤ 2 }
-    ensures { Tells (W.contents writer.old) (W.contents writer.new) out.old out.new (mark.now ++ item_line size number words.0 words.1) }
+    ensures { Tells (W.contents writer.old) (W.contents writer.new) out.old out.new
+        (mark.now ++ item_line size number words.0 words.1) }
 {
     out.put_marked(writer, mark, &item_head(number, words.0, words.1));
     out.put(writer, &item_end(words.0, words.1, size));

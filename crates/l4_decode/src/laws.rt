@@ -13,15 +13,22 @@ ghost use Rattle.l4_decode.specs.declared.decoding.Reading.{Reading as AReading}
 
 /// Ghost function: gives a proof that the text of words is unique. It compiles to nothing.
 pub fn decoded_is_unique()
-    ensures { (size : APageSize) (reading : AReading) (words s t : List ℕ) → IsDecoded size reading words s → IsDecoded size reading words t → s ≡ t }
+    ensures { (size : APageSize) (reading : AReading) (words s t : List ℕ)
+        → IsDecoded size reading words s → IsDecoded size reading words t → s ≡ t }
 {}
 
 /// Ghost function: gives a proof that the text of words says how they are read: one word as an fpage or as a receive window, and two words
 /// as an item. It compiles to nothing.
 pub fn told_as_read()
-    ensures fpage { (size : APageSize) (word : ℕ) (fpage : AnFpage) → ReadsAs word fpage → fpage_text size word ≡ place_text size fpage ++ granted_text fpage }
-    ensures no_fpage { (size : APageSize) (word : ℕ) → IsMalformed word → fpage_text size word ≡ no_fpage_text (size_field word) }
-    ensures window { (size : APageSize) (word : ℕ) (window : AnFpage) → WindowReads word window → window_text size word ≡ taken_text size window }
-    ensures no_window { (size : APageSize) (word : ℕ) → IsBadWindow word → window_text size word ≡ refusal_text BadWindow }
-    ensures item { (size : APageSize) (first second : ℕ) (item : AnItem) → ItemReads first second item → item_text size first second ≡ read_item_text size (first % 2) item }
+    ensures fpage { (size : APageSize) (word : ℕ) (fpage : AnFpage) → ReadsAs word fpage
+        → fpage_text size word ≡ place_text size fpage ++ granted_text fpage }
+    ensures no_fpage { (size : APageSize) (word : ℕ) → IsMalformed word → fpage_text size word
+        ≡ no_fpage_text (size_field word) }
+    ensures window { (size : APageSize) (word : ℕ) (window : AnFpage) → WindowReads word window
+        → window_text size word ≡ taken_text size window }
+    ensures no_window { (size : APageSize) (word : ℕ) → IsBadWindow word → window_text size word
+        ≡ refusal_text BadWindow }
+    ensures item { (size : APageSize) (first second : ℕ) (item : AnItem)
+        → ItemReads first second item → item_text size first second
+        ≡ read_item_text size (first % 2) item }
 {}

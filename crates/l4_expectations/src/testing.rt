@@ -86,7 +86,8 @@ fn close(alloc: Global, due: Option<&Due>) -> Result<(), Failure>
 
 /// The text of the answers to a line. None if there is not enough memory.
 fn answered(alloc: Global, run: &mut ScriptRun, number: u64, line: &[u8]) -> Option<Vec<u8>>
-    ensures { IfSome result (λ text. Answered (session_of run.old) number line.now text.items (session_of run.new)) }
+    ensures { IfSome result
+        (λ text. Answered (session_of run.old) number line.now text.items (session_of run.new)) }
 {
     let mut teller = Teller::new(Vec::new(alloc), false, None);
     run.answer_line(number, Ending::Whole, line, &mut teller);
@@ -119,7 +120,8 @@ fn compare(tested: &mut Tested, number: u64, answer: &[u8]) -> Result<(), Failur
 
 /// Answers a line, after the answers to the line above it have been compared.
 fn answer(run: &mut ScriptRun, tested: &mut Tested, number: u64, line: &[u8]) -> Result<(), Failure>
-    ensures { AnswersNext (session_of run.old) tested.old number line.now (session_of run.new) tested.new result }
+    ensures { AnswersNext (session_of run.old) tested.old number line.now (session_of run.new)
+        tested.new result }
 {
     match close(tested.alloc, tested.due.as_ref()) {
         Ok(()) => {}
@@ -144,7 +146,8 @@ fn test_line(
     line: &[u8],
 ) -> Result<(), Failure>
     requires { tested.old.expectations < number }
-    ensures { TestsLine (session_of run.old) tested.old number line.now (session_of run.new) tested.new result }
+    ensures { TestsLine (session_of run.old) tested.old number line.now (session_of run.new)
+        tested.new result }
 {
     if !is_silent(line) {
         return answer(run, tested, number, line);
@@ -189,7 +192,8 @@ fn test_lines<R: Read>(
     reader: &mut R,
 ) -> Result<Passed, Failure>
     requires { IsFirst tested.old }
-    ensures { TestsLines (session_of run.old) (R.remaining reader.old) (R.remaining reader.new) result }
+    ensures { TestsLines (session_of run.old) (R.remaining reader.old) (R.remaining reader.new)
+        result }
 {
     let mut lines = LineReader::new();
     for number in 1..u64::MAX {

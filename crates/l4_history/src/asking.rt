@@ -125,7 +125,8 @@ fn put_answer<W: Write>(
     writer: &mut W,
 ) -> Presence
     ensures found { result ≡ presence answer.now }
-    ensures told { Tells (W.contents writer.old) (W.contents writer.new) out.old out.new (answer_text history.now.entries answer.now) }
+    ensures told { Tells (W.contents writer.old) (W.contents writer.new) out.old out.new
+        (answer_text history.now.entries answer.now) }
 {
     match answer {
         Answer::Unknown => {

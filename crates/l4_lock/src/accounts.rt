@@ -71,7 +71,9 @@ impl Accounts {
     ///
     /// Returns `AllocError` if an allocation fails; then nothing has changed.
     pub fn add(&mut self, alloc: Global, number: u32) -> Result<(), AllocError>
-        ensures { MatchResult result (λ _. self.new.items ≡ self.old.items ++ book number None [] ∷ []) (λ _. self.new ≡ self.old) }
+        ensures { MatchResult result
+            (λ _. self.new.items ≡ self.old.items ++ book number None [] ∷ [])
+            (λ _. self.new ≡ self.old) }
     {
         self.items.reserve(1)?;
         self.items.push_reserved(Account::new(alloc, number));
@@ -104,7 +106,8 @@ impl Accounts {
     pub fn cancel(&mut self, at: usize)
         requires at { at < length self.old.items }
         requires goes_on { (b : Book) → slice_get self.old.items at ≡ Some b → has_reply b ≡ false }
-        ensures { (b : Book) → slice_get self.old.items at ≡ Some b → self.new.items ≡ slice_set self.old.items at (record b { pending = None }) }
+        ensures { (b : Book) → slice_get self.old.items at ≡ Some b → self.new.items
+            ≡ slice_set self.old.items at (record b { pending = None }) }
     {
         self.items[at].cancel();
     }
@@ -125,8 +128,11 @@ impl Accounts {
     pub fn finish(&mut self, at: usize, seat: &mut Seat, own: Option<&Call>) -> Option<Reply>
         requires waiting { seat.old.waiting ≢ 0 }
         requires at { at < length self.old.items }
-        ensures some { IfSome result (λ reply. SettlesAt self.old.items self.new.items at seat.old seat.new (own_call (option_copied own.entry)) reply) }
-        ensures none { IfNone result (IsUnsettled self.old.items self.new.items at seat.old seat.new) }
+        ensures some { IfSome result
+            (λ reply. SettlesAt self.old.items self.new.items at seat.old seat.new
+            (own_call (option_copied own.entry)) reply) }
+        ensures none { IfNone result
+            (IsUnsettled self.old.items self.new.items at seat.old seat.new) }
     {
         let Some(reply) = settle(&mut self.items[at], seat, own) else {
             return None;

@@ -90,7 +90,8 @@ fn first_missing(accounts: &[Account], seats: &[Seat]) -> Option<u32>
 /// Returns whether the seat at this place was not given, or an earlier seat has its number.
 fn is_foreign(accounts: &[Account], seats: &[Seat], at: usize, number: u32) -> bool
     requires { at ≤ length seats.now }
-    ensures foreign { result ≡ true → ¬ (IsGiven accounts.now number) ⊎ HasSeat seats.now at number }
+    ensures foreign { result ≡ true → ¬ (IsGiven accounts.now number)
+        ⊎ HasSeat seats.now at number }
     ensures fine { result ≡ false → IsGiven accounts.now number × ¬ (HasSeat seats.now at number) }
 {
     if !has_account(accounts, number) {
@@ -125,8 +126,10 @@ fn agrees(account: &Account, seat: &Seat) -> bool
 
 /// Returns whether the account has the seat's number, but does not agree with the seat.
 fn disagrees(account: &Account, seat: &Seat) -> bool
-    ensures disagree { result ≡ true → (account.now.number ≡ seat.now.number) × ¬ (Agrees started_by account.now seat.now) }
-    ensures agree { result ≡ false → account.now.number ≡ seat.now.number → Agrees started_by account.now seat.now }
+    ensures disagree { result ≡ true → (account.now.number ≡ seat.now.number)
+        × ¬ (Agrees started_by account.now seat.now) }
+    ensures agree { result ≡ false → account.now.number ≡ seat.now.number
+        → Agrees started_by account.now seat.now }
 {
     if account.number() != seat.number() {
         return false;
@@ -162,7 +165,8 @@ fn first_wrong(accounts: &[Account], seats: &[Seat]) -> Option<u32>
 
 /// Returns the first mismatch.
 pub(crate) fn first_mismatch(accounts: &[Account], seats: &[Seat]) -> Option<Mismatch>
-    ensures { MatchOption result (AreBack started_by accounts.now seats.now) (Mismatches started_by accounts.now seats.now) }
+    ensures { MatchOption result (AreBack started_by accounts.now seats.now)
+        (Mismatches started_by accounts.now seats.now) }
 {
     if let Some(number) = first_missing(accounts, seats) {
         return Some(Mismatch::Missing(number));

@@ -150,8 +150,12 @@ impl Locked {
     /// Returns these refusals, tested in this order: `ReplyWaiting` (L3), `HistoryFull` (L1), `NoMemory` (L2), `Kernel` (L5), which is
     /// `UnknownThread` if the seat was not given by this lock. After a refusal, nothing has changed.
     pub fn enter(&mut self, seat: &mut Seat, call: Call) -> Result<Entered, LockRefusal>
-        ensures ok { IfOk result (λ e. Enters self.old self.new seat.old.number call × Tells self.old self.new seat.old seat.new call e) }
-        ensures err { IfErr result (λ e. Refuses self.old seat.old.number call e × (self.new ≡ self.old) × (seat.new ≡ seat.old)) }
+        ensures ok { IfOk result
+            (λ e. Enters self.old self.new seat.old.number call
+            × Tells self.old self.new seat.old seat.new call e) }
+        ensures err { IfErr result
+            (λ e. Refuses self.old seat.old.number call e × (self.new ≡ self.old)
+            × (seat.new ≡ seat.old)) }
     {
         let number = seat.number();
         let has_room = seat.wait_more();
@@ -174,7 +178,8 @@ impl Locked {
     fn admit(&mut self, number: u32, has_room: bool, call: &Call) -> Result<usize, LockRefusal>
         ensures ok { IfOk result (λ at. IsAdmitted self.old self.new number call.now at) }
         ensures room { IfOk result (λ _. has_room ≡ true) }
-        ensures err { IfErr result (λ e. Refuses self.old number call.now e × (self.new ≡ self.old)) }
+        ensures err { IfErr result
+            (λ e. Refuses self.old number call.now e × (self.new ≡ self.old)) }
     {
         if self.accounts.reply_waits(number) {
             return Err(LockRefusal::ReplyWaiting);
@@ -204,7 +209,8 @@ impl Locked {
 
     /// Takes the reply of a call that was left waiting and has since ended. Returns None if there is no such reply.
     pub fn take(&mut self, seat: &mut Seat) -> Option<Reply>
-        ensures some { IfSome result (λ reply. Takes self.old self.new seat.old seat.new (λ call. call) reply) }
+        ensures some { IfSome result
+            (λ reply. Takes self.old self.new seat.old seat.new (λ call. call) reply) }
         ensures none { IfNone result ((self.new ≡ self.old) × (seat.new ≡ seat.old)
             × ((seat.old.waiting ≡ 0) ⊎ (reply_waits self.old.books seat.old.number ≡ false))) }
     {
@@ -219,7 +225,8 @@ impl Locked {
 
     /// Does what `take` does. In the seat's receipt, the call is the one that the caller passes.
     pub(crate) fn take_for(&mut self, seat: &mut Seat, call: &Call) -> Option<Reply>
-        ensures some { IfSome result (λ reply. Takes self.old self.new seat.old seat.new (λ _. call.now) reply) }
+        ensures some { IfSome result
+            (λ reply. Takes self.old self.new seat.old seat.new (λ _. call.now) reply) }
         ensures none { IfNone result ((self.new ≡ self.old) × (seat.new ≡ seat.old)) }
     {
         if seat.waiting() == 0 {
@@ -236,9 +243,12 @@ impl Locked {
     ///
     /// Otherwise returns everything that was passed, and the first difference: X1, X2 or X3.
     pub fn close(self, seats: Vec<Seat>) -> Result<(History, Kernel), Unclosed>
-        ensures ok { IfOk result (λ r. (r.0.entries ≡ self.history) × (r.1 ≡ self.kernel) × Closes self seats.items) }
+        ensures ok { IfOk result
+            (λ r. (r.0.entries ≡ self.history) × (r.1 ≡ self.kernel) × Closes self seats.items) }
         ensures history { IfOk result (λ r. IsWholeRun self.frames r.0.entries r.1) }
-        ensures err { IfErr result (λ u. (u.locked ≡ self) × (u.seats.items ≡ seats.items) × Mismatches (by_history self.history) self.books seats.items u.mismatch) }
+        ensures err { IfErr result
+            (λ u. (u.locked ≡ self) × (u.seats.items ≡ seats.items)
+            × Mismatches (by_history self.history) self.books seats.items u.mismatch) }
     {
         if let Some(mismatch) = first_mismatch(self.accounts.as_slice(), seats.as_slice()) {
             return Err(Unclosed {

@@ -79,7 +79,8 @@ impl Receipts {
     pub(crate) fn push(&mut self, call: &Call, start: usize, ended: &Ended)
         requires { length self.old.items < self.old.room }
         ensures items { self.new.items ≡ self.old.items ++ receipt call.now start ended.now ∷ [] }
-        ensures room { (length self.new.items ≡ length self.old.items + 1) × (self.new.room ≡ self.old.room) }
+        ensures room { (length self.new.items ≡ length self.old.items + 1)
+            × (self.new.room ≡ self.old.room) }
     {
         let mut record = Record::new();
         write_receipt(&mut record, call, start, ended.entry, &ended.reply);

@@ -74,7 +74,8 @@ impl Seat {
     /// Counts one more call that is left waiting, and allocates room for its receipt. Returns false if the allocation fails; then nothing
     /// has changed.
     pub(crate) fn wait_more(&mut self) -> bool
-        ensures more { result ≡ true → self.new ≡ record self.old { waiting = self.old.waiting + 1 } }
+        ensures more { result ≡ true → self.new
+            ≡ record self.old { waiting = self.old.waiting + 1 } }
         ensures same { result ≡ false → self.new ≡ self.old }
     {
         let room = self.waiting + 1;
@@ -96,8 +97,10 @@ impl Seat {
     /// Adds the receipt of a call that was left waiting.
     fn receive(&mut self, call: &Call, start: usize, ended: &Ended)
         requires { self.old.waiting ≢ 0 }
-        ensures receipts { self.new.receipts ≡ self.old.receipts ++ receipt call.now start ended.now ∷ [] }
-        ensures waiting { (self.old.waiting ≡ self.new.waiting + 1) × (self.new.number ≡ self.old.number) }
+        ensures receipts { self.new.receipts ≡ self.old.receipts
+            ++ receipt call.now start ended.now ∷ [] }
+        ensures waiting { (self.old.waiting ≡ self.new.waiting + 1)
+            × (self.new.number ≡ self.old.number) }
     {
         self.waiting -= 1;
         self.receipts.push(call, start, ended);
@@ -117,7 +120,8 @@ fn last_reply(kernel: &Kernel, number: u32) -> Reply
 /// Records that the number's call, if it has not ended, ended in the entry at this place. Returns whether it has ended.
 fn end_call(pending: &mut Pending, kernel: &Kernel, number: u32, place: usize) -> bool
     ensures noted { pending.new ≡ noted_call kernel.now (number ∷ []) place number pending.old }
-    ensures more { result ≡ true → (has_ended pending.old ≡ false) × (has_ended pending.new ≡ true) }
+    ensures more { result ≡ true → (has_ended pending.old ≡ false)
+        × (has_ended pending.new ≡ true) }
     ensures same { result ≡ false → has_ended pending.new ≡ has_ended pending.old }
 {
     if pending.ended.is_some() {
@@ -253,8 +257,12 @@ fn known<'a>(own: Option<&'a Call>, call: &'a Call) -> &'a Call
 /// call that the seat passed.
 pub(crate) fn settle(account: &mut Account, seat: &mut Seat, own: Option<&Call>) -> Option<Reply>
     requires { seat.old.waiting ≢ 0 }
-    ensures some { IfSome result (λ reply. Settles account.old account.new seat.old seat.new (own_call (option_copied own.entry)) reply) }
-    ensures none { IfNone result ((account.new ≡ account.old) × (seat.new ≡ seat.old) × (option_map_or has_ended account.old.pending false ≡ false)) }
+    ensures some { IfSome result
+        (λ reply. Settles account.old account.new seat.old seat.new
+        (own_call (option_copied own.entry)) reply) }
+    ensures none { IfNone result
+        ((account.new ≡ account.old) × (seat.new ≡ seat.old)
+        × (option_map_or has_ended account.old.pending false ≡ false)) }
 {
     let Account {
         number: _,

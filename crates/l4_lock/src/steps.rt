@@ -40,7 +40,8 @@ fn note_all(accounts: &mut Accounts, kernel: &Kernel, ended: &[u32], place: usiz
 /// Records in each account the calls that ended in a next step, whose entry is at this place.
 fn note_next(accounts: &mut Accounts, kernel: &Kernel, next: NextStep, place: usize)
     requires { IsOnce (numbers accounts.old.items) }
-    ensures { accounts.new.items ≡ map (noted kernel.now (answer_of next).ended.items place) accounts.old.items }
+    ensures { accounts.new.items
+        ≡ map (noted kernel.now (answer_of next).ended.items place) accounts.old.items }
 {
     match next {
         NextStep::Transfer(sender, receiver, _, true) => {
@@ -76,9 +77,16 @@ pub fn begin(
     requires at { at < length accounts.old.items }
     requires once { IsOnce (numbers accounts.old.items) }
     requires book { IsReady accounts.old.items at number recorder.old.history recorder.old.kernel }
-    ensures ok { IfOk result (λ _. Begins number call.now recorder.old recorder.new accounts.old.items accounts.new.items at) }
-    ensures same { OnErr result ((recorder.new ≡ recorder.old) × (accounts.new.items ≡ accounts.old.items)) }
-    ensures err { IfErr result (λ e. (e ≡ NoMemory) ⊎ ((r : ARefused) × (e ≡ ByKernel r) × Steps recorder.old.kernel (Start number call.now) (Err r) recorder.old.kernel)) }
+    ensures ok { IfOk result
+        (λ _. Begins number call.now recorder.old recorder.new accounts.old.items accounts.new.items
+        at) }
+    ensures same { OnErr result
+        ((recorder.new ≡ recorder.old) × (accounts.new.items ≡ accounts.old.items)) }
+    ensures err { IfErr result
+        (λ e. (e ≡ NoMemory)
+        ⊎
+        ((r : ARefused) × (e ≡ ByKernel r)
+        × Steps recorder.old.kernel (Start number call.now) (Err r) recorder.old.kernel)) }
 {
     if accounts.is_pending(at) {
         return Err(LockRefusal::Kernel(Refused::Busy));

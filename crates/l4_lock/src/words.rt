@@ -11,7 +11,8 @@ use l4_journal::{
 
 /// Overwrites the record with the receipt of these parts.
 pub fn write_receipt(out: &mut Record, call: &Call, start: usize, end: usize, reply: &Reply)
-    ensures { receipt_at out.new.items ≡ Some (record { call = call.now; start = start; end = end; reply = reply.now }) }
+    ensures { receipt_at out.new.items
+        ≡ Some (record { call = call.now; start = start; end = end; reply = reply.now }) }
 {
     out.clear();
     put_reply(out, reply);

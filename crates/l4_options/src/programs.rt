@@ -167,7 +167,8 @@ pub fn command_words<R: AllocGlobal + Env + Eprint>(rt: &R) -> Result<Vec<String
 /// Returns the exit status: what `obey` returns for the words of the command line, or the status in place of words that could not be had.
 pub fn status_of<F: FnOnce(&[String]) -> u8>(words: Result<Vec<String>, u8>, obey: F) -> u8
     requires { F.IsAlwaysCallable obey }
-    ensures { MatchResult words (λ some. FnOnceReturnsAt F.FnOnce obey some.items result) (λ status. result ≡ status) }
+    ensures { MatchResult words (λ some. FnOnceReturnsAt F.FnOnce obey some.items result)
+        (λ status. result ≡ status) }
 {
     match words {
         Ok(words) => obey(words.as_slice()),

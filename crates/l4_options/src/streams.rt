@@ -43,7 +43,8 @@ impl<R: Read> WatchedReader<R> {
 
     /// Returns whether the input ended in a line without a newline.
     pub fn is_cut(&self) -> bool
-        ensures { result ≡ true → (self.now.at_end ≡ true) × IfSome self.now.last (λ byte. byte ≢ 10) }
+        ensures { result ≡ true → (self.now.at_end ≡ true)
+            × IfSome self.now.last (λ byte. byte ≢ 10) }
     {
         match self.last {
             Some(byte) => self.at_end && byte != b'\n',

@@ -75,7 +75,8 @@ fn has_frames(frames: u32) -> bool
 /// Returns the page size of a machine with this number of page bytes and frames. Refuses a number of bytes that no page has (B4), and then a
 /// number of frames that no machine has (K6).
 pub fn machine_of(bytes: u32, frames: u32) -> Result<PageSize, u32>
-    ensures { MatchResult result (λ size. (bytes ≡ page_bytes size) × HasFrames frames) (λ refusal. IsNoMachine bytes frames refusal) }
+    ensures { MatchResult result (λ size. (bytes ≡ page_bytes size) × HasFrames frames)
+        (λ refusal. IsNoMachine bytes frames refusal) }
 {
     let Some(size) = size_of(bytes) else {
         return Err(NO_SUCH_SIZE);

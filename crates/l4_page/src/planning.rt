@@ -29,7 +29,9 @@ pub extern "C" fn page_plan(
     page_bytes: u32,
     out: &mut [u8],
 ) -> Told
-    ensures { InBytes page_bytes (λ size. TellsPlan size (region_of given.now) out.old out.new result) (TellsNothing (codes "B4") out.old out.new result) }
+    ensures { InBytes page_bytes
+        (λ size. TellsPlan size (region_of given.now) out.old out.new result)
+        (TellsNothing (codes "B4") out.old out.new result) }
 {
     match size_of(page_bytes) {
         Some(size) => planned(alloc, given, size, out),
@@ -58,7 +60,9 @@ pub extern "C" fn page_check(
     claim: &[u8],
     out: &mut [u8],
 ) -> Told
-    ensures { InBytes page_bytes (λ size. TellsCheck size (region_of given.now) claim.now out.old out.new result) (TellsNothing (codes "B4") out.old out.new result) }
+    ensures { InBytes page_bytes
+        (λ size. TellsCheck size (region_of given.now) claim.now out.old out.new result)
+        (TellsNothing (codes "B4") out.old out.new result) }
 {
     match size_of(page_bytes) {
         Some(size) => judged(alloc, given, size, claim, out),

@@ -44,7 +44,9 @@ pub extern "C" fn page_run(
     page_bytes: u32,
     out: &mut [u8],
 ) -> Told
-    ensures { InMachine page_bytes frames (λ size. TellsAnswers frames size false script.now out.old out.new result) (λ code. TellsNothing code out.old out.new result) }
+    ensures { InMachine page_bytes frames
+        (λ size. TellsAnswers frames size false script.now out.old out.new result)
+        (λ code. TellsNothing code out.old out.new result) }
 {
     match machine_of(page_bytes, frames) {
         Ok(size) => answered(alloc, script, frames, size, false, out),
@@ -61,7 +63,9 @@ pub extern "C" fn page_explain(
     page_bytes: u32,
     out: &mut [u8],
 ) -> Told
-    ensures { InMachine page_bytes frames (λ size. TellsAnswers frames size true script.now out.old out.new result) (λ code. TellsNothing code out.old out.new result) }
+    ensures { InMachine page_bytes frames
+        (λ size. TellsAnswers frames size true script.now out.old out.new result)
+        (λ code. TellsNothing code out.old out.new result) }
 {
     match machine_of(page_bytes, frames) {
         Ok(size) => answered(alloc, script, frames, size, true, out),
@@ -104,7 +108,9 @@ pub extern "C" fn page_history(
     answers: bool,
     out: &mut [u8],
 ) -> Told
-    ensures { InMachine page_bytes frames (λ size. TellsHistoryOf frames size answers script.now out.old out.new result) (λ code. TellsNothing code out.old out.new result) }
+    ensures { InMachine page_bytes frames
+        (λ size. TellsHistoryOf frames size answers script.now out.old out.new result)
+        (λ code. TellsNothing code out.old out.new result) }
 {
     match machine_of(page_bytes, frames) {
         Ok(size) => recorded(alloc, script, frames, size, answers, out),

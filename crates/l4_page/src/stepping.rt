@@ -33,7 +33,9 @@ pub extern "C" fn page_steps(
     page_bytes: u32,
     out: &mut [u8],
 ) -> Told
-    ensures { InMachine page_bytes frames (λ size. TellsList frames size list.now out.old out.new result) (λ code. TellsNothing code out.old out.new result) }
+    ensures { InMachine page_bytes frames
+        (λ size. TellsList frames size list.now out.old out.new result)
+        (λ code. TellsNothing code out.old out.new result) }
 {
     match machine_of(page_bytes, frames) {
         Ok(size) => stepped(alloc, list, frames, size, out),

@@ -56,7 +56,10 @@ pub extern "C" fn page_why(
     asked: &PageGiven,
     out: &mut [u8],
 ) -> Told
-    ensures { InMachine page_bytes frames (λ size. TellsWhyOf frames size (record { thread = asked.now.thread; page = asked.now.page }) script.now out.old out.new result) (λ code. TellsNothing code out.old out.new result) }
+    ensures { InMachine page_bytes frames
+        (λ size. TellsWhyOf frames size
+        (record { thread = asked.now.thread; page = asked.now.page }) script.now out.old out.new
+        result) (λ code. TellsNothing code out.old out.new result) }
 {
     match machine_of(page_bytes, frames) {
         Ok(size) => traced(

@@ -44,7 +44,9 @@ pub extern "C" fn page_decode(
     page_bytes: u32,
     out: &mut [u8],
 ) -> Told
-    ensures { InBytes page_bytes (λ size. TellsWords size (reading_of reading) words.now out.old out.new result) (TellsNothing (codes "B4") out.old out.new result) }
+    ensures { InBytes page_bytes
+        (λ size. TellsWords size (reading_of reading) words.now out.old out.new result)
+        (TellsNothing (codes "B4") out.old out.new result) }
 {
     match size_of(page_bytes) {
         Some(size) => decoded(alloc, words, reading, size, out),

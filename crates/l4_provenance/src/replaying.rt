@@ -118,7 +118,9 @@ pub fn last_arrival(
 /// answer than the history says. After either, the steps before that one have been executed with the history's
 /// answers, then that step with its own answer, and no later step.
 pub fn replay(kernel: &mut Kernel, history: &History) -> Result<(), ReplayFault>
-    ensures ok { IfOk result (λ _. Run kernel.old (steps_of history.now.entries) (answers_of history.now.entries) kernel.new) }
+    ensures ok { IfOk result
+        (λ _. Run kernel.old (steps_of history.now.entries) (answers_of history.now.entries)
+        kernel.new) }
     ensures err { IfErr result (StopsIn kernel.old history.now.entries kernel.new) }
 {
     kernel.law_forest();

@@ -100,7 +100,8 @@ fn first_link(
 
 /// Returns the link of the step to the place, if its message has an item that moves a page there.
 pub fn link_to(kernel: &Kernel, number: usize, step: &Step, place: Place) -> Option<ChainLink>
-    ensures { MatchOption result (¬ (IsWritten kernel.now step.now place)) (λ l. IsCarried kernel.now step.now l × (l.target ≡ place) × (l.entry ≡ number)) }
+    ensures { MatchOption result (¬ (IsWritten kernel.now step.now place))
+        (λ l. IsCarried kernel.now step.now l × (l.target ≡ place) × (l.entry ≡ number)) }
 {
     let Some(letter) = letter_of(kernel, step) else {
         return None;

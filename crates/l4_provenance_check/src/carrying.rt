@@ -68,7 +68,9 @@ fn has_rights(item: &Item, shows: Rights, link: &ChainLink) -> bool
 
 /// Returns whether this item moves the link's page, with the link's rights.
 fn is_carried_by(kernel: &Kernel, sides: &Sides<'_>, item: &Item, link: &ChainLink) -> bool
-    ensures { IsTrue result ↔ IsCarriedBy kernel.now.size kernel.now.mappings sides.now.«from» sides.now.to sides.now.window item.now link.now }
+    ensures { IsTrue result
+        ↔ IsCarriedBy kernel.now.size kernel.now.mappings sides.now.«from» sides.now.to
+        sides.now.window item.now link.now }
 {
     if link.source.space != sides.from {
         return false;
@@ -90,7 +92,9 @@ fn is_carried_by(kernel: &Kernel, sides: &Sides<'_>, item: &Item, link: &ChainLi
 
 /// Returns whether one of the items moves the link's page.
 fn any_carries(kernel: &Kernel, sides: &Sides<'_>, link: &ChainLink) -> bool
-    ensures { IsTrue result ↔ AnyCarries kernel.now.size kernel.now.mappings sides.now.«from» sides.now.to sides.now.items.now sides.now.window link.now }
+    ensures { IsTrue result
+        ↔ AnyCarries kernel.now.size kernel.now.mappings sides.now.«from» sides.now.to
+        sides.now.items.now sides.now.window link.now }
 {
     for item in sides.items {
         if is_carried_by(kernel, sides, item, link) {
@@ -112,7 +116,9 @@ pub fn is_carried(kernel: &Kernel, step: &Step, link: &ChainLink) -> bool
 
 /// Returns whether this item moves a page to the place.
 fn is_written_by(kernel: &Kernel, sides: &Sides<'_>, item: &Item, place: Place) -> bool
-    ensures { IsTrue result ↔ IsWrittenBy kernel.now.size kernel.now.mappings sides.now.«from» sides.now.to sides.now.window item.now place }
+    ensures { IsTrue result
+        ↔ IsWrittenBy kernel.now.size kernel.now.mappings sides.now.«from» sides.now.to
+        sides.now.window item.now place }
 {
     let Some(pages) = item_moves(item, &sides.window, kernel.page_size()) else {
         return false;
@@ -132,7 +138,9 @@ fn is_written_by(kernel: &Kernel, sides: &Sides<'_>, item: &Item, place: Place) 
 
 /// Returns whether one of the items moves a page to the place.
 fn any_writes(kernel: &Kernel, sides: &Sides<'_>, place: Place) -> bool
-    ensures { IsTrue result ↔ AnyWrites kernel.now.size kernel.now.mappings sides.now.«from» sides.now.to sides.now.items.now sides.now.window place }
+    ensures { IsTrue result
+        ↔ AnyWrites kernel.now.size kernel.now.mappings sides.now.«from» sides.now.to
+        sides.now.items.now sides.now.window place }
 {
     for item in sides.items {
         if is_written_by(kernel, sides, item, place) {

@@ -31,9 +31,13 @@ fn leads(
     place: Place,
     links: &[ChainLink],
 ) -> Result<bool, ReplayFault>
-    ensures yes { IfOk result (λ yes. IsTrue yes → Walked kernel.old history.now.entries place links.now) }
-    ensures only { IfOk result (λ yes. IsWalked kernel.old history.now.entries place links.now → IsTrue yes) }
-    ensures run { IfOk result (λ _. Run kernel.old (steps_of history.now.entries) (answers_of history.now.entries) kernel.new) }
+    ensures yes { IfOk result
+        (λ yes. IsTrue yes → Walked kernel.old history.now.entries place links.now) }
+    ensures only { IfOk result
+        (λ yes. IsWalked kernel.old history.now.entries place links.now → IsTrue yes) }
+    ensures run { IfOk result
+        (λ _. Run kernel.old (steps_of history.now.entries) (answers_of history.now.entries)
+        kernel.new) }
     ensures err { IfErr result (StopsIn kernel.old history.now.entries kernel.new) }
 {
     let mut number = 0usize;

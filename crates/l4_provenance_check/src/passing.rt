@@ -66,7 +66,9 @@ fn leaves_alone(
     entry: &Entry,
     place: Place,
 ) -> Result<bool, ReplayFault>
-    ensures ok { IfOk result (λ yes. Does kernel.old entry.now kernel.new × (IsTrue yes ↔ LeavesAlone (entry_event kernel.old entry.now kernel.new) place)) }
+    ensures ok { IfOk result
+        (λ yes. Does kernel.old entry.now kernel.new
+        × (IsTrue yes ↔ LeavesAlone (entry_event kernel.old entry.now kernel.new) place)) }
     ensures err { IfErr result (FailsAt number kernel.old entry.now kernel.new) }
 {
     let before = kernel.mapping(place.space, place.page).is_some();
@@ -95,7 +97,9 @@ fn brings(
     entry: &Entry,
     link: &ChainLink,
 ) -> Result<bool, ReplayFault>
-    ensures ok { IfOk result (λ yes. Does kernel.old entry.now kernel.new × (IsTrue yes ↔ BringsTold kernel.old entry.now kernel.new link.now)) }
+    ensures ok { IfOk result
+        (λ yes. Does kernel.old entry.now kernel.new
+        × (IsTrue yes ↔ BringsTold kernel.old entry.now kernel.new link.now)) }
     ensures err { IfErr result (FailsAt number kernel.old entry.now kernel.new) }
 {
     let done = is_done(entry);
@@ -111,7 +115,8 @@ fn brings(
 
 /// Returns the first link and the others, if the first is the one of the entry with this number.
 fn due(left: &[ChainLink], number: usize) -> Option<(&ChainLink, &[ChainLink])>
-    ensures { MatchOption result (IsNotDue number left.now) (λ d. (left.now ≡ d.0.now ∷ d.1.now) × (d.0.now.entry ≡ number)) }
+    ensures { MatchOption result (IsNotDue number left.now)
+        (λ d. (left.now ≡ d.0.now ∷ d.1.now) × (d.0.now.entry ≡ number)) }
 {
     match left {
         [] => None,

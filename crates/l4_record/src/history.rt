@@ -105,7 +105,8 @@ impl History {
     pub(crate) fn push_next(&mut self, seat: u32, next: NextStep)
         requires { length self.old.entries < self.old.room }
         ensures entries { self.new.entries ≡ self.old.entries ++ next_entry seat next ∷ [] }
-        ensures room { (length self.new.entries ≡ length self.old.entries + 1) × (self.new.room ≡ self.old.room) }
+        ensures room { (length self.new.entries ≡ length self.old.entries + 1)
+            × (self.new.room ≡ self.old.room) }
     {
         match next {
             NextStep::Transfer(sender, receiver, outcome, ends) => {
@@ -121,8 +122,10 @@ impl History {
     /// Appends the entry of the start of a call. There must be room for it.
     pub(crate) fn push_start(&mut self, number: u32, call: &Call, answer: &Answer)
         requires { length self.old.entries < self.old.room }
-        ensures entries { self.new.entries ≡ self.old.entries ++ start_entry number call.now answer.now ∷ [] }
-        ensures room { (length self.new.entries ≡ length self.old.entries + 1) × (self.new.room ≡ self.old.room) }
+        ensures entries { self.new.entries ≡ self.old.entries
+            ++ start_entry number call.now answer.now ∷ [] }
+        ensures room { (length self.new.entries ≡ length self.old.entries + 1)
+            × (self.new.room ≡ self.old.room) }
     {
         match call {
             Call::Ipc(ipc) if ends_none(answer) => self.push_ipc(number, ipc),
@@ -135,8 +138,10 @@ impl History {
     #[inline(always)]
     fn push_ipc(&mut self, number: u32, call: &IpcCall)
         requires { length self.old.entries < self.old.room }
-        ensures entries { self.new.entries ≡ self.old.entries ++ start_entry number (AnIpc call.now) (own_answer false 0) ∷ [] }
-        ensures room { (length self.new.entries ≡ length self.old.entries + 1) × (self.new.room ≡ self.old.room) }
+        ensures entries { self.new.entries ≡ self.old.entries
+            ++ start_entry number (AnIpc call.now) (own_answer false 0) ∷ [] }
+        ensures room { (length self.new.entries ≡ length self.old.entries + 1)
+            × (self.new.room ≡ self.old.room) }
     {
         let words = [
             IPC,
@@ -153,8 +158,10 @@ impl History {
     #[inline(always)]
     fn push_fault(&mut self, number: u32, call: &FaultCall)
         requires { length self.old.entries < self.old.room }
-        ensures entries { self.new.entries ≡ self.old.entries ++ start_entry number (AFault call.now) (own_answer false 0) ∷ [] }
-        ensures room { (length self.new.entries ≡ length self.old.entries + 1) × (self.new.room ≡ self.old.room) }
+        ensures entries { self.new.entries ≡ self.old.entries
+            ++ start_entry number (AFault call.now) (own_answer false 0) ∷ [] }
+        ensures room { (length self.new.entries ≡ length self.old.entries + 1)
+            × (self.new.room ≡ self.old.room) }
     {
         let access = u32::from(call.access.bits());
         let words = [FAULT, number, call.address, call.ip, access];
@@ -166,8 +173,10 @@ impl History {
     #[inline(never)]
     fn push_answered(&mut self, number: u32, call: &Call, answer: &Answer)
         requires { length self.old.entries < self.old.room }
-        ensures entries { self.new.entries ≡ self.old.entries ++ start_entry number call.now answer.now ∷ [] }
-        ensures room { (length self.new.entries ≡ length self.old.entries + 1) × (self.new.room ≡ self.old.room) }
+        ensures entries { self.new.entries ≡ self.old.entries
+            ++ start_entry number call.now answer.now ∷ [] }
+        ensures room { (length self.new.entries ≡ length self.old.entries + 1)
+            × (self.new.room ≡ self.old.room) }
     {
         write_start(&mut self.record, number, call, answer);
         self.entries.push(&[], self.record.as_slice());

@@ -147,7 +147,8 @@ impl Recorder {
         appended: &mut Appended,
     ) -> Result<(), RecordRefusal>
         ensures ok { IfOk result (λ _. Enters self.old self.new number call.now appended.new) }
-        ensures err { IfErr result (λ e. Refuses self.old number call.now e × (self.new ≡ self.old)) }
+        ensures err { IfErr result
+            (λ e. Refuses self.old number call.now e × (self.new ≡ self.old)) }
     {
         if self.history.len() > LAST_START {
             return Err(RecordRefusal::HistoryFull);

@@ -95,7 +95,8 @@ impl SeatedKernel {
     /// Returns whether a call of the number's thread may be entered now: the number has its seat, the history has room for the call, and
     /// the thread runs.
     pub fn may_enter(&self, number: u32) -> bool
-        ensures { IsTrue result ↔ MayEnter self.now.machine (length self.now.history) self.now.numbers number }
+        ensures { IsTrue result
+            ↔ MayEnter self.now.machine (length self.now.history) self.now.numbers number }
     {
         if !self.has_seat(number) {
             return false;
@@ -118,7 +119,9 @@ impl SeatedKernel {
         appended: &mut Appended,
     ) -> Result<(), RecordRefusal>
         ensures ok { IfOk result (λ _. Enters self.old self.new number call.now appended.new) }
-        ensures err { IfErr result (λ e. Refuses self.old.machine (length self.old.history) self.old.numbers number call.now e × (self.new ≡ self.old)) }
+        ensures err { IfErr result
+            (λ e. Refuses self.old.machine (length self.old.history) self.old.numbers number
+            call.now e × (self.new ≡ self.old)) }
     {
         if !self.has_seat(number) {
             return Err(RecordRefusal::Kernel(Refused::UnknownThread));

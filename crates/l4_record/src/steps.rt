@@ -13,7 +13,8 @@ use l4_ipc::{Call, Kernel, Refused};
 /// Executes the next step until no step is enabled, and overwrites `next` with these steps.
 fn follow(kernel: &mut Kernel, history: &mut History, number: u32, next: &mut NextSteps)
     requires { length history.old.entries + max_threads ≤ history.old.room }
-    ensures went { Went number kernel.old kernel.new history.old.entries history.new.entries next.new.items }
+    ensures went { Went number kernel.old kernel.new history.old.entries history.new.entries
+        next.new.items }
     ensures idle { IsIdle kernel.new }
 {
     kernel.law_consistent();
@@ -34,9 +35,12 @@ pub fn begin(
     appended: &mut Appended,
 ) -> Result<(), Refused>
     requires { length history.old.entries + max_steps + 1 ≤ history.old.room }
-    ensures ok { IfOk result (λ _. Begins number call.now kernel.old kernel.new history.old.entries history.new.entries appended.new) }
+    ensures ok { IfOk result
+        (λ _. Begins number call.now kernel.old kernel.new history.old.entries history.new.entries
+        appended.new) }
     ensures err { IfErr result (λ e. Steps kernel.old (Start number call.now) (Err e) kernel.old) }
-    ensures same { OnErr result ((kernel.new ≡ kernel.old) × (history.new.entries ≡ history.old.entries)) }
+    ensures same { OnErr result
+        ((kernel.new ≡ kernel.old) × (history.new.entries ≡ history.old.entries)) }
 {
     match kernel.start(number, call, &mut appended.start) {
         Ok(()) => {

@@ -22,7 +22,8 @@ const ANSWERED: u32 = 8;
 
 /// Overwrites the record with the entry of the start of a call.
 pub fn write_start(out: &mut Record, number: u32, call: &Call, answer: &Answer)
-    ensures { entry_at out.new.items ≡ Some (record { seat = number; step = Start number call.now; answer = answer.now }) }
+    ensures { entry_at out.new.items
+        ≡ Some (record { seat = number; step = Start number call.now; answer = answer.now }) }
 {
     out.clear();
     out.push(ANSWERED);

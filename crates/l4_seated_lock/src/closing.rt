@@ -56,8 +56,10 @@ fn first_missing(seats: &[Seat], numbers: &[u32]) -> Option<u32>
 /// Returns whether no seat has the number at this place, or an earlier place has it.
 fn is_foreign(seats: &[Seat], numbers: &[u32], at: usize, number: u32) -> bool
     requires { at ≤ length numbers.now }
-    ensures foreign { result ≡ true → ¬ (HasSeat seats.now (length seats.now) number) ⊎ HasNumber numbers.now at number }
-    ensures fine { result ≡ false → HasSeat seats.now (length seats.now) number × ¬ (HasNumber numbers.now at number) }
+    ensures foreign { result ≡ true → ¬ (HasSeat seats.now (length seats.now) number)
+        ⊎ HasNumber numbers.now at number }
+    ensures fine { result ≡ false → HasSeat seats.now (length seats.now) number
+        × ¬ (HasNumber numbers.now at number) }
 {
     let Some(_) = position(seats, number) else {
         return true;

@@ -7,7 +7,8 @@ use l4_lock::Seat;
 
 /// Returns the index of the seat of a number.
 pub(crate) fn position(seats: &[Seat], number: u32) -> Option<usize>
-    ensures { MatchOption result (¬ (HasSeat seats.now (length seats.now) number)) (IsFirst seats.now number) }
+    ensures { MatchOption result (¬ (HasSeat seats.now (length seats.now) number))
+        (IsFirst seats.now number) }
 {
     for i in 0..seats.len() {
         if seats[i].number() == number {

@@ -164,7 +164,8 @@ impl SeatedLock {
     /// `None` if no reply waits.
     pub fn take(&mut self, number: u32) -> Option<Reply>
         ensures some { IfSome result (TakesBySeat self.old self.new number) }
-        ensures none { IfNone result ((self.new ≡ self.old) × (reply_waits self.old.books number ≡ false)) }
+        ensures none { IfNone result
+            ((self.new ≡ self.old) × (reply_waits self.old.books number ≡ false)) }
     {
         let Some(at) = position(self.seats.as_slice(), number) else {
             return None;

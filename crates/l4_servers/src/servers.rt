@@ -156,7 +156,8 @@ impl Servers {
 
     /// Returns the served thread that acts next: the running one with the least number, or `None`.
     pub fn first_ready(&self, kernel: &Kernel) -> Option<u32>
-        ensures { MatchOption result (NoneReady kernel.now.threads self.now) (IsFirstReady kernel.now.threads self.now) }
+        ensures { MatchOption result (NoneReady kernel.now.threads self.now)
+            (IsFirstReady kernel.now.threads self.now) }
     {
         for thread in self.served.as_slice() {
             if kernel.reply(*thread).is_some() {
@@ -185,7 +186,8 @@ impl Servers {
         sender: ThreadId,
         message: &Message,
     ) -> Message
-        ensures answers { Answers kernel.now.threads self.old thread sender message.now result self.new }
+        ensures answers { Answers kernel.now.threads self.old thread sender message.now result
+            self.new }
         ensures writable { CanBeWritten result }
     {
         if thread == SIGMA0 {
@@ -196,7 +198,8 @@ impl Servers {
 
     /// Returns the answer to a brief message from the regions of a thread: the send base and the fpage of its map item.
     fn brief_region_answer(&mut self, thread: u32, brief: &BriefMessage) -> (u32, Fpage)
-        ensures answers { AnswersByRegion (regions_of self.old thread) (brief_message brief.now) (one_item (Map result.0 result.1)) }
+        ensures answers { AnswersByRegion (regions_of self.old thread) (brief_message brief.now)
+            (one_item (Map result.0 result.1)) }
         ensures others { self.new ≡ self.old }
         ensures whole { result.0 % base_unit ≡ 0 }
     {
@@ -213,7 +216,8 @@ impl Servers {
 
     /// Returns sigma0's answer to a brief message from a space: the send base and the fpage of its map item.
     fn brief_frame_answer(&mut self, from_space: u64, brief: &BriefMessage) -> (u32, Fpage)
-        ensures answers { GrantsFrames self.old.owners from_space (brief_message brief.now) (one_item (Map result.0 result.1)) self.new.owners }
+        ensures answers { GrantsFrames self.old.owners from_space (brief_message brief.now)
+            (one_item (Map result.0 result.1)) self.new.owners }
         ensures others { self.new ≡ servers self.new.owners self.old.tables self.old.served }
         ensures whole { result.0 % base_unit ≡ 0 }
     {
@@ -234,7 +238,8 @@ impl Servers {
         sender: ThreadId,
         brief: &BriefMessage,
     ) -> (u32, Fpage)
-        ensures answers { Answers kernel.now.threads self.old thread sender (brief_message brief.now) (one_item (Map result.0 result.1)) self.new }
+        ensures answers { Answers kernel.now.threads self.old thread sender
+            (brief_message brief.now) (one_item (Map result.0 result.1)) self.new }
         ensures whole { result.0 % base_unit ≡ 0 }
     {
         if thread == SIGMA0 {

@@ -30,7 +30,8 @@ use l4_text::Ending;
 /// buffer is then unspecified.
 #[inline(always)]
 fn read_receive(line: &[u8], call: &mut Call) -> Option<u32>
-    ensures { option_map (λ n. Enter n call.new) result ≡ asked (codes "recv") (tokens_of line.now) }
+    ensures { option_map (λ n. Enter n call.new) result
+        ≡ asked (codes "recv") (tokens_of line.now) }
 {
     let (number, from, window) = receive_parts(line)?;
     make_receive(call, from, window);
@@ -40,7 +41,8 @@ fn read_receive(line: &[u8], call: &mut Call) -> Option<u32>
 /// Writes the call of a `send` line, with its words, into the buffer, as `read_receive` does.
 #[inline(always)]
 fn read_send(line: &[u8], call: &mut Call) -> Option<u32>
-    ensures { option_map (λ n. Enter n call.new) result ≡ asked (codes "send") (tokens_of line.now) }
+    ensures { option_map (λ n. Enter n call.new) result
+        ≡ asked (codes "send") (tokens_of line.now) }
 {
     make_ipc(call);
     if let Call::Ipc(exchange) = call {
@@ -68,7 +70,8 @@ fn read_ipc(line: &[u8], call: &mut Call) -> Option<u32>
 /// Writes the call of a `fault` line into the buffer, as `read_receive` does.
 #[inline(always)]
 fn read_fault(line: &[u8], call: &mut Call) -> Option<u32>
-    ensures { option_map (λ n. Enter n call.new) result ≡ asked (codes "fault") (tokens_of line.now) }
+    ensures { option_map (λ n. Enter n call.new) result
+        ≡ asked (codes "fault") (tokens_of line.now) }
 {
     let (number, fault) = fault_parts(line)?;
     make_fault(call, fault);

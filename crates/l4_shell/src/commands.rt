@@ -102,7 +102,8 @@ fn delete(line: &[u8]) -> Option<Request<'static>>
 /// `N FROM WINDOW`
 #[inline(always)]
 pub(crate) fn receive_parts(line: &[u8]) -> Option<(u32, Partner, u32)>
-    ensures { option_map (λ p. Enter p.0 (receive_call p.1 p.2)) result ≡ asked (codes "recv") (tokens_of line.now) }
+    ensures { option_map (λ p. Enter p.0 (receive_call p.1 p.2)) result
+        ≡ asked (codes "recv") (tokens_of line.now) }
 {
     let (number, rest) = next_thread(line)?;
     let (from, rest) = next_partner(rest)?;
@@ -169,7 +170,8 @@ pub(crate) fn send_parts(
     line: &[u8],
     words: &mut ArrayVec<u32, MAX_WORDS>,
 ) -> Option<(u32, Partner)>
-    ensures { option_map (λ p. Enter p.0 (send_call p.1 words.new.items)) result ≡ asked (codes "send") (tokens_of line.now) }
+    ensures { option_map (λ p. Enter p.0 (send_call p.1 words.new.items)) result
+        ≡ asked (codes "send") (tokens_of line.now) }
 {
     let (number, rest) = next_thread(line)?;
     let (to, rest) = next_partner(rest)?;
@@ -204,7 +206,8 @@ pub(crate) fn ipc_parts(
     line: &[u8],
     words: &mut ArrayVec<u32, MAX_WORDS>,
 ) -> Option<(u32, Partner, Partner, u32, u32)>
-    ensures { option_map (λ p. Enter p.0 (ipc_call p.1 p.2 p.3 p.4 words.new.items)) result ≡ asked (codes "ipc") (tokens_of line.now) }
+    ensures { option_map (λ p. Enter p.0 (ipc_call p.1 p.2 p.3 p.4 words.new.items)) result
+        ≡ asked (codes "ipc") (tokens_of line.now) }
 {
     let (number, rest) = next_thread(line)?;
     let (to, rest) = next_partner(rest)?;
@@ -229,7 +232,8 @@ fn unmap<'a>(line: &[u8], call: &'a mut Call) -> Option<Request<'a>>
 /// `N ADDRESS IP RIGHTS`
 #[inline(always)]
 pub(crate) fn fault_parts(line: &[u8]) -> Option<(u32, FaultCall)>
-    ensures { option_map (λ p. Enter p.0 (Faults p.1)) result ≡ asked (codes "fault") (tokens_of line.now) }
+    ensures { option_map (λ p. Enter p.0 (Faults p.1)) result
+        ≡ asked (codes "fault") (tokens_of line.now) }
 {
     let (number, rest) = next_thread(line)?;
     let (address, rest) = next_word(rest)?;

@@ -21,8 +21,10 @@ pub(crate) enum Which {
 
 /// Returns the words of the only message of a plan, or the number of its messages.
 fn only_words(plan: &Plan) -> Result<ArrayVec<u32, MAX_WORDS>, PlanRefusal>
-    ensures ok { (size : APageSize) (r : ARegion) → IsShortest size r plan.now → IfOk result (λ words. ArePlanWords size r Which.Only words.items) }
-    ensures err { (size : APageSize) (r : ARegion) → IsShortest size r plan.now → IfErr result (HasNoPlan size r Which.Only) }
+    ensures ok { (size : APageSize) (r : ARegion) → IsShortest size r plan.now
+        → IfOk result (λ words. ArePlanWords size r Which.Only words.items) }
+    ensures err { (size : APageSize) (r : ARegion) → IsShortest size r plan.now
+        → IfErr result (HasNoPlan size r Which.Only) }
 {
     match plan.only() {
         Ok(message) => Ok(message.write()),
@@ -32,8 +34,10 @@ fn only_words(plan: &Plan) -> Result<ArrayVec<u32, MAX_WORDS>, PlanRefusal>
 
 /// Returns the words of the message with this number of a plan, or the number of its messages.
 fn part_words(plan: &Plan, number: u32) -> Result<ArrayVec<u32, MAX_WORDS>, PlanRefusal>
-    ensures ok { (size : APageSize) (r : ARegion) → IsShortest size r plan.now → IfOk result (λ words. ArePlanWords size r (Which.Message number) words.items) }
-    ensures err { (size : APageSize) (r : ARegion) → IsShortest size r plan.now → IfErr result (HasNoPlan size r (Which.Message number)) }
+    ensures ok { (size : APageSize) (r : ARegion) → IsShortest size r plan.now
+        → IfOk result (λ words. ArePlanWords size r (Which.Message number) words.items) }
+    ensures err { (size : APageSize) (r : ARegion) → IsShortest size r plan.now
+        → IfErr result (HasNoPlan size r (Which.Message number)) }
 {
     match plan.message(number) {
         Ok(message) => Ok(message.write()),
@@ -43,8 +47,10 @@ fn part_words(plan: &Plan, number: u32) -> Result<ArrayVec<u32, MAX_WORDS>, Plan
 
 /// Returns the words of this message of a plan, or the number of its messages.
 fn message_words(plan: &Plan, which: Which) -> Result<ArrayVec<u32, MAX_WORDS>, PlanRefusal>
-    ensures ok { (size : APageSize) (r : ARegion) → IsShortest size r plan.now → IfOk result (λ words. ArePlanWords size r which words.items) }
-    ensures err { (size : APageSize) (r : ARegion) → IsShortest size r plan.now → IfErr result (HasNoPlan size r which) }
+    ensures ok { (size : APageSize) (r : ARegion) → IsShortest size r plan.now
+        → IfOk result (λ words. ArePlanWords size r which words.items) }
+    ensures err { (size : APageSize) (r : ARegion) → IsShortest size r plan.now
+        → IfErr result (HasNoPlan size r which) }
 {
     match which {
         Which::Only => only_words(plan),

@@ -74,7 +74,8 @@ pub(crate) fn new_space(token: &[u8]) -> Option<NewSpace>
 /// Reads the thread number in a line's first token. Returns it with what follows the token.
 #[inline(always)]
 pub(crate) fn next_thread(line: &[u8]) -> Option<(u32, &[u8])>
-    ensures { option_map (λ p. (p.0, tokens_of p.1.now)) result ≡ first_by thread_of (tokens_of line.now) }
+    ensures { option_map (λ p. (p.0, tokens_of p.1.now)) result
+        ≡ first_by thread_of (tokens_of line.now) }
 {
     if let Some((value, rest)) = quick_number(line) {
         if value >= 0x4_0000 {
@@ -89,7 +90,8 @@ pub(crate) fn next_thread(line: &[u8]) -> Option<(u32, &[u8])>
 /// Reads the partner in a line's first token. Returns it with what follows the token. `any` after one space is recognized at once.
 #[inline(always)]
 pub(crate) fn next_partner(line: &[u8]) -> Option<(Partner, &[u8])>
-    ensures { option_map (λ p. (p.0, tokens_of p.1.now)) result ≡ first_by partner_of (tokens_of line.now) }
+    ensures { option_map (λ p. (p.0, tokens_of p.1.now)) result
+        ≡ first_by partner_of (tokens_of line.now) }
 {
     match after_spaced_name(line, *b"any") {
         Some(rest) => Some((Partner::Any, rest)),
@@ -100,7 +102,8 @@ pub(crate) fn next_partner(line: &[u8]) -> Option<(Partner, &[u8])>
 /// Reads the partner in a line's first token, in any form. Returns it with what follows the token.
 #[inline(always)]
 fn partner_in_front(line: &[u8]) -> Option<(Partner, &[u8])>
-    ensures { option_map (λ p. (p.0, tokens_of p.1.now)) result ≡ first_by partner_of (tokens_of line.now) }
+    ensures { option_map (λ p. (p.0, tokens_of p.1.now)) result
+        ≡ first_by partner_of (tokens_of line.now) }
 {
     if let Some((value, rest)) = quick_number(line) {
         if value >= 0x4_0000 {
@@ -115,7 +118,8 @@ fn partner_in_front(line: &[u8]) -> Option<(Partner, &[u8])>
 /// Reads the number in a line's first token. Returns it with what follows the token.
 #[inline(always)]
 pub(crate) fn next_word(line: &[u8]) -> Option<(u32, &[u8])>
-    ensures { option_map (λ p. (p.0, tokens_of p.1.now)) result ≡ first_by number_of (tokens_of line.now) }
+    ensures { option_map (λ p. (p.0, tokens_of p.1.now)) result
+        ≡ first_by number_of (tokens_of line.now) }
 {
     if let Some((value, rest)) = quick_number(line) {
         return Some((value, rest));
@@ -126,7 +130,8 @@ pub(crate) fn next_word(line: &[u8]) -> Option<(u32, &[u8])>
 
 /// Reads the space of a new thread in a line's first token. Returns it with what follows the token.
 pub(crate) fn next_space(line: &[u8]) -> Option<(NewSpace, &[u8])>
-    ensures { option_map (λ p. (p.0, tokens_of p.1.now)) result ≡ first_by new_space_of (tokens_of line.now) }
+    ensures { option_map (λ p. (p.0, tokens_of p.1.now)) result
+        ≡ first_by new_space_of (tokens_of line.now) }
 {
     let (token, rest) = next_token(line)?;
     Some((new_space(token)?, rest))
@@ -134,7 +139,8 @@ pub(crate) fn next_space(line: &[u8]) -> Option<(NewSpace, &[u8])>
 
 /// Reads the pager in a line's first token. Returns it with what follows the token.
 pub(crate) fn next_pager(line: &[u8]) -> Option<(Partner, &[u8])>
-    ensures { option_map (λ p. (p.0, tokens_of p.1.now)) result ≡ first_by nil_or_thread_of (tokens_of line.now) }
+    ensures { option_map (λ p. (p.0, tokens_of p.1.now)) result
+        ≡ first_by nil_or_thread_of (tokens_of line.now) }
 {
     let (token, rest) = next_token(line)?;
     Some((nil_or_thread(token)?, rest))

@@ -56,7 +56,9 @@ pub(crate) fn refusal_reason(line: u64, code: &Code) -> Reason
 
 /// Which token of a line is wrong.
 fn stop_reason(line: u64, stop: Stop<'_>) -> Reason
-    ensures { result ≡ stop_says line (place_in stop.entry).number (place_in stop.entry).token (expected_says stop.entry.expected) }
+    ensures { result
+        ≡ stop_says line (place_in stop.entry).number (place_in stop.entry).token
+        (expected_says stop.entry.expected) }
 {
     let expected = expected_says(stop.expected);
     match stop.token {

@@ -60,7 +60,8 @@ fn add_sentence(says: &[u8], out: &mut Output)
 #[inline(never)]
 fn put_sentence<W: Write>(says: &[u8], out: &mut Output, writer: &mut W)
     requires { length says.now ≤ 160 }
-    ensures { Tells (W.contents writer.old) (W.contents writer.new) out.old out.new (sentence_text says.now) }
+    ensures { Tells (W.contents writer.old) (W.contents writer.new) out.old out.new
+        (sentence_text says.now) }
 {
     out.make_room(writer);
     add_sentence(says, out);
@@ -70,7 +71,8 @@ fn put_sentence<W: Write>(says: &[u8], out: &mut Output, writer: &mut W)
 #[inline(always)]
 fn say<W: Write>(explains: Option<PageSize>, says: &[u8], out: &mut Output, writer: &mut W)
     requires { length says.now ≤ 160 }
-    ensures { Tells (W.contents writer.old) (W.contents writer.new) out.old out.new (said explains says.now) }
+    ensures { Tells (W.contents writer.old) (W.contents writer.new) out.old out.new
+        (said explains says.now) }
 {
     match explains {
         None => {}
@@ -86,7 +88,8 @@ fn say_transfer<W: Write>(
     out: &mut Output,
     writer: &mut W,
 )
-    ensures { Tells (W.contents writer.old) (W.contents writer.new) out.old out.new (said explains (transfer_says outcome)) }
+    ensures { Tells (W.contents writer.old) (W.contents writer.new) out.old out.new
+        (said explains (transfer_says outcome)) }
 {
     match explains {
         None => {}
@@ -109,7 +112,8 @@ fn add_reason(reason: &Reason, out: &mut Output)
 #[cold]
 #[inline(never)]
 fn put_reason<W: Write>(reason: &Reason, out: &mut Output, writer: &mut W)
-    ensures { Tells (W.contents writer.old) (W.contents writer.new) out.old out.new (sentence_text reason.now) }
+    ensures { Tells (W.contents writer.old) (W.contents writer.new) out.old out.new
+        (sentence_text reason.now) }
 {
     out.make_room(writer);
     add_reason(reason, out);
@@ -122,7 +126,8 @@ fn say_reason<W: Write>(
     out: &mut Output,
     writer: &mut W,
 )
-    ensures { Tells (W.contents writer.old) (W.contents writer.new) out.old out.new (said explains reason.now) }
+    ensures { Tells (W.contents writer.old) (W.contents writer.new) out.old out.new
+        (said explains reason.now) }
 {
     match explains {
         None => {}
@@ -133,7 +138,8 @@ fn say_reason<W: Write>(
 /// Writes what a code and its number mean if answers are explained.
 #[inline(always)]
 fn say_act<W: Write>(explains: Option<PageSize>, code: &Code, out: &mut Output, writer: &mut W)
-    ensures { Tells (W.contents writer.old) (W.contents writer.new) out.old out.new (said explains (refusal_says code.now)) }
+    ensures { Tells (W.contents writer.old) (W.contents writer.new) out.old out.new
+        (said explains (refusal_says code.now)) }
 {
     match explains {
         None => {}
@@ -143,7 +149,8 @@ fn say_act<W: Write>(explains: Option<PageSize>, code: &Code, out: &mut Output, 
 
 /// The reply of an Ipc that received a message from a thread. None if it received none.
 fn with_message(reply: &IpcReply) -> Option<&IpcReply>
-    ensures { option_map (λ (r : AnIpcReply). r.tag ∷ r.words.items) (option_copied result) ≡ words_of reply.now }
+    ensures { option_map (λ (r : AnIpcReply). r.tag ∷ r.words.items) (option_copied result)
+        ≡ words_of reply.now }
 {
     if reply.error != 0 {
         return None;
@@ -156,7 +163,8 @@ fn with_message(reply: &IpcReply) -> Option<&IpcReply>
 
 /// The same for any reply.
 fn received(reply: &Reply) -> Option<&IpcReply>
-    ensures { option_map (λ (r : AnIpcReply). r.tag ∷ r.words.items) (option_copied result) ≡ received (Some reply.now) }
+    ensures { option_map (λ (r : AnIpcReply). r.tag ∷ r.words.items) (option_copied result)
+        ≡ received (Some reply.now) }
 {
     match reply {
         Reply::Ipc(reply) => with_message(reply),
@@ -265,10 +273,12 @@ impl<W: Write> Teller<W> {
     #[cold]
     #[inline(never)]
     fn take_reason(&mut self, reason: Reason)
-        ensures told { Tells (W.contents self.old.writer) (W.contents self.new.writer) self.old.out self.new.out (said self.old.explains reason) }
+        ensures told { Tells (W.contents self.old.writer) (W.contents self.new.writer) self.old.out
+            self.new.out (said self.old.explains reason) }
         ensures explains { self.new.explains ≡ self.old.explains }
         ensures strict { self.new.strict ≡ self.old.strict }
-        ensures refused { self.new.refused ≡ (if self.old.strict then Some reason else self.old.refused) }
+        ensures refused { self.new.refused
+            ≡ (if self.old.strict then Some reason else self.old.refused) }
     {
         say_reason(self.explains, &reason, &mut self.out, &mut self.writer);
         if self.strict {

@@ -101,7 +101,8 @@ fn add_reply(text: &mut Text, reply: Option<&Reply>, word: &[u8])
 /// How the call of this thread ended, after a mark, without the words of its message and the newline. A deleted thread has no reply.
 pub(crate) fn ended_text(mark: &[u8], number: u32, reply: Option<&Reply>) -> Text
     requires { length mark.now ≤ 8 }
-    ensures { result ≡ mark.now ++ decimal number ++ space ++ reply_name (codes "gone") (option_copied reply.entry) }
+    ensures { result ≡ mark.now ++ decimal number ++ space
+        ++ reply_name (codes "gone") (option_copied reply.entry) }
 {
     let mut text = Text::new();
     text.add(mark);

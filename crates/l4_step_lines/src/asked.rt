@@ -12,7 +12,8 @@ use std::io::Write;
 
 /// Writes a word in hexadecimal, after a space.
 fn put_word<W: Write>(word: u32, out: &mut Output, writer: &mut W)
-    ensures { Tells (W.contents writer.old) (W.contents writer.new) out.old out.new (hex_text word) }
+    ensures { Tells (W.contents writer.old) (W.contents writer.new) out.old out.new
+        (hex_text word) }
 {
     out.make_room(writer);
     out.add(b" 0x");
@@ -21,7 +22,8 @@ fn put_word<W: Write>(word: u32, out: &mut Output, writer: &mut W)
 
 /// Writes words in hexadecimal, each after a space.
 fn put_words<W: Write>(words: &[u32], out: &mut Output, writer: &mut W)
-    ensures { Tells (W.contents writer.old) (W.contents writer.new) out.old out.new (hex_texts words.now) }
+    ensures { Tells (W.contents writer.old) (W.contents writer.new) out.old out.new
+        (hex_texts words.now) }
 {
     for word in words {
         put_word(*word, out, writer);
@@ -41,7 +43,8 @@ fn text_of(bytes: &[u8]) -> Text
 /// Writes ` KIND WORD..`.
 fn put_kind<W: Write>(kind: &[u8], words: &[u32], out: &mut Output, writer: &mut W)
     requires { length kind.now ≤ 16 }
-    ensures { Tells (W.contents writer.old) (W.contents writer.new) out.old out.new (kind.now ++ hex_texts words.now) }
+    ensures { Tells (W.contents writer.old) (W.contents writer.new) out.old out.new
+        (kind.now ++ hex_texts words.now) }
 {
     out.put(writer, &text_of(kind));
     put_words(words, out, writer);
@@ -49,7 +52,8 @@ fn put_kind<W: Write>(kind: &[u8], words: &[u32], out: &mut Output, writer: &mut
 
 /// Writes an Ipc.
 fn put_ipc<W: Write>(call: &IpcCall, out: &mut Output, writer: &mut W)
-    ensures { Tells (W.contents writer.old) (W.contents writer.new) out.old out.new (ipc_words call.now) }
+    ensures { Tells (W.contents writer.old) (W.contents writer.new) out.old out.new
+        (ipc_words call.now) }
 {
     let parts = [call.to.0, call.from.0, call.timeouts, call.acceptor];
     put_kind(b" ipc", &parts, out, writer);
@@ -68,7 +72,8 @@ fn access_text(call: &FaultCall) -> Text
 
 /// Writes a fault.
 fn put_fault<W: Write>(call: &FaultCall, out: &mut Output, writer: &mut W)
-    ensures { Tells (W.contents writer.old) (W.contents writer.new) out.old out.new (fault_words call.now) }
+    ensures { Tells (W.contents writer.old) (W.contents writer.new) out.old out.new
+        (fault_words call.now) }
 {
     put_kind(b" fault", &[call.address, call.ip], out, writer);
     out.put(writer, &access_text(call));
@@ -76,7 +81,8 @@ fn put_fault<W: Write>(call: &FaultCall, out: &mut Output, writer: &mut W)
 
 /// Writes an Unmap.
 fn put_unmap<W: Write>(call: &UnmapCall, out: &mut Output, writer: &mut W)
-    ensures { Tells (W.contents writer.old) (W.contents writer.new) out.old out.new (unmap_words call.now) }
+    ensures { Tells (W.contents writer.old) (W.contents writer.new) out.old out.new
+        (unmap_words call.now) }
 {
     put_kind(b" unmap", &[call.control], out, writer);
     put_words(call.words.as_slice(), out, writer);
@@ -84,7 +90,8 @@ fn put_unmap<W: Write>(call: &UnmapCall, out: &mut Output, writer: &mut W)
 
 /// Writes a ThreadControl.
 fn put_control<W: Write>(control: &Control, out: &mut Output, writer: &mut W)
-    ensures { Tells (W.contents writer.old) (W.contents writer.new) out.old out.new (control_words control.now) }
+    ensures { Tells (W.contents writer.old) (W.contents writer.new) out.old out.new
+        (control_words control.now) }
 {
     match control {
         Control::Create(new) => {
@@ -102,7 +109,8 @@ fn put_control<W: Write>(control: &Control, out: &mut Output, writer: &mut W)
 
 /// Writes a call.
 fn put_call<W: Write>(call: &Call, out: &mut Output, writer: &mut W)
-    ensures { Tells (W.contents writer.old) (W.contents writer.new) out.old out.new (call_words call.now) }
+    ensures { Tells (W.contents writer.old) (W.contents writer.new) out.old out.new
+        (call_words call.now) }
 {
     match call {
         Call::Ipc(ipc) => put_ipc(ipc, out, writer),
@@ -147,7 +155,8 @@ fn put_start<W: Write>(number: u32, call: &Call, out: &mut Output, writer: &mut 
 
 /// Writes the line that requests a step.
 pub fn put_step<W: Write>(step: &Step, out: &mut Output, writer: &mut W)
-    ensures { Tells (W.contents writer.old) (W.contents writer.new) out.old out.new (step_line step.now) }
+    ensures { Tells (W.contents writer.old) (W.contents writer.new) out.old out.new
+        (step_line step.now) }
 {
     match step {
         Step::Start(number, call) => put_start(*number, call, out, writer),

@@ -89,7 +89,8 @@ const NOT_ENABLED: &[u8] = b"refused K1";
 
 /// Writes the expected line of an answer, and after K1 which step is enabled.
 fn put_wanted<W: Write>(expected: &Expected, out: &mut Output, writer: &mut W)
-    ensures { Tells (W.contents writer.old) (W.contents writer.new) out.old out.new (wanted expected.now.due expected.now.next) }
+    ensures { Tells (W.contents writer.old) (W.contents writer.new) out.old out.new
+        (wanted expected.now.due expected.now.next) }
 {
     if expected.due.is_empty() {
         return put_bytes(b"no further answer", out, writer);
@@ -109,7 +110,8 @@ fn put_difference<W: Write>(
     out: &mut Output,
     writer: &mut W,
 )
-    ensures { Tells (W.contents writer.old) (W.contents writer.new) out.old out.new (difference expected.now number found.now) }
+    ensures { Tells (W.contents writer.old) (W.contents writer.new) out.old out.new
+        (difference expected.now number found.now) }
 {
     out.put(writer, &line_text(number));
     put_bytes(expected.line.as_slice(), out, writer);
@@ -172,7 +174,8 @@ fn judge_answer<W: Write>(
     writer: &mut W,
 ) -> bool
     requires { judged.old.answers < number }
-    ensures { MatchesAnswer judged.old judged.new number said.now (W.contents writer.old) (W.contents writer.new) out.old out.new result }
+    ensures { MatchesAnswer judged.old judged.new number said.now (W.contents writer.old)
+        (W.contents writer.new) out.old out.new result }
 {
     let Some(expected) = judged.expected.take() else {
         return false;
@@ -187,7 +190,8 @@ fn judge_answer<W: Write>(
 /// Reports an answer that has some of its lines, but not all. Returns whether there is one.
 fn put_lack<W: Write>(expected: &Expected, out: &mut Output, writer: &mut W) -> bool
     ensures value { result ≡ lacks expected.now expected.now.last }
-    ensures told { Tells (W.contents writer.old) (W.contents writer.new) out.old out.new (lack_of expected.now expected.now.last) }
+    ensures told { Tells (W.contents writer.old) (W.contents writer.new) out.old out.new
+        (lack_of expected.now expected.now.last) }
 {
     let Some(last) = expected.last else {
         return false;
@@ -202,7 +206,8 @@ fn put_lack<W: Write>(expected: &Expected, out: &mut Output, writer: &mut W) -> 
 /// The same for the step or query above, if there is one.
 fn put_short<W: Write>(expected: Option<&Expected>, out: &mut Output, writer: &mut W) -> bool
     ensures value { result ≡ is_short (option_copied expected.entry) }
-    ensures told { Tells (W.contents writer.old) (W.contents writer.new) out.old out.new (short_text (option_copied expected.entry)) }
+    ensures told { Tells (W.contents writer.old) (W.contents writer.new) out.old out.new
+        (short_text (option_copied expected.entry)) }
 {
     match expected {
         Some(expected) => put_lack(expected, out, writer),
@@ -237,7 +242,8 @@ pub(crate) fn answered(alloc: Global, kernel: &mut Kernel, request: Request) -> 
 
 /// What is expected below the line of this request. None if there is not enough memory.
 fn expect(alloc: Global, kernel: &mut Kernel, request: Request, line: &[u8]) -> Option<Expected>
-    ensures { IfSome result (λ expected. IsExpected kernel.old request line.now expected kernel.new) }
+    ensures { IfSome result
+        (λ expected. IsExpected kernel.old request line.now expected kernel.new) }
 {
     let line = copied(alloc, line)?;
     let text = answered(alloc, kernel, request)?;
@@ -269,7 +275,8 @@ fn judge_request<W: Write>(
     writer: &mut W,
 ) -> Result<(), JudgeFault>
     requires { judged.old.steps + 1 < 2 ^ 64 }
-    ensures { TellsRequest kernel.old kernel.new judged.old judged.new request line.now (W.contents writer.old) (W.contents writer.new) out.old out.new result }
+    ensures { TellsRequest kernel.old kernel.new judged.old judged.new request line.now
+        (W.contents writer.old) (W.contents writer.new) out.old out.new result }
 {
     let steps = step_count(&request);
     let Some(expected) = expect(judged.alloc, kernel, request, line) else {
@@ -292,7 +299,8 @@ fn judge_line<W: Write>(
     writer: &mut W,
 ) -> Result<(), JudgeFault>
     requires { (judged.old.steps < number) × (judged.old.answers < number) }
-    ensures { TellsJudged kernel.old kernel.new judged.old judged.new number line.now (W.contents writer.old) (W.contents writer.new) out.old out.new result }
+    ensures { TellsJudged kernel.old kernel.new judged.old judged.new number line.now
+        (W.contents writer.old) (W.contents writer.new) out.old out.new result }
 {
     if let Some(said) = said_in(line) {
         if judge_answer(judged, number, said, out, writer) {
@@ -322,7 +330,8 @@ fn check_ending(number: u64, ending: Ending) -> Result<(), JudgeFault>
 
 /// `agrees: N steps, A answers`
 fn agrees_text(steps: u64, answers: u64) -> Text
-    ensures { result ≡ codes "agrees: " ++ decimal steps ++ codes " steps, " ++ decimal answers ++ codes " answers\n" }
+    ensures { result ≡ codes "agrees: " ++ decimal steps ++ codes " steps, " ++ decimal answers
+        ++ codes " answers\n" }
 {
     let mut text = Text::new();
     text.add(b"agrees: ");
@@ -340,7 +349,8 @@ fn judge_end<W: Write>(
     out: &mut Output,
     writer: &mut W,
 ) -> Result<bool, JudgeFault>
-    ensures { TellsEnd judged.now number (W.contents writer.old) (W.contents writer.new) out.old out.new result }
+    ensures { TellsEnd judged.now number (W.contents writer.old) (W.contents writer.new) out.old
+        out.new result }
 {
     let Some(expected) = &judged.expected else {
         return Err(JudgeFault::Empty(number));

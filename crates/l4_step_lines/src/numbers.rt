@@ -12,7 +12,8 @@ pub(crate) const MOST_NUMBERS: usize = 4 + MAX_WORDS;
 
 /// The numbers to the end of a line, at most as many as an Ipc has.
 pub(crate) fn numbers(line: &[u8]) -> Option<ArrayVec<u32, MOST_NUMBERS>>
-    ensures { MatchOption result (HaveNoFew (tokens_of line.now)) (λ ns. numbers_of (tokens_of line.now) ≡ Some ns.items) }
+    ensures { MatchOption result (HaveNoFew (tokens_of line.now))
+        (λ ns. numbers_of (tokens_of line.now) ≡ Some ns.items) }
 {
     let mut numbers = ArrayVec::new();
     let mut rest = line;

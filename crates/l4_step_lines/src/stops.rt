@@ -282,7 +282,8 @@ fn start_stop(line: &[u8]) -> Option<Stop<'_>>
 
 /// Where a text stops that has this name, which is not `start`, and then the rest.
 fn named_stop<'a>(name: &'a [u8], rest: &'a [u8]) -> Option<Stop<'a>>
-    ensures { option_map place_in result ≡ named_stop 1 StepName (shape_of name.now) name.now (tokens_of rest.now) }
+    ensures { option_map place_in result
+        ≡ named_stop 1 StepName (shape_of name.now) name.now (tokens_of rest.now) }
 {
     match form_of(name) {
         None => Some(Stop {

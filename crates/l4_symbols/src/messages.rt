@@ -57,7 +57,8 @@ impl SymbolicMessage {
 
     /// Adds an untyped word. A refused word changes nothing.
     fn add_word(&mut self, word: u32) -> Result<(), Reason>
-        ensures ok { OnOk result ((self.new.size ≡ self.old.size) × AddsWord word self.old.message self.new.message) }
+        ensures ok { OnOk result
+            ((self.new.size ≡ self.old.size) × AddsWord word self.old.message self.new.message) }
         ensures err { IfErr result (WordRefused self.old.message) }
         ensures same { OnErr result (self.new ≡ self.old) }
     {
@@ -74,7 +75,8 @@ impl SymbolicMessage {
     /// Adds an item. A refused item changes nothing.
     fn add_item(&mut self, item: Item) -> Result<(), Reason>
         requires { base_of item % base_unit ≡ 0 }
-        ensures ok { OnOk result ((self.new.size ≡ self.old.size) × AddsItem item self.old.message self.new.message) }
+        ensures ok { OnOk result
+            ((self.new.size ≡ self.old.size) × AddsItem item self.old.message self.new.message) }
         ensures err { IfErr result (ItemFull self.old.message) }
         ensures same { OnErr result (self.new ≡ self.old) }
     {
@@ -90,7 +92,9 @@ impl SymbolicMessage {
     ///
     /// Returns `Behind` for a number after an item, `Full` if there is no room, and otherwise the reason why the token is no item.
     pub fn add(&mut self, token: &[u8]) -> Result<(), Reason>
-        ensures ok { OnOk result ((self.new.size ≡ self.old.size) × Adds self.old.size token.now self.old.message self.new.message) }
+        ensures ok { OnOk result
+            ((self.new.size ≡ self.old.size)
+            × Adds self.old.size token.now self.old.message self.new.message) }
         ensures err { IfErr result (AddRefused self.old.size token.now self.old.message) }
         ensures same { OnErr result (self.new ≡ self.old) }
     {

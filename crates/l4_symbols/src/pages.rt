@@ -21,7 +21,8 @@ fn log_of(count: u32) -> Option<u8>
 
 /// Returns the block of pages.
 fn block_of(pages: &Pages, size: PageSize) -> Result<Block, Reason>
-    ensures run { IfOk result (λ block. (block.first ≡ pages.now.first) × IsRun size pages.now block.log) }
+    ensures run { IfOk result
+        (λ block. (block.first ≡ pages.now.first) × IsRun size pages.now block.log) }
     ensures err { IfErr result (PagesFail size pages.now) }
 {
     let Some(log) = log_of(pages.count) else {

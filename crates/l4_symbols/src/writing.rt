@@ -22,7 +22,9 @@ fn ended_word(byte: u8, word: u32) -> Text
 /// Returns the word at this place of a line, with the byte that ends it.
 fn word_at(words: &[u32], place: usize) -> Text
     requires { place < length words.now }
-    ensures { result ≡ ended_word (if place + 1 == length words.now then 10 else 32) (slice_index words.now place) }
+    ensures { result
+        ≡ ended_word (if place + 1 == length words.now then 10 else 32)
+        (slice_index words.now place) }
 {
     if place + 1 == words.len() {
         return ended_word(b'\n', words[place]);
@@ -33,7 +35,8 @@ fn word_at(words: &[u32], place: usize) -> Text
 /// Tells the line of words.
 #[tactic(auto, unfolding(crate::specs::Texts::line_of))]
 fn tell_words<W: Write>(words: &[u32], out: &mut Output, writer: &mut W)
-    ensures { Tells (W.contents writer.old) (W.contents writer.new) out.old out.new (line_of words.now) }
+    ensures { Tells (W.contents writer.old) (W.contents writer.new) out.old out.new
+        (line_of words.now) }
 {
     for k in 0..words.len() {
         out.put(writer, &word_at(words, k));
@@ -44,9 +47,11 @@ fn tell_words<W: Write>(words: &[u32], out: &mut Output, writer: &mut W)
 ///
 /// Returns `Write` if a write fails or takes no byte.
 pub fn write_words<W: Write>(words: &[u32], writer: &mut W) -> Result<(), RunFault>
-    ensures ok { IfOk result (λ _. Appends (W.contents writer.old) (W.contents writer.new) (line_of words.now)) }
+    ensures ok { IfOk result
+        (λ _. Appends (W.contents writer.old) (W.contents writer.new) (line_of words.now)) }
     ensures fault { IfErr result (λ e. e ≡ RunFault.Write) }
-    ensures err { IfErr result (λ _. WentOut (W.contents writer.old) (W.contents writer.new) (line_of words.now)) }
+    ensures err { IfErr result
+        (λ _. WentOut (W.contents writer.old) (W.contents writer.new) (line_of words.now)) }
 {
     let mut out = Output::new();
     tell_words(words, &mut out, writer);
