@@ -74,8 +74,8 @@
  * l4_page_size_of returns that size. Frames have the size of pages. In either size a machine has at most 4,096 frames.
  *
  * Message words, fpages and addresses are in bytes, so their form does not depend on the page size: an fpage of 2^s bytes has 2^(s - 12)
- * pages, or 2^(s - 10) small pages. An fpage of 1 or 2 KiB therefore has no page, or 1 or 2 small pages. The page numbers of a region, of a
- * fault and of a plan differ between the sizes where the same bytes are meant.
+ * pages, or 2^(s - 10) small pages. An fpage of 1 or 2 KiB therefore has no page, or 1 or 2 small pages. To name the same bytes, regions,
+ * faults and plans use other page numbers in the other size.
  */
 #ifndef L4_H
 #define L4_H

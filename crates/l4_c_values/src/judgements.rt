@@ -1,11 +1,11 @@
-//! What was found about another kernel's answer, as C gets it.
+//! The result of comparing another kernel's answer, as C gets it.
 ghost use Rattle.std.specs.Prelude.{◌≡◌};
 ghost use Rattle.l4_c_values.specs.Judged.{verdict_of, place_of, expected_of, next_or_none, judge_result, unjudged_result};
 
 use crate::results::{NextResult, no_step, step_told};
 use l4_step_lines::Judgement;
 
-/// What was found about another kernel's answer.
+/// The result of comparing another kernel's answer.
 #[repr(C)]
 #[derive(Clone, Copy)]
 pub struct JudgeResult {

@@ -5,7 +5,7 @@ ghost use Rattle.l4_c_values.specs.Protocols.{TellsFaultOf, TellsRequestOf, no_f
 use l4_ipc::Message;
 use l4_msg::{FrameRequest, PageFault};
 
-/// A page fault; `there` is 0 if the message is none.
+/// A page fault; `there` is 0 if the message is not a page fault.
 #[repr(C)]
 #[derive(Clone, Copy)]
 pub struct FaultResult {
@@ -17,7 +17,7 @@ pub struct FaultResult {
     pub access: u32,
 }
 
-/// A request for frames; `there` is 0 if the message is none.
+/// A request for frames; `there` is 0 if the message is not a request.
 #[repr(C)]
 #[derive(Clone, Copy)]
 pub struct RequestResult {

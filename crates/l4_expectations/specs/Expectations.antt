@@ -14,12 +14,12 @@ abbrev pub is_marked : List ℕ → Bool
 is_marked (first ∷ second ∷ bytes) = first == 35 && second == 61
 is_marked bytes = false
 
--- an answer behind a space
+-- an answer after a space
 abbrev pub answer_in : List ℕ → Option (List ℕ)
 answer_in [] = None
 answer_in (space ∷ answer) = if space == 32 && not (length answer == 0) then Some answer else None
 
--- the answer behind `#= `
+-- the answer after `#= `
 abbrev pub expected_in : List ℕ → Option (List ℕ)
 expected_in bytes = if is_marked bytes then answer_in (drop 2 bytes) else None
 

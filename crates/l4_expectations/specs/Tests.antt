@@ -167,7 +167,7 @@ pub record AgreesFirst (frames : ℕ) (size : PageSize) (old new : Option (List 
   pub agrees : AgreesSoFar (first_session frames boot) lines due last
 
 -- Whether a script passes, or why it fails: at the first line that does not agree, or at the end of the input, or because a read failed, or
--- for want of memory, which is possible at the start and at any line.
+-- because memory ran out, which can happen at the start and at any line.
 abbrev pub Tests : ℕ → PageSize → Option (List ℕ) → Option (List ℕ) → Result Passed Failure → Type 0
 Tests frames size old new (Ok passed) = Passes frames size old new passed
 Tests frames size old new (Err (Stopped Read)) = (a : AgreesFirst frames size old new) × (filter (λ line. line.whole) a.later ≡ [])

@@ -106,7 +106,7 @@ impl LeftLines {
         first.len() != self.rest().len() && answer == first
     }
 
-    /// Goes on behind the first line.
+    /// Removes the first line.
     fn go_on(&mut self)
         ensures { self.new ≡ later_lines self.old }
     {

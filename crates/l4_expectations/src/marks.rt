@@ -15,7 +15,7 @@ pub(crate) fn is_marked(line: &[u8]) -> bool
     *first == b'#' && *second == b'='
 }
 
-/// The answer behind a space.
+/// The answer after a space.
 fn answer_in(bytes: &[u8]) -> Option<&[u8]>
     ensures { option_map (λ a. a.now) result ≡ answer_in bytes.now }
 {
@@ -29,7 +29,7 @@ fn answer_in(bytes: &[u8]) -> Option<&[u8]>
     }
 }
 
-/// The answer behind `#= `. None for any other line, and if there is no answer.
+/// The answer after `#= `. None for any other line, and if there is no answer.
 pub(crate) fn expected_in(line: &[u8]) -> Option<&[u8]>
     ensures { option_map (λ a. a.now) result ≡ expected_in line.now }
 {

@@ -45,7 +45,7 @@ steps if it has the same --frames and --page-size.
   l4 history < script | l4_steps
 
 With --answers, each step is followed by the answer that it got in the script,
-in the words of l4_steps. These lines begin with '# ', so l4_steps skips them. A
+in the form that l4_steps prints. These lines begin with '# ', so l4_steps skips them. A
 refused line of the script executes no step. It is reported only with --strict: the
 script ends there, and the steps before it are printed.
 
@@ -107,7 +107,8 @@ boot, and then each transfer in order. A refused line is reported only with
 Entry E is line E + 1 of the output of 'l4 history'.
 
 Exit status: the same as for 'l4 run', and 1 if the page is not present or the
-thread does not exist.";
+thread does not exist. 4 also if a transfer ran out of memory in the script, but
+not when it was executed again.";
 
 pub(crate) const DECODE: &str = "\
 Explains the words of a message, the tag first: one line for the tag, one for
@@ -145,7 +146,8 @@ Exit status: 0, or 2 if the command line is invalid, 3 if a write failed.";
 /// The help of `l4 test` below its options.
 pub(crate) const TEST: &str = "\
 Runs each script on a new kernel, and compares the answers to each line with the
-answers that it expects. Expectations are comments, so 'l4 run' ignores them.
+answers that it expects. Expectations are comments, so 'l4 run' ignores them. It
+ignores the '#!' line too: give it these options on its command line.
 
   #= ANSWER                  expects this answer to the nearest line above that is
                              neither empty nor a comment. The expectations of a
@@ -154,8 +156,8 @@ answers that it expects. Expectations are comments, so 'l4 run' ignores them.
   #! --frames N --page-size BYTES
                              as the first line, sets options of 'l4 run'
 
-A line without expectations may have any answers. The refusal of a line is an
-answer. Prints one line per file:
+A line without expectations may have any answers, so it passes even if it is
+refused. The refusal of a line is an answer. Prints one line per file:
 
   FILE: N lines, M expectations, passed
   FILE: line L: expected ANSWER, found ANSWER
@@ -164,9 +166,9 @@ The second form is the first difference. 'no further answer' stands for an answe
 that is not there. If there are more answers than expected, L is the line that they
 answer.
 
-Exit status: 0 all scripts passed; 1 an answer differs; 2 invalid command line, file
-cannot be opened, or a line cannot be part of a test; 3 read or write failed; 4 out
-of memory. With several files, it is the greatest of theirs.";
+Exit status: 0 if all scripts pass, 1 if an answer differs, 2 if the command line
+or a script is invalid or FILE cannot be opened, 3 if a read or a write failed, 4
+if there was not enough memory. With several files, the greatest of their statuses.";
 
 pub(crate) const ENCODE: &str = "\
 Prints the words that tokens stand for. Without --as, or with --as message, the
@@ -186,15 +188,16 @@ prefix. A shell takes > for a redirection, so put quotes around an item.
   grant:FIRST+COUNT>BASE:RIGHTS
                              a grant item
 
-With another KIND, each token stands for a word of its own (at most 64 tokens):
+With --as fpage, --as window or --as timeouts, each token stands for a word of its
+own (at most 64 tokens):
 
   --as fpage FIRST+COUNT:RIGHTS
                              an fpage, such as 16+4:rwx, for 'unmap'
-  --as window all            the pages that a receiver accepts: all pages, no page
-  --as window none           (none), or COUNT pages that start at page FIRST
-  --as window FIRST+COUNT
-  --as timeouts SEND,RECEIVE the timeouts of a call, each of them never or zero.
-                             One of them alone stands for both
+  --as window all            accepts pages anywhere
+  --as window none           accepts no message with pages
+  --as window FIRST+COUNT    accepts pages at COUNT pages that start at page FIRST
+  --as timeouts SEND,RECEIVE the timeouts of a call, each of them never or zero. A
+                             single never or zero sets both
 
   l4 encode tag:7 1 2 'map:16+4>32:rwx' 'grant:3>0:r--'
   l4 encode --as window 32+4

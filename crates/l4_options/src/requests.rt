@@ -106,7 +106,7 @@ pub enum OptionFault {
     #[error("error: invalid value '{0}' for '<WORD>...': expected a number up to 4294967295, decimal or hexadecimal with a 0x prefix")]
     Word(String),
     /// There are more words than a message can have.
-    #[error("error: unexpected value '{0}' for '<WORD>...': a message has at most 64 words")]
+    #[error("error: unexpected value '{0}' for '<WORD>...': at most 64 words are decoded")]
     TooMany(String),
     /// A token of a message is refused, for this reason.
     #[error("error: invalid value '{token}' for '<TOKEN>...': {reason}")]

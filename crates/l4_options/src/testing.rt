@@ -25,7 +25,7 @@ pub(crate) fn of_files<'a>(alloc: Global) -> Result<Command<'a>, AllocError>
     ensures { IfOk result (IsCommand test_command) }
 {
     Command::new(alloc, "test")
-        .about("Compares the answers to scripts with those that they expect")
+        .about("Runs scripts and compares the answers with those that they expect")
         .after_help(TEST)
         .arg(words_argument(
             alloc,

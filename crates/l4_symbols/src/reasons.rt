@@ -47,7 +47,7 @@ pub enum Reason {
     #[error("the send base must be a page of the space, which ends at page 1048575, or at page 4194303 with pages of 1024 bytes")]
     Base,
     /// A plain word after an item.
-    #[error("plain words must stand before the items")]
+    #[error("untyped words must come before the items")]
     Behind,
     /// A word or an item for which the message has no room.
     #[error("a message has at most 63 words after its tag; an item takes two")]
