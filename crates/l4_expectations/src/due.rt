@@ -7,7 +7,7 @@ ghost use Rattle.l4_expectations.specs.Inside.Lines.{later_lines, Takes};
 
 use std::marker::Model;
 
-/// The answer that stands for any further answers.
+/// The expectation that allows any further answers.
 const REST: &[u8] = b"..";
 
 /// The text of the answers that were not compared yet.
@@ -34,7 +34,7 @@ pub(crate) enum Stage {
     Untouched,
     /// The first ones.
     Begun,
-    /// All: `..` stands for those that are left.
+    /// All: `..` allows those that are left.
     Rest,
 }
 
@@ -62,7 +62,7 @@ fn line_len(bytes: &[u8]) -> usize
     first_newline(bytes).unwrap_or(bytes.len())
 }
 
-/// Whether this stands for any further answers.
+/// Whether this allows any further answers.
 pub(crate) fn is_rest(answer: &[u8]) -> bool
     ensures { result ≡ is_rest answer.now }
 {

@@ -32,7 +32,7 @@ pub enum Fault {
     NoAnswer,
     /// It expects an answer, and no line above it has answers.
     NoLine,
-    /// It expects an answer, but `..` above it stands for all further answers.
+    /// It expects an answer, but `..` above it allows all further answers.
     AfterRest,
 }
 

@@ -49,7 +49,7 @@ fn differing(alloc: Global, line: u64, expected: &[u8], found: &[u8]) -> Failure
     })
 }
 
-/// Whether `..` stands for all answers that are left.
+/// Whether `..` allows all answers that are left.
 fn is_ended(due: &Due) -> bool
     ensures { result ≡ is_ended due.now.stage }
 {

@@ -22,7 +22,7 @@ pub struct ScriptRun {
 
 impl ScriptRun {
     /// Boots a kernel with 1 to 4,096 frames of this size, in which sigma0 and root have their seats. Returns None if there is not enough
-    /// memory.
+    /// memory, or if the number of frames is 0.
     pub fn new(alloc: Global, frames: u32, size: PageSize) -> Option<ScriptRun>
         requires { frames ≤ max_frames }
         ensures { IfSome result (IsFirst frames size) }

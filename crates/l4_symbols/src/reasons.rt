@@ -19,22 +19,22 @@ pub enum Reason {
     /// An item without rights.
     #[error("an item needs : and its rights at its end, as in map:16+4>32:rwx")]
     NoRights,
-    /// A token that is no receive window.
+    /// A token that does not name a receive window.
     #[error("expected all, none or FIRST+COUNT, as in 32+4")]
     Window,
-    /// A token that is no fpage.
+    /// A token that does not name an fpage.
     #[error("expected FIRST+COUNT:RIGHTS, as in 16+4:rwx")]
     Fpage,
-    /// A token that is no timeouts.
+    /// A token that does not name timeouts.
     #[error("expected never or zero for both phases, or SEND,RECEIVE, as in zero,never")]
     Timeouts,
-    /// A page or a number of pages that is no number.
+    /// A page or a number of pages that is not a number.
     #[error("pages and their count are numbers up to 4294967295, decimal or hexadecimal with a 0x prefix")]
     Number,
     /// Rights that are not r, w and x in this order.
     #[error("rights are r, w and x in this order, with - for each right that is left out")]
     Rights,
-    /// A number of pages that is no power of two.
+    /// A number of pages that is not a power of two.
     #[error("the number of pages must be a power of two")]
     Count,
     /// Pages beyond the end of the space.
