@@ -192,9 +192,11 @@ impl Publisher {
 /// Stores a number under the publisher's seat.
 fn show(board: &Board, seat: &mut Seat<(), View>, number: u64)
     requires table { seat.old.table_id ≡ board.now }
-    requires publishes { (seat.old.id ≡ 0) × (seat.old.me.0.publishes ≡ true) × (seat.old.me.0.seen ≤ number) }
+    requires publishes { (seat.old.id ≡ 0) × (seat.old.me.0.publishes ≡ true)
+        × (seat.old.me.0.seen ≤ number) }
     ensures place { (seat.new.table_id ≡ seat.old.table_id) × (seat.new.id ≡ seat.old.id) }
-    ensures view { (seat.new.me.0.publishes ≡ true) × (seat.new.me.0.seen ≡ number) × (seat.new.me.1 ≡ seat.old.me.1) }
+    ensures view { (seat.new.me.0.publishes ≡ true) × (seat.new.me.0.seen ≡ number)
+        × (seat.new.me.1 ≡ seat.old.me.1) }
 {
     board.table.shared.store::<Publish>(seat, 0, number);
 }

@@ -13,7 +13,8 @@ use l4_links::Links;
 /// Takes all pages of the space away, with all that descends from them.
 pub(crate) fn clear(links: &mut Links, space: u64)
     requires { IsClean links.old }
-    ensures takes { TakesKeys (IsCovered links.old.entries space 0 space_pages true) links.old.entries links.new.entries }
+    ensures takes { TakesKeys (IsCovered links.old.entries space 0 space_pages true)
+        links.old.entries links.new.entries }
     ensures empty { NoKeyFrom links.new.entries space 0 }
     ensures spaces { links.new.spaces ≡ links.old.spaces }
 {

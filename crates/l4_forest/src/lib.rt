@@ -72,7 +72,8 @@ impl Forest {
 
     /// Adds an empty space. Changes nothing if the space exists. Returns `NoMemory` if an allocation failed.
     pub fn new_space(&mut self, space: u64) -> Result<(), NoMemory>
-        ensures ok { OnOk result (self.new ≡ record self.old { spaces = set.insert self.old.spaces space }) }
+        ensures ok { OnOk result
+            (self.new ≡ record self.old { spaces = set.insert self.old.spaces space }) }
         ensures err { OnErr result (self.new ≡ self.old) }
         ensures succeeds { IsTrue (set.contains self.old.spaces space) → IsOk result }
         ensures there { IsTrue (set.contains self.old.spaces space) → self.new ≡ self.old }
@@ -106,7 +107,8 @@ impl Forest {
 
     /// Returns the least present page of a space that is at least `page`, or `None`.
     pub fn next_present(&self, space: u64, page: u32) -> Option<u32>
-        ensures { MatchOption result (NonePresentFrom self.now space page) (IsNextPresent self.now space page) }
+        ensures { MatchOption result (NonePresentFrom self.now space page)
+            (IsNextPresent self.now space page) }
     {
         self.links.law_places();
         self.links.next_key(space, page)
@@ -161,7 +163,8 @@ impl Forest {
 
         // Only a used target that is not present needs memory.
         ensures cause { IfErr result (HasCause (IsUsed self.old from to moves.now) self.old) }
-        ensures succeeds { TargetsPresent (IsUsed self.old from to moves.now) self.old → ¬ (IsEntangled (IsUsed self.old from to moves.now) self.old) → IsOk result }
+        ensures succeeds { TargetsPresent (IsUsed self.old from to moves.now) self.old
+            → ¬ (IsEntangled (IsUsed self.old from to moves.now) self.old) → IsOk result }
     {
         self.links.law_places();
         self.links.law_trees();
@@ -221,7 +224,8 @@ impl Forest {
     /// Returns the place without a parent where the frame is mapped, or `None`.
     ///
     pub fn root(&self, frame: u32) -> Option<Place>
-        ensures { MatchOption result ((place : Place) → ¬ (IsRoot self.now frame place)) (IsRoot self.now frame) }
+        ensures { MatchOption result ((place : Place) → ¬ (IsRoot self.now frame place))
+            (IsRoot self.now frame) }
     {
         self.links.law_places();
         self.links.law_trees();

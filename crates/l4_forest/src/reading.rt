@@ -59,7 +59,8 @@ pub(crate) fn kept_key(roots: &[u32], frame: u32) -> Option<usize>
 
 /// Returns the place of the key, if its node has the frame and no parent.
 pub(crate) fn root_under(links: &Links, frame: u32, key: usize) -> Option<Place>
-    ensures { MatchOption result (NoRootKey links.now.entries frame key) (IsRootKey links.now.entries frame key) }
+    ensures { MatchOption result (NoRootKey links.now.entries frame key)
+        (IsRootKey links.now.entries frame key) }
 {
     let Some(Entry { place, stands, .. }) = links.at(key) else {
         return None;

@@ -12,7 +12,8 @@ use l4_links::Links;
 
 /// Reduces the rights of everything that descends from the key to these rights, and with `with_self` also those of its node.
 fn cap_key(links: &mut Links, top: usize, cap: Rights, with_self: bool)
-    ensures caps { CapsKeys (IsOver links.old.entries with_self top) cap links.old.entries links.new.entries }
+    ensures caps { CapsKeys (IsOver links.old.entries with_self top) cap links.old.entries
+        links.new.entries }
     ensures spaces { links.new.spaces ≡ links.old.spaces }
 {
     links.law_trees();
@@ -26,7 +27,8 @@ fn cap_key(links: &mut Links, top: usize, cap: Rights, with_self: bool)
 /// Reduces the rights of everything that descends from these pages to these rights. The walk skips pages without descendants.
 fn cap_below_pages(links: &mut Links, space: u64, first: u32, end: u32, cap: Rights)
     requires { first ≤ end }
-    ensures caps { CapsKeys (IsCovered links.old.entries space first end false) cap links.old.entries links.new.entries }
+    ensures caps { CapsKeys (IsCovered links.old.entries space first end false) cap
+        links.old.entries links.new.entries }
     ensures spaces { links.new.spaces ≡ links.old.spaces }
 {
     links.law_places();
@@ -43,7 +45,8 @@ fn cap_below_pages(links: &mut Links, space: u64, first: u32, end: u32, cap: Rig
 /// Reduces the rights of everything that descends from these pages to these rights, and with `with_self` also those of the pages.
 fn cap_pages(links: &mut Links, space: u64, first: u32, end: u32, cap: Rights, with_self: bool)
     requires { first ≤ end }
-    ensures caps { CapsKeys (IsCovered links.old.entries space first end with_self) cap links.old.entries links.new.entries }
+    ensures caps { CapsKeys (IsCovered links.old.entries space first end with_self) cap
+        links.old.entries links.new.entries }
     ensures spaces { links.new.spaces ≡ links.old.spaces }
 {
     if !with_self {
@@ -66,7 +69,8 @@ fn cap_pages(links: &mut Links, space: u64, first: u32, end: u32, cap: Rights, w
 pub(crate) fn revoke_key(links: &mut Links, top: usize, rights: Rights, with_self: bool)
     requires clean { IsClean links.old }
     requires there { entry_at links.old.entries top ≢ None }
-    ensures cuts { CutsKeys (IsOver links.old.entries with_self top) rights links.old.entries links.new.entries }
+    ensures cuts { CutsKeys (IsOver links.old.entries with_self top) rights links.old.entries
+        links.new.entries }
     ensures spaces { links.new.spaces ≡ links.old.spaces }
     ensures places { HavePlaces links.new }
     ensures trees { AreTrees links.new.entries }
@@ -96,7 +100,8 @@ pub(crate) fn revoke_pages(
 )
     requires clean { IsClean links.old }
     requires rising { first ≤ end }
-    ensures cuts { CutsKeys (IsCovered links.old.entries space first end with_self) rights links.old.entries links.new.entries }
+    ensures cuts { CutsKeys (IsCovered links.old.entries space first end with_self) rights
+        links.old.entries links.new.entries }
     ensures spaces { links.new.spaces ≡ links.old.spaces }
     ensures places { HavePlaces links.new }
     ensures trees { AreTrees links.new.entries }

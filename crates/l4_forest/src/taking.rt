@@ -19,7 +19,8 @@ fn law_rights(links: &Links)
 pub(crate) fn take_key(links: &mut Links, top: usize, with_self: bool)
     requires clean { IsClean links.old }
     requires there { entry_at links.old.entries top ≢ None }
-    ensures takes { TakesKeys (IsOver links.old.entries with_self top) links.old.entries links.new.entries }
+    ensures takes { TakesKeys (IsOver links.old.entries with_self top) links.old.entries
+        links.new.entries }
     ensures spaces { links.new.spaces ≡ links.old.spaces }
 {
     links.law_trees();
@@ -36,7 +37,8 @@ pub(crate) fn take_key(links: &mut Links, top: usize, with_self: bool)
 fn cut_pages(links: &mut Links, space: u64, first: u32, end: u32)
     requires clean { IsClean links.old }
     requires rising { first ≤ end }
-    ensures takes { TakesKeys (IsCovered links.old.entries space first end false) links.old.entries links.new.entries }
+    ensures takes { TakesKeys (IsCovered links.old.entries space first end false) links.old.entries
+        links.new.entries }
     ensures spaces { links.new.spaces ≡ links.old.spaces }
 {
     links.law_places();
@@ -55,7 +57,8 @@ fn cut_pages(links: &mut Links, space: u64, first: u32, end: u32)
 pub(crate) fn take_pages(links: &mut Links, space: u64, first: u32, end: u32, with_self: bool)
     requires clean { IsClean links.old }
     requires rising { first ≤ end }
-    ensures takes { TakesKeys (IsCovered links.old.entries space first end with_self) links.old.entries links.new.entries }
+    ensures takes { TakesKeys (IsCovered links.old.entries space first end with_self)
+        links.old.entries links.new.entries }
     ensures spaces { links.new.spaces ≡ links.old.spaces }
 {
     if !with_self {

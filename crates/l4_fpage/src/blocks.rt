@@ -47,8 +47,12 @@ impl Block {
     /// or `None`.
     pub fn intersection(self, other: Block) -> Option<Block>
         ensures nested { IfSome result (λ b. (b ≡ self) ⊎ (b ≡ other)) }
-        ensures both { IfSome result (λ b. (page : ℕ) → InBlock b.first b.log page ↔ (InBlock self.first self.log page × InBlock other.first other.log page)) }
-        ensures disjoint { IsSome result ⊎ ((page : ℕ) → InBlock self.first self.log page → ¬ InBlock other.first other.log page) }
+        ensures both { IfSome result
+            (λ b. (page : ℕ) → InBlock b.first b.log page
+            ↔ (InBlock self.first self.log page × InBlock other.first other.log page)) }
+        ensures disjoint { IsSome result
+            ⊎
+            ((page : ℕ) → InBlock self.first self.log page → ¬ InBlock other.first other.log page) }
     {
         if self.log > other.log {
             return if self.contains(other.first) {
@@ -69,7 +73,8 @@ impl Block {
         requires b { b < most_pages }
         ensures holds_a { InBlock result.first result.log a }
         ensures holds_b { InBlock result.first result.log b }
-        ensures smallest { (first log : ℕ) → IsBlock first log → InBlock first log a → InBlock first log b → result.log ≤ log }
+        ensures smallest { (first log : ℕ) → IsBlock first log → InBlock first log a
+            → InBlock first log b → result.log ≤ log }
     {
         let mut log = 0u8;
         while log < MOST_SPACE_LOG && a >> log != b >> log {

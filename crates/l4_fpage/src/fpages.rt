@@ -34,7 +34,9 @@ impl Fpage {
     /// fpage.
     pub fn of_block(block: Block, size: PageSize, rights: Rights) -> Fpage
         requires { LiesIn size block.first block.log }
-        ensures bytes { bytes_of result ≡ Some (record { base = block.first * page_bytes size; log = block.log + page_log size }) }
+        ensures bytes { bytes_of result
+            ≡ Some
+            (record { base = block.first * page_bytes size; log = block.log + page_log size }) }
         ensures rights { rights_of result ≡ rights }
     {
         if block.log == size.space_log() {
@@ -105,10 +107,15 @@ impl Fpage {
     /// Returns the block of pages of this size that the fpage covers. Returns `None` if it covers no whole page: for
     /// the nil fpage, and for an fpage smaller than a page.
     pub fn pages(&self, size: PageSize) -> Option<Block>
-        ensures none { IsSome result ↔ MatchOption (bytes_of self.now) ⊥ (λ b. page_log size ≤ b.log) }
-        ensures exact { IfSome result (λ block. MatchOption (bytes_of self.now) ⊥ (λ b. (block.first ≡ b.base / page_bytes size) × (block.log ≡ b.log - page_log size))) }
+        ensures none { IsSome result
+            ↔ MatchOption (bytes_of self.now) ⊥ (λ b. page_log size ≤ b.log) }
+        ensures exact { IfSome result
+            (λ block. MatchOption (bytes_of self.now) ⊥
+            (λ b. (block.first ≡ b.base / page_bytes size) × (block.log ≡ b.log - page_log size))) }
         ensures inside { IfSome result (λ block. LiesIn size block.first block.log) }
-        ensures pages { (page : ℕ) → MatchOption result ⊥ (λ block. InBlock block.first block.log page) ↔ HoldsPage size self.now page }
+        ensures pages { (page : ℕ)
+            → MatchOption result ⊥ (λ block. InBlock block.first block.log page)
+            ↔ HoldsPage size self.now page }
     {
         match self {
             Fpage::Nil => None,

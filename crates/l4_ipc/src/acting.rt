@@ -85,7 +85,9 @@ fn tell(entered: Result<bool, Refused>, number: u32, answer: &mut Answer) -> Res
 fn start_receive(threads: &mut Threads, number: u32, call: &IpcCall) -> Result<bool, Refused>
     requires running { IsTrue (runs threads.old number) }
     requires receives { has_send call.now ≡ false }
-    ensures { (size : APageSize) (s : Mappings) → Steps (machine size threads.old s) (Start number (Ipc call.now)) (answered_if number result) (machine size threads.new s) }
+    ensures { (size : APageSize) (s : Mappings)
+        → Steps (machine size threads.old s) (Start number (Ipc call.now))
+        (answered_if number result) (machine size threads.new s) }
 {
     if call.has_bad_timeout() {
         return Err(Refused::BadTimeout);
@@ -114,7 +116,9 @@ fn start_message(
     requires sent { IsSent true call.now.words.items (sent_of words.now items.now) }
     requires words { length words.now ≤ max_words }
     requires items { length items.now ≤ max_items }
-    ensures { (size : APageSize) (s : Mappings) → Steps (machine size threads.old s) (Start number (Ipc call.now)) (answered_if number result) (machine size threads.new s) }
+    ensures { (size : APageSize) (s : Mappings)
+        → Steps (machine size threads.old s) (Start number (Ipc call.now))
+        (answered_if number result) (machine size threads.new s) }
 {
     let window = match call.window() {
         Ok(window) => window,
@@ -148,7 +152,9 @@ fn start_listed(
     requires sends { has_send call.now ≡ true }
     requires good { HasGoodTag call.now.words.items }
     requires tag { TagReads (tag_of call.now.words.items) tag.now }
-    ensures { (size : APageSize) (s : Mappings) → Steps (machine size threads.old s) (Start number (Ipc call.now)) (answered_if number result) (machine size threads.new s) }
+    ensures { (size : APageSize) (s : Mappings)
+        → Steps (machine size threads.old s) (Start number (Ipc call.now))
+        (answered_if number result) (machine size threads.new s) }
 {
     let items = match Message::read_typed(call.words.as_slice(), tag) {
         Ok(items) => items,
@@ -175,7 +181,9 @@ fn start_items(
     requires sends { has_send call.now ≡ true }
     requires good { HasGoodTag call.now.words.items }
     requires tag { TagReads (tag_of call.now.words.items) tag.now }
-    ensures { (size : APageSize) (s : Mappings) → Steps (machine size threads.old s) (Start number (Ipc call.now)) (answered_if number result) (machine size threads.new s) }
+    ensures { (size : APageSize) (s : Mappings)
+        → Steps (machine size threads.old s) (Start number (Ipc call.now))
+        (answered_if number result) (machine size threads.new s) }
 {
     if tag.typed != ITEM_WORDS {
         return start_listed(threads, number, call, tag);
@@ -191,7 +199,9 @@ fn start_items(
 #[inline(always)]
 fn start_ipc(threads: &mut Threads, number: u32, call: &IpcCall) -> Result<bool, Refused>
     requires { IsTrue (runs threads.old number) }
-    ensures { (size : APageSize) (s : Mappings) → Steps (machine size threads.old s) (Start number (Ipc call.now)) (answered_if number result) (machine size threads.new s) }
+    ensures { (size : APageSize) (s : Mappings)
+        → Steps (machine size threads.old s) (Start number (Ipc call.now))
+        (answered_if number result) (machine size threads.new s) }
 {
     if !call.has_send() {
         return start_receive(threads, number, call);
@@ -218,7 +228,8 @@ fn start_fault(
     call: &FaultCall,
 ) -> Result<bool, Refused>
     requires { IsTrue (runs threads.old number) }
-    ensures { Steps (machine size threads.old forest.now) (Start number (Faults call.now)) (answered_if number result) (machine size threads.new forest.now) }
+    ensures { Steps (machine size threads.old forest.now) (Start number (Faults call.now))
+        (answered_if number result) (machine size threads.new forest.now) }
 {
     let Some(thread) = threads.thread(number) else {
         return Err(Refused::UnknownThread);
@@ -241,7 +252,8 @@ fn start_unmap(
     call: &UnmapCall,
 ) -> Result<bool, Refused>
     requires { IsTrue (runs threads.old number) }
-    ensures { Steps (machine size threads.old forest.old) (Start number (Unmaps call.now)) (answered_if number result) (machine size threads.new forest.new) }
+    ensures { Steps (machine size threads.old forest.old) (Start number (Unmaps call.now))
+        (answered_if number result) (machine size threads.new forest.new) }
 {
     let Some(space) = threads.space_of(number) else {
         return Err(Refused::UnknownThread);
@@ -263,7 +275,8 @@ fn controlled(threads: &mut Threads, number: u32)
 
 /// Creates the space of a new thread, unless the thread shares the space of another one.
 fn begin_space(forest: &mut Forest, call: &Create, space: u64) -> Result<(), NoMemory>
-    ensures ok { OnOk result (forest.new ≡ with_space forest.old (asks_new call.now.id call.now.space) space) }
+    ensures ok { OnOk result
+        (forest.new ≡ with_space forest.old (asks_new call.now.id call.now.space) space) }
     ensures err { OnErr result (forest.new ≡ forest.old) }
     ensures asked { OnErr result (IsTrue (asks_new call.now.id call.now.space)) }
 {
@@ -282,7 +295,9 @@ fn create(
     call: &Create,
 ) -> Result<bool, Refused>
     requires { IsTrue (runs threads.old number) }
-    ensures { (size : APageSize) → Steps (machine size threads.old forest.old) (Start number (Controls (Creates call.now))) (answered_if number result) (machine size threads.new forest.new) }
+    ensures { (size : APageSize)
+        → Steps (machine size threads.old forest.old) (Start number (Controls (Creates call.now)))
+        (answered_if number result) (machine size threads.new forest.new) }
 {
     let space = match threads.test_create(number, call.id, call.space) {
         Ok(space) => space,
@@ -299,7 +314,9 @@ fn create(
 /// Changes the pager of a thread for a running thread.
 fn set_pager(threads: &mut Threads, number: u32, call: &SetPager) -> Result<bool, Refused>
     requires { IsTrue (runs threads.old number) }
-    ensures { (size : APageSize) (s : Mappings) → Steps (machine size threads.old s) (Start number (Controls (SetsPager call.now))) (answered_if number result) (machine size threads.new s) }
+    ensures { (size : APageSize) (s : Mappings)
+        → Steps (machine size threads.old s) (Start number (Controls (SetsPager call.now)))
+        (answered_if number result) (machine size threads.new s) }
 {
     if let Err(fault) = threads.set_pager(number, call.id, call.pager) {
         return Err(Refused::Lower(Lower::Thread(fault)));
@@ -317,7 +334,9 @@ fn start_control(
     answer: &mut Answer,
 ) -> Result<(), Refused>
     requires { IsTrue (runs threads.old number) }
-    ensures { (size : APageSize) → Steps (machine size threads.old forest.old) (Start number (Controls control.now)) (written result answer.new) (machine size threads.new forest.new) }
+    ensures { (size : APageSize)
+        → Steps (machine size threads.old forest.old) (Start number (Controls control.now))
+        (written result answer.new) (machine size threads.new forest.new) }
 {
     match control {
         Control::Create(call) => tell(create(threads, forest, number, call), number, answer),
@@ -350,7 +369,8 @@ pub fn start(
     call: &Call,
     answer: &mut Answer,
 ) -> Result<(), Refused>
-    ensures { Steps (machine size threads.old forest.old) (Start number call.now) (written result answer.new) (machine size threads.new forest.new) }
+    ensures { Steps (machine size threads.old forest.old) (Start number call.now)
+        (written result answer.new) (machine size threads.new forest.new) }
 {
     if let Some(e) = not_running(threads, number) {
         return Err(e);
@@ -379,7 +399,8 @@ pub fn start_answered(
     number: u32,
     call: &Call,
 ) -> Result<Answer, Refused>
-    ensures { Steps (machine size threads.old forest.old) (Start number call.now) result (machine size threads.new forest.new) }
+    ensures { Steps (machine size threads.old forest.old) (Start number call.now) result
+        (machine size threads.new forest.new) }
 {
     let mut answer = Answer {
         outcome: Outcome::Started,
@@ -402,7 +423,9 @@ pub fn carry_over(
 ) -> (Outcome, bool)
     requires spaces { HaveSpaces forest.old.spaces threads.old }
     requires enabled { IsFirstSender threads.old receiver sender }
-    ensures step { Steps (machine size threads.old forest.old) (Transfers sender receiver) (Ok (answer_of (Transferred sender receiver result.0 result.1))) (machine size threads.new forest.new) }
+    ensures step { Steps (machine size threads.old forest.old) (Transfers sender receiver)
+        (Ok (answer_of (Transferred sender receiver result.0 result.1)))
+        (machine size threads.new forest.new) }
     ensures fits { FitIn size forest.old → FitIn size forest.new }
 {
     let Some(meeting) = meet(threads, sender, receiver) else {
@@ -448,7 +471,8 @@ pub fn transfer(
     receiver: u32,
 ) -> Result<Answer, Refused>
     requires { HaveSpaces forest.old.spaces threads.old }
-    ensures step { Steps (machine size threads.old forest.old) (Transfers sender receiver) result (machine size threads.new forest.new) }
+    ensures step { Steps (machine size threads.old forest.old) (Transfers sender receiver) result
+        (machine size threads.new forest.new) }
     ensures fits { FitIn size forest.old → FitIn size forest.new }
 {
     if !threads.can_transfer(sender, receiver) {
@@ -473,8 +497,14 @@ fn expiry(state: &Activity) -> Ending
 
 /// Expires a zero timeout, and returns no answer.
 pub fn expire_untold(threads: &mut Threads, number: u32) -> Result<(), Refused>
-    ensures ok { IfOk result (λ _. (size : APageSize) (s : Mappings) → Steps (machine size threads.old s) (Expires number) (Ok (answer_of (Expiry number))) (machine size threads.new s)) }
-    ensures err { IfErr result (λ e. (size : APageSize) (s : Mappings) → Steps (machine size threads.old s) (Expires number) (Err e) (machine size threads.new s)) }
+    ensures ok { IfOk result
+        (λ _. (size : APageSize) (s : Mappings)
+        → Steps (machine size threads.old s) (Expires number) (Ok (answer_of (Expiry number)))
+        (machine size threads.new s)) }
+    ensures err { IfErr result
+        (λ e. (size : APageSize) (s : Mappings)
+        → Steps (machine size threads.old s) (Expires number) (Err e)
+        (machine size threads.new s)) }
 {
     if !threads.can_expire(number) {
         return Err(Refused::NotEnabled);
@@ -499,7 +529,8 @@ pub fn expire_answer(number: u32) -> Answer
 
 /// Expires a zero timeout, or refuses it if it is not enabled.
 pub fn expire(threads: &mut Threads, number: u32) -> Result<Answer, Refused>
-    ensures { (size : APageSize) (s : Mappings) → Steps (machine size threads.old s) (Expires number) result (machine size threads.new s) }
+    ensures { (size : APageSize) (s : Mappings)
+        → Steps (machine size threads.old s) (Expires number) result (machine size threads.new s) }
 {
     match expire_untold(threads, number) {
         Ok(()) => Ok(expire_answer(number)),

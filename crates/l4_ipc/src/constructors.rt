@@ -94,7 +94,8 @@ impl Call {
     /// Returns the call that sends the message in these registers, MR0 first, and receives nothing (L4 X.2 manual,
     /// Send).
     pub fn send(to: ThreadId, words: ArrayVec<u32, MAX_WORDS>, timeout: Timeout) -> Call
-        ensures value { result ≡ Ipc (ipc_call to nilthread timeout Timeout.Never NilFpage words.items) }
+        ensures value { result
+            ≡ Ipc (ipc_call to nilthread timeout Timeout.Never NilFpage words.items) }
         ensures timely { HasGoodTimeouts result }
     {
         let timeouts = (timeout, Timeout::Never);
@@ -158,7 +159,8 @@ impl Call {
     /// the caller's pages in them, and with `own` from these pages too (L4 X.2 manual, Unmap). Returns `None` for no
     /// fpage, or for more than 64.
     pub fn unmap(own: bool, fpages: &[Fpage]) -> Option<Call>
-        ensures { MatchOption result ((length fpages.now ≡ 0) ⊎ (max_words < length fpages.now)) (IsUnmapOf own fpages.now) }
+        ensures { MatchOption result ((length fpages.now ≡ 0) ⊎ (max_words < length fpages.now))
+            (IsUnmapOf own fpages.now) }
     {
         if fpages.is_empty() || fpages.len() > MAX_WORDS {
             return None;

@@ -18,7 +18,8 @@ use l4_threads::{MAX_THREADS, ThreadId, Threads, Wordless};
 
 /// Ends the space of a deleted thread, if it was the last thread there.
 fn end_space(forest: &mut Forest, space: Option<u64>)
-    ensures { MatchOption space (forest.new ≡ forest.old) (λ ended. EndsSpace ended forest.old forest.new) }
+    ensures { MatchOption space (forest.new ≡ forest.old)
+        (λ ended. EndsSpace ended forest.old forest.new) }
 {
     if let Some(space) = space {
         forest.end_space(space);
@@ -47,7 +48,9 @@ pub fn delete(
     answer: &mut Answer,
 ) -> Result<(), Refused>
     requires { IsTrue (runs threads.old number) }
-    ensures { (size : APageSize) → Steps (machine size threads.old forest.old) (Start number (Controls (Deletion id))) (written result answer.new) (machine size threads.new forest.new) }
+    ensures { (size : APageSize)
+        → Steps (machine size threads.old forest.old) (Start number (Controls (Deletion id)))
+        (written result answer.new) (machine size threads.new forest.new) }
 {
     threads.law_consistent();
     let deleted = match threads.delete(number, id) {

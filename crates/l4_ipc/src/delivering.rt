@@ -75,7 +75,8 @@ pub fn tag_of(words: &[u32]) -> u32
 
 /// Returns how the receiver's call ends, or `None` if its reply is the message.
 pub fn receiver_ending(done: bool, takes: &Receiving) -> Option<Ending>
-    ensures { (from : AThread) (sends : ASending) → reply_or result (message_reply from sends) ≡ receiver_reply done from sends takes.now }
+    ensures { (from : AThread) (sends : ASending) → reply_or result (message_reply from sends)
+        ≡ receiver_reply done from sends takes.now }
 {
     if !done {
         return Some(Ending::Failed(takes.fault, 9));
@@ -186,7 +187,9 @@ fn move_pages(forest: &mut Forest, from: u64, to: u64, moves: &[ItemMove]) -> Ou
     requires to_there { IsTrue (set.contains forest.old.spaces to) }
     ensures moves { (size : APageSize) (items : List AnItem) (window : AnFpage) → AllZip (IsListed size window) items moves.now → ¬ ((items ≢ []) × (window ≡ NilFpage))
         → Moves size forest.old from to items window result forest.new }
-    ensures fits { (size : APageSize) (items : List AnItem) (window : AnFpage) → AllZip (IsListed size window) items moves.now → FitIn size forest.old → FitIn size forest.new }
+    ensures fits { (size : APageSize) (items : List AnItem) (window : AnFpage)
+        → AllZip (IsListed size window) items moves.now → FitIn size forest.old
+        → FitIn size forest.new }
 {
     match forest.map_all(from, to, moves) {
         Ok(()) => Outcome::Done,
@@ -208,7 +211,8 @@ fn move_listed(
     requires from_there { IsTrue (set.contains forest.old.spaces from) }
     requires to_there { IsTrue (set.contains forest.old.spaces to) }
     requires few { length items.now ≤ max_items }
-    ensures moves { ¬ ((items.now ≢ []) × (window.now ≡ NilFpage)) → Moves size forest.old from to items.now window.now result forest.new }
+    ensures moves { ¬ ((items.now ≢ []) × (window.now ≡ NilFpage))
+        → Moves size forest.old from to items.now window.now result forest.new }
     ensures fits { FitIn size forest.old → FitIn size forest.new }
 {
     let moves = listed(items, window, size);

@@ -58,7 +58,9 @@ fn fault_turn(
     faulting: FaultingThread,
     call: &FaultCall,
 ) -> FaultTurn
-    ensures { next_of_fault faulting.pager call.now result ≡ fault_next size threads.now forest.now faulting.number faulting.space faulting.pager call.now }
+    ensures { next_of_fault faulting.pager call.now result
+        ≡ fault_next size threads.now forest.now faulting.number faulting.space faulting.pager
+        call.now }
 {
     if has_page(forest, size, faulting.space, call) {
         return FaultTurn::Ends(Ending::Hit);
@@ -97,8 +99,14 @@ pub fn enter_fault(
     call: &FaultCall,
 ) -> bool
     requires { IsTrue (runs threads.old faulting.number) }
-    ensures threads { threads.new ≡ enters threads.old faulting.number (fault_next size threads.old forest.now faulting.number faulting.space faulting.pager call.now) }
-    ensures ended { ended_if result faulting.number ≡ ended_by faulting.number (fault_next size threads.old forest.now faulting.number faulting.space faulting.pager call.now) }
+    ensures threads { threads.new
+        ≡ enters threads.old faulting.number
+        (fault_next size threads.old forest.now faulting.number faulting.space faulting.pager
+        call.now) }
+    ensures ended { ended_if result faulting.number
+        ≡ ended_by faulting.number
+        (fault_next size threads.old forest.now faulting.number faulting.space faulting.pager
+        call.now) }
 {
     match fault_turn(threads, forest, size, faulting, call) {
         FaultTurn::Ends(ending) => {

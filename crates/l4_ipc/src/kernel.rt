@@ -138,7 +138,8 @@ impl Kernel {
     /// Executes the step that starts this call, and overwrites the answer that you pass. Its errors are those of
     /// `step`. After an error, the content of the answer is unspecified.
     pub fn start(&mut self, number: u32, call: &Call, answer: &mut Answer) -> Result<(), Refused>
-        ensures ok { IfOk result (λ _. Steps self.old (Start number call.now) (Ok answer.new) self.new) }
+        ensures ok { IfOk result
+            (λ _. Steps self.old (Start number call.now) (Ok answer.new) self.new) }
         ensures err { IfErr result (λ e. Steps self.old (Start number call.now) (Err e) self.new) }
     {
         start(
@@ -182,12 +183,17 @@ impl Kernel {
     /// disjoint, and together they are the region. No fewer items or messages move it.
     pub fn run(&mut self, steps: &[Step]) -> Result<Vec<Result<Answer, Refused>>, NoMemory>
         ensures err { OnErr result (self.new ≡ self.old) }
-        ensures traced { IfOk result (λ answers. (events : List Event) × IsOnlyTrace self.old steps.now answers.items events self.new) }
+        ensures traced { IfOk result
+            (λ answers. (events : List Event)
+            × IsOnlyTrace self.old steps.now answers.items events self.new) }
         ensures provenance { IfOk result (λ answers. (frames : ℕ) (events : List Event) → IsBoot frames self.old → IsTrace self.old steps.now answers.items events self.new
             → HaveProvenance self.old.mappings events self.new.mappings) }
         ensures flushed { IfOk result (λ answers. (events : List Event) → IsTrace self.old steps.now answers.items events self.new
             → NoneThroughFlushed events self.new.mappings) }
-        ensures delegations { IfOk result (λ answers. (events : List Event) → IsTrace self.old steps.now answers.items events self.new → All DeliversDelegations events) }
+        ensures delegations { IfOk result
+            (λ answers. (events : List Event)
+            → IsTrace self.old steps.now answers.items events self.new
+            → All DeliversDelegations events) }
     {
         let mut answers = Vec::with_capacity(self.alloc, steps.len())?;
         self.law_forest();
@@ -272,14 +278,16 @@ impl Kernel {
 
     /// Returns the least number of a thread that is at least `from`, or `None`.
     pub fn next_thread(&self, from: u32) -> Option<u32>
-        ensures { MatchOption result (NoThreadFrom self.now.threads from) (IsNextThread self.now.threads from) }
+        ensures { MatchOption result (NoThreadFrom self.now.threads from)
+            (IsNextThread self.now.threads from) }
     {
         self.threads.next_thread(from)
     }
 
     /// Returns the least number of a space that is at least `from`, or `None`.
     pub fn next_space(&self, from: u64) -> Option<u64>
-        ensures { MatchOption result (NoSpaceFrom self.now.mappings from) (IsNextSpace self.now.mappings from) }
+        ensures { MatchOption result (NoSpaceFrom self.now.mappings from)
+            (IsNextSpace self.now.mappings from) }
     {
         self.forest.next_space(from)
     }
@@ -302,7 +310,9 @@ impl Kernel {
     /// Returns the places that descend from a page of a space, each once: none if the page is not present. The number
     /// of steps depends only on the number of these places. Returns `NoMemory` if an allocation failed.
     pub fn descendants(&self, space: u64, page: u32) -> Result<Vec<l4_forest::Place>, NoMemory>
-        ensures { IfOk result (λ places. AreDescendants self.now.mappings (record { space = space; page = page }) places.items) }
+        ensures { IfOk result
+            (λ places. AreDescendants self.now.mappings (record { space = space; page = page })
+            places.items) }
     {
         self.forest
             .descendants(self.alloc, l4_forest::Place { space, page })
@@ -310,7 +320,8 @@ impl Kernel {
 
     /// Returns the least present page of a space that is at least `page`, or `None`.
     pub fn next_page(&self, space: u64, page: u32) -> Option<u32>
-        ensures { MatchOption result (NonePresentFrom self.now.mappings space page) (IsNextPresent self.now.mappings space page) }
+        ensures { MatchOption result (NonePresentFrom self.now.mappings space page)
+            (IsNextPresent self.now.mappings space page) }
     {
         self.forest.next_present(space, page)
     }

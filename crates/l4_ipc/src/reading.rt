@@ -80,8 +80,11 @@ impl IpcCall {
     /// Returns the receive window, which is nil without a receive phase.
     pub(crate) fn window(&self) -> Result<Fpage, MsgFault>
         ensures ok { IfOk result (IsWindow (has_receive self.now) self.now.acceptor) }
-        ensures err { IfErr result (λ fault. (has_receive self.now ≡ true) × IsBadWindow self.now.acceptor × (fault ≡ MsgFault.BadWindow)) }
-        ensures only { (window : AnFpage) → IsWindow (has_receive self.now) self.now.acceptor window → IsOk result }
+        ensures err { IfErr result
+            (λ fault. (has_receive self.now ≡ true) × IsBadWindow self.now.acceptor
+            × (fault ≡ MsgFault.BadWindow)) }
+        ensures only { (window : AnFpage) → IsWindow (has_receive self.now) self.now.acceptor window
+            → IsOk result }
     {
         if !self.has_receive() {
             return Ok(Fpage::Nil);

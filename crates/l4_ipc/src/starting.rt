@@ -60,7 +60,10 @@ pub fn partner(threads: &Threads, caller: u32, id: ThreadId) -> Option<u32>
 /// Ends the thread's Ipc with a reply that has this tag, this ErrorCode and no words.
 fn end_bare(threads: &mut Threads, number: u32, tag: u32, error: u32)
     requires { IsSome (state_of threads.old number) }
-    ensures { threads.new ≡ end_call threads.old number (Ipc (record { tag = tag; error = error; «from» = nilthread; words = record { items = [] } })) }
+    ensures { threads.new
+        ≡ end_call threads.old number
+        (Ipc
+        (record { tag = tag; error = error; «from» = nilthread; words = record { items = [] } })) }
 {
     let envelope = Envelope {
         tag,

@@ -64,7 +64,9 @@ impl<T: FromWords> Journal<T> {
 
     /// Returns the words of the item at this place, without a copy, or None beyond the end.
     pub fn words(&self, place: usize) -> Option<Words<'_>>
-        ensures { MatchOption result (slice_get self.now.items place ≡ None) (λ words. (slice_get self.now.items place ≡ T.item_at words) × IsTrue (is_some (T.item_at words))) }
+        ensures { MatchOption result (slice_get self.now.items place ≡ None)
+            (λ words. (slice_get self.now.items place ≡ T.item_at words)
+            × IsTrue (is_some (T.item_at words))) }
     {
         self.store.get(place)
     }
@@ -107,8 +109,10 @@ impl<T: FromWords> Journal<T> {
         requires room { length self.old.items < self.old.room }
         requires few { length head.now + length tail.now ≤ RECORD_WORDS }
         requires read { IsTrue (is_some (T.item_at (head.now ++ tail.now))) }
-        ensures items { self.new.items ≡ self.old.items ++ option_to_list (T.item_at (head.now ++ tail.now)) }
-        ensures room { (length self.new.items ≡ length self.old.items + 1) × (self.new.room ≡ self.old.room) }
+        ensures items { self.new.items ≡ self.old.items
+            ++ option_to_list (T.item_at (head.now ++ tail.now)) }
+        ensures room { (length self.new.items ≡ length self.old.items + 1)
+            × (self.new.room ≡ self.old.room) }
     {
         self.store.push(head, tail);
     }

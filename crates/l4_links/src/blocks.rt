@@ -31,8 +31,10 @@ fn place_from(source: Place, target: Place, page: u32) -> Place
 /// Returns whether the node under the key has no other rights than these.
 #[inline]
 fn is_within(nodes: &Slots, key: usize, rights: Rights) -> bool
-    ensures yes { result ≡ true → (n : ANode) → node_at nodes.now.slots key ≡ Some n → Within n.rights rights }
-    ensures no { result ≡ false → (n : ANode) × (node_at nodes.now.slots key ≡ Some n) × ¬ (Within n.rights rights) }
+    ensures yes { result ≡ true → (n : ANode) → node_at nodes.now.slots key ≡ Some n
+        → Within n.rights rights }
+    ensures no { result ≡ false → (n : ANode) × (node_at nodes.now.slots key ≡ Some n)
+        × ¬ (Within n.rights rights) }
 {
     let Some(node) = node_of(nodes, key) else {
         return true;
@@ -51,11 +53,18 @@ fn can_move(
 ) -> Result<bool, NoMemory>
     requires there { IsSpace pages.old place.space }
     requires fits { IsPage place.page }
-    ensures within { IfOk result (λ can. can ≡ true → (n : ANode) → node_at nodes.now.slots key ≡ Some n → Within n.rights rights) }
-    ensures absent { IfOk result (λ can. can ≡ true → key_of pages.old place.space place.page ≡ None) }
-    ensures lacks { OnErr result (((n : ANode) → node_at nodes.now.slots key ≡ Some n → Within n.rights rights) × (key_of pages.old place.space place.page ≡ None)) }
-    ensures hindered { IfOk result (λ can. can ≡ false → IsHindered key place rights nodes.now.slots pages.old) }
-    ensures ready { IfOk result (λ can. can ≡ true → HasRoom pages.new place.space (place.page ∷ [])) }
+    ensures within { IfOk result
+        (λ can. can ≡ true → (n : ANode) → node_at nodes.now.slots key ≡ Some n
+        → Within n.rights rights) }
+    ensures absent { IfOk result
+        (λ can. can ≡ true → key_of pages.old place.space place.page ≡ None) }
+    ensures lacks { OnErr result
+        (((n : ANode) → node_at nodes.now.slots key ≡ Some n → Within n.rights rights)
+        × (key_of pages.old place.space place.page ≡ None)) }
+    ensures hindered { IfOk result
+        (λ can. can ≡ false → IsHindered key place rights nodes.now.slots pages.old) }
+    ensures ready { IfOk result
+        (λ can. can ≡ true → HasRoom pages.new place.space (place.page ∷ [])) }
     ensures pages { pages.new.pages ≡ pages.old.pages }
     ensures spaces { pages.new.spaces ≡ pages.old.spaces }
     ensures room { KeepsRoom pages.old pages.new }
@@ -85,9 +94,11 @@ pub(crate) fn can_move_all(
     requires there { IsSpace pages.old target.space }
     requires rising { source.page ≤ end }
     requires fits { end - source.page + target.page ≤ space_pages }
-    ensures can { IfOk result (λ can. can ≡ true → CanMove source end target rights nodes.now.slots pages.new) }
+    ensures can { IfOk result
+        (λ can. can ≡ true → CanMove source end target rights nodes.now.slots pages.new) }
     ensures lacks { OnErr result (LacksPlace source end target rights nodes.now.slots) }
-    ensures hinders { IfOk result (λ can. can ≡ false → Hinders source end target rights nodes.now.slots) }
+    ensures hinders { IfOk result
+        (λ can. can ≡ false → Hinders source end target rights nodes.now.slots) }
     ensures pages { pages.new.pages ≡ pages.old.pages }
     ensures spaces { pages.new.spaces ≡ pages.old.spaces }
 {
@@ -139,7 +150,8 @@ pub(crate) fn move_all(
     requires there { IsSpace pages.old target.space }
     requires rising { source.page ≤ end }
     requires fits { end - source.page + target.page ≤ space_pages }
-    requires can { (rights : RightsSet) × CanMove source end target rights nodes.old.slots pages.old }
+    requires can { (rights : RightsSet)
+        × CanMove source end target rights nodes.old.slots pages.old }
     ensures moves { Moves source end target nodes.old.slots nodes.new.slots }
     ensures indexed { IsIndexed nodes.new.slots pages.new }
     ensures spaces { pages.new.spaces ≡ pages.old.spaces }

@@ -15,7 +15,9 @@ use std::alloc::Global;
 pub(crate) fn keys_below(alloc: Global, nodes: &Slots, top: usize) -> Result<Vec<usize>, NoMemory>
     requires forest { (ks : List ℕ) × IsForest nodes.now.slots ks }
     requires there { node_at nodes.now.slots top ≢ None }
-    ensures { IfOk result (λ keys. IsListOf (λ (key : ℕ). Leads (parent_at (limbs nodes.now.slots)) key top) keys.items) }
+    ensures { IfOk result
+        (λ keys. IsListOf (λ (key : ℕ). Leads (parent_at (limbs nodes.now.slots)) key top)
+        keys.items) }
 {
     let Some(head) = node_of(nodes, top) else {
         unreachable!()

@@ -120,7 +120,8 @@ impl Links {
     ///
     /// Returns `NoMemory` if an allocation fails; then nothing has changed.
     pub fn add_space(&mut self, space: u64) -> Result<(), NoMemory>
-        ensures ok { OnOk result (self.new ≡ record self.old { spaces = set.insert self.old.spaces space }) }
+        ensures ok { OnOk result
+            (self.new ≡ record self.old { spaces = set.insert self.old.spaces space }) }
         ensures err { OnErr result (self.new ≡ self.old) }
         ensures succeeds { IsTrue (set.contains self.old.spaces space) → IsOk result }
         ensures there { IsTrue (set.contains self.old.spaces space) → self.new ≡ self.old }
@@ -138,7 +139,8 @@ impl Links {
 
     /// Returns the least number of a space that is not below `from`, or None.
     pub fn next_space(&self, from: u64) -> Option<u64>
-        ensures { MatchOption result (NoSpaceFrom self.now.spaces from) (IsNextSpace self.now.spaces from) }
+        ensures { MatchOption result (NoSpaceFrom self.now.spaces from)
+            (IsNextSpace self.now.spaces from) }
     {
         self.pages.next_space(from)
     }
@@ -152,7 +154,8 @@ impl Links {
 
     /// Returns the least page of the space that has a key and is not below `page`, or None.
     pub fn next_key(&self, space: u64, page: u32) -> Option<u32>
-        ensures { MatchOption result (NoKeyFrom self.now.entries space page) (IsNextKey self.now.entries space page) }
+        ensures { MatchOption result (NoKeyFrom self.now.entries space page)
+            (IsNextKey self.now.entries space page) }
     {
         self.pages.next_present(space, page)
     }
@@ -171,7 +174,8 @@ impl Links {
     /// at pages from `end` on.
     #[inline(always)]
     pub fn next_parent_in(&self, space: u64, page: u32, end: u32) -> Option<(u32, usize)>
-        ensures { MatchOption result (NoParentIn self.now.entries space page end) (λ found. IsNextParentIn self.now.entries space page end found.0 found.1) }
+        ensures { MatchOption result (NoParentIn self.now.entries space page end)
+            (λ found. IsNextParentIn self.now.entries space page end found.0 found.1) }
     {
         parents::next_parent(&self.nodes, &self.pages, space, page, end)
     }
@@ -241,7 +245,8 @@ impl Links {
     pub fn take_blank(&mut self, key: usize)
         requires blank { IsBlank self.old.entries key }
         ensures gone { entry_at self.new.entries key ≡ None }
-        ensures others { (other : ℕ) → other ≢ key → entry_at self.new.entries other ≡ entry_at self.old.entries other }
+        ensures others { (other : ℕ) → other ≢ key → entry_at self.new.entries other
+            ≡ entry_at self.old.entries other }
         ensures spaces { self.new.spaces ≡ self.old.spaces }
     {
         remove(&mut self.nodes, &mut self.pages, key);
@@ -251,7 +256,10 @@ impl Links {
     pub fn stand_root(&mut self, key: usize, frame: u32, rights: Rights)
         requires blank { IsBlank self.old.entries key }
         requires some { rights ≢ no_rights }
-        ensures stands { Stands key (record { frame = frame; rights = rights; source = false; granted = None; parent = None }) self.old.entries self.new.entries }
+        ensures stands { Stands key
+            (record
+            { frame = frame; rights = rights; source = false; granted = None; parent = None })
+            self.old.entries self.new.entries }
         ensures spaces { self.new.spaces ≡ self.old.spaces }
     {
         self.first = lists::link_root(&mut self.nodes, self.first, key, frame, rights);
@@ -263,7 +271,8 @@ impl Links {
     pub fn stand_under(&mut self, parent: usize, key: usize, rights: Rights)
         requires there { IsStanding self.old.entries parent }
         requires blank { IsBlank self.old.entries key }
-        requires some { (above : AStanding) → standing_at self.old.entries parent ≡ Some above → common above.rights rights ≢ no_rights }
+        requires some { (above : AStanding) → standing_at self.old.entries parent ≡ Some above
+            → common above.rights rights ≢ no_rights }
         ensures sprouts { Sprouts parent key rights self.old.entries self.new.entries }
         ensures spaces { self.new.spaces ≡ self.old.spaces }
     {
@@ -278,10 +287,13 @@ impl Links {
     /// They must be at least one. Returns whether the key is that of a child of the parent; changes nothing if it is not.
     pub fn renew_child(&mut self, parent: usize, key: usize, rights: Rights) -> bool
         requires leaf { (low : ℕ) → ¬ (Descends self.old.entries low key) }
-        requires plain { (child : AStanding) → standing_at self.old.entries key ≡ Some child → (child.source ≡ false) × (child.granted ≡ None) }
+        requires plain { (child : AStanding) → standing_at self.old.entries key ≡ Some child
+            → (child.source ≡ false) × (child.granted ≡ None) }
         requires rights { HaveRights self.old.entries }
-        requires some { (above : AStanding) → standing_at self.old.entries parent ≡ Some above → common above.rights rights ≢ no_rights }
-        ensures sprouts { result ≡ true → Sprouts parent key rights self.old.entries self.new.entries }
+        requires some { (above : AStanding) → standing_at self.old.entries parent ≡ Some above
+            → common above.rights rights ≢ no_rights }
+        ensures sprouts { result ≡ true
+            → Sprouts parent key rights self.old.entries self.new.entries }
         ensures left { result ≡ false → self.new ≡ self.old }
         ensures other { result ≡ false → parent_of self.old.entries key ≢ Some parent }
         ensures spaces { self.new.spaces ≡ self.old.spaces }
@@ -317,10 +329,15 @@ impl Links {
         requires there { IsTrue (set.contains self.old.spaces place.space) }
         requires fits { IsPage place.page }
         requires stands { IsStanding self.old.entries parent }
-        requires some { (above : AStanding) → standing_at self.old.entries parent ≡ Some above → common above.rights rights ≢ no_rights }
-        ensures adds { IfOk result (λ child. IfSome child (AddsChild parent place rights self.old.entries self.new.entries)) }
-        ensures free { IfOk result (λ child. child ≢ None → (key : ℕ) → ¬ (IsAt self.old.entries place key)) }
-        ensures taken { IfOk result (λ child. child ≡ None → (key : ℕ) × IsAt self.old.entries place key) }
+        requires some { (above : AStanding) → standing_at self.old.entries parent ≡ Some above
+            → common above.rights rights ≢ no_rights }
+        ensures adds { IfOk result
+            (λ child. IfSome child
+            (AddsChild parent place rights self.old.entries self.new.entries)) }
+        ensures free { IfOk result
+            (λ child. child ≢ None → (key : ℕ) → ¬ (IsAt self.old.entries place key)) }
+        ensures taken { IfOk result
+            (λ child. child ≡ None → (key : ℕ) × IsAt self.old.entries place key) }
         ensures same { IfOk result (λ child. child ≡ None → self.new ≡ self.old) }
         ensures err { OnErr result (self.new ≡ self.old) }
         ensures lacks { OnErr result ((key : ℕ) → ¬ (IsAt self.old.entries place key)) }
@@ -414,9 +431,12 @@ impl Links {
         requires there { IsTrue (set.contains self.old.spaces target.space) }
         requires rising { source.page ≤ end }
         requires fits { end - source.page + target.page ≤ space_pages }
-        ensures moved { IfOk result (λ done. done ≡ true → MovesPages source end target rights self.old.entries self.new.entries) }
+        ensures moved { IfOk result
+            (λ done. done ≡ true
+            → MovesPages source end target rights self.old.entries self.new.entries) }
         ensures left { IfOk result (λ done. done ≡ false → self.new ≡ self.old) }
-        ensures hinders { IfOk result (λ done. done ≡ false → Hinders source end target rights self.old.entries) }
+        ensures hinders { IfOk result
+            (λ done. done ≡ false → Hinders source end target rights self.old.entries) }
         ensures err { OnErr result (self.new ≡ self.old) }
         ensures lacks { OnErr result (LacksPlace source end target rights self.old.entries) }
         ensures spaces { self.new.spaces ≡ self.old.spaces }
@@ -486,8 +506,10 @@ impl Links {
     /// Returns whether a source descends from the key. Successive calls visit no node twice.
     pub fn has_source_below(&mut self, top: usize) -> bool
         ensures same { (key : ℕ) → entry_at self.new.entries key ≡ entry_at self.old.entries key }
-        ensures yes { result ≡ true → (low : ℕ) × Descends self.old.entries low top × IsSource self.old.entries low }
-        ensures no { result ≡ false → (low : ℕ) → Descends self.old.entries low top → ¬ (IsSource self.old.entries low) }
+        ensures yes { result ≡ true → (low : ℕ) × Descends self.old.entries low top
+            × IsSource self.old.entries low }
+        ensures no { result ≡ false → (low : ℕ) → Descends self.old.entries low top
+            → ¬ (IsSource self.old.entries low) }
         ensures spaces { self.new.spaces ≡ self.old.spaces }
     {
         let Some(_) = node_of(&self.nodes, top) else {
@@ -506,8 +528,10 @@ impl Links {
     /// Returns whether the node under the key has no descendants, which its successor in the list shows at once. Returns false if there is
     /// no node.
     pub fn is_leaf(&self, key: usize) -> bool
-        ensures yes { result ≡ true → IsStanding self.now.entries key × ((low : ℕ) → ¬ (Descends self.now.entries low key)) }
-        ensures no { result ≡ false → IsStanding self.now.entries key → (low : ℕ) × Descends self.now.entries low key }
+        ensures yes { result ≡ true → IsStanding self.now.entries key
+            × ((low : ℕ) → ¬ (Descends self.now.entries low key)) }
+        ensures no { result ≡ false → IsStanding self.now.entries key → (low : ℕ)
+            × Descends self.now.entries low key }
     {
         walks::is_leaf(&self.nodes, key)
     }
@@ -516,7 +540,8 @@ impl Links {
     ///
     /// Returns `NoMemory` if an allocation fails.
     pub fn descendants(&self, alloc: Global, key: usize) -> Result<Vec<usize>, NoMemory>
-        ensures { IfOk result (λ keys. IsListOf (λ (low : ℕ). Descends self.now.entries low key) keys.items) }
+        ensures { IfOk result
+            (λ keys. IsListOf (λ (low : ℕ). Descends self.now.entries low key) keys.items) }
     {
         let Some(_) = node_of(&self.nodes, key) else {
             return Ok(Vec::new(alloc));

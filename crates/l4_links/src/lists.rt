@@ -22,7 +22,8 @@ pub(crate) fn unlink(nodes: &mut Slots, key: usize)
     requires there { node_at nodes.old.slots key ≢ None }
     ensures takes { TakesOut (links nodes.old.slots) (links nodes.new.slots) key }
     ensures parts { Parts key nodes.old.slots nodes.new.slots }
-    ensures order { (xs ys : List ℕ) → IsOrder nodes.old.slots (xs ++ key ∷ ys) → IsOrder nodes.new.slots (xs ++ ys) }
+    ensures order { (xs ys : List ℕ) → IsOrder nodes.old.slots (xs ++ key ∷ ys)
+        → IsOrder nodes.new.slots (xs ++ ys) }
 {
     let Some(node) = node_of(nodes, key) else {
         unreachable!()
@@ -37,7 +38,8 @@ pub(crate) fn take_out(nodes: &mut Slots, pages: &mut Spaces, key: usize)
     requires order { (ks : List ℕ) × IsOrder nodes.old.slots ks }
     requires there { node_at nodes.old.slots key ≢ None }
     ensures out { TakesSlot key nodes.old.slots nodes.new.slots }
-    ensures order { (xs ys : List ℕ) → IsOrder nodes.old.slots (xs ++ key ∷ ys) → IsOrder nodes.new.slots (xs ++ ys) }
+    ensures order { (xs ys : List ℕ) → IsOrder nodes.old.slots (xs ++ key ∷ ys)
+        → IsOrder nodes.new.slots (xs ++ ys) }
     ensures indexed { IsIndexed nodes.old.slots pages.old → IsIndexed nodes.new.slots pages.new }
     ensures spaces { pages.new.spaces ≡ pages.old.spaces }
 {
@@ -116,8 +118,15 @@ pub(crate) fn link_under(nodes: &mut Slots, parent: usize, key: usize, above: No
     requires room { slot_at nodes.old.slots key ≢ None }
     requires blank { node_at nodes.old.slots key ≡ None }
     ensures sprouts { Sprouts (limbs nodes.old.slots) (limbs nodes.new.slots) parent key }
-    ensures comes { Comes (record { frame = above.frame; rights = common above.rights rights; source = false; granted = None }) key nodes.old.slots nodes.new.slots }
-    ensures forest { (xs ys : List ℕ) → IsForest nodes.old.slots (xs ++ parent ∷ ys) → IsForest nodes.new.slots (xs ++ parent ∷ key ∷ ys) }
+    ensures comes { Comes
+        (record {
+          frame = above.frame;
+          rights = common above.rights rights;
+          source = false;
+          granted = None;
+        }) key nodes.old.slots nodes.new.slots }
+    ensures forest { (xs ys : List ℕ) → IsForest nodes.old.slots (xs ++ parent ∷ ys)
+        → IsForest nodes.new.slots (xs ++ parent ∷ key ∷ ys) }
 {
     let node = child_of(parent, &above, rights, nodes.capacity());
     let at = Link::to(key);
@@ -141,7 +150,8 @@ pub(crate) fn add_under(
     requires kept { IsKey nodes.old.vacant_key }
     requires vacant { slot_at nodes.old.slots nodes.old.vacant_key ≡ None }
     requires room { HasRoomFor nodes.old 1 }
-    ensures { AddsUnder parent place above.now rights nodes.old.slots nodes.new.slots nodes.old.vacant_key }
+    ensures { AddsUnder parent place above.now rights nodes.old.slots nodes.new.slots
+        nodes.old.vacant_key }
 {
     let node = child_of(parent, above, rights, nodes.capacity());
     let key = nodes.insert_node(place, node);
@@ -162,8 +172,11 @@ pub(crate) fn link_root(
     requires room { slot_at nodes.old.slots key ≢ None }
     requires blank { node_at nodes.old.slots key ≡ None }
     ensures rises { Rises (limbs nodes.old.slots) (limbs nodes.new.slots) key }
-    ensures comes { Comes (record { frame = frame; rights = rights; source = false; granted = None }) key nodes.old.slots nodes.new.slots }
-    ensures forest { (ks : List ℕ) → IsForest nodes.old.slots ks → first_of ks None ≡ first → IsForest nodes.new.slots (key ∷ ks) }
+    ensures comes { Comes
+        (record { frame = frame; rights = rights; source = false; granted = None }) key
+        nodes.old.slots nodes.new.slots }
+    ensures forest { (ks : List ℕ) → IsForest nodes.old.slots ks → first_of ks None ≡ first
+        → IsForest nodes.new.slots (key ∷ ks) }
     ensures first { result ≡ Some key }
 {
     let at = Link::to(key);

@@ -13,7 +13,8 @@ use l4_spaces::Spaces;
 #[inline]
 pub(crate) fn remove(nodes: &mut Slots, pages: &mut Spaces, key: usize)
     ensures gone { slot_at nodes.new.slots key ≡ None }
-    ensures others { (other : ℕ) → other ≢ key → slot_at nodes.new.slots other ≡ slot_at nodes.old.slots other }
+    ensures others { (other : ℕ) → other ≢ key → slot_at nodes.new.slots other
+        ≡ slot_at nodes.old.slots other }
     ensures indexed { IsIndexed nodes.old.slots pages.old → IsIndexed nodes.new.slots pages.new }
     ensures spaces { pages.new.spaces ≡ pages.old.spaces }
 {

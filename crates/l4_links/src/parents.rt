@@ -26,7 +26,8 @@ fn is_parent(nodes: &Slots, key: usize) -> bool
 #[inline]
 fn parent_key(nodes: &Slots, key: Option<usize>) -> Option<usize>
     requires forest { (keys : List ℕ) × IsForest nodes.now.slots keys }
-    ensures { MatchOption result ((here : ℕ) → key ≡ Some here → ¬ (IsParent nodes.now.slots here)) (λ here. (key ≡ Some here) × IsParent nodes.now.slots here) }
+    ensures { MatchOption result ((here : ℕ) → key ≡ Some here → ¬ (IsParent nodes.now.slots here))
+        (λ here. (key ≡ Some here) × IsParent nodes.now.slots here) }
 {
     let Some(key) = key else {
         return None;
@@ -42,7 +43,8 @@ fn parent_key(nodes: &Slots, key: Option<usize>) -> Option<usize>
 fn parent_at(nodes: &Slots, row: &Row, low: usize) -> Option<usize>
     requires forest { (keys : List ℕ) × IsForest nodes.now.slots keys }
     requires within { low < length row.now }
-    ensures { MatchOption result ((key : ℕ) → ¬ (IsParentKey nodes.now.slots row.now low key)) (IsParentKey nodes.now.slots row.now low) }
+    ensures { MatchOption result ((key : ℕ) → ¬ (IsParentKey nodes.now.slots row.now low key))
+        (IsParentKey nodes.now.slots row.now low) }
 {
     parent_key(nodes, row.at(low))
 }
@@ -51,7 +53,8 @@ fn parent_at(nodes: &Slots, row: &Row, low: usize) -> Option<usize>
 fn parent_among(nodes: &Slots, row: &Row, from: usize, end: usize) -> Option<(usize, usize)>
     requires forest { (keys : List ℕ) × IsForest nodes.now.slots keys }
     requires within { end ≤ length row.now }
-    ensures { MatchOption result (NoParents nodes.now.slots row.now from end) (λ found. IsFirstParent nodes.now.slots row.now from end found.0 found.1) }
+    ensures { MatchOption result (NoParents nodes.now.slots row.now from end)
+        (λ found. IsFirstParent nodes.now.slots row.now from end found.0 found.1) }
 {
     for low in from..end {
         if let Some(key) = parent_at(nodes, row, low) {
@@ -73,8 +76,11 @@ fn parent_in_block(
     requires forest { (keys : List ℕ) × IsForest nodes.now.slots keys }
     requires within { end ≤ length row.now }
     requires begun { block * row_block ≤ end }
-    ensures none { MatchOption result (NoParentsInBlock nodes.now.slots row.now from end block) (λ found. NoParentsInBlock nodes.now.slots row.now from found.0 block) }
-    ensures some { IfSome result (λ found. IsParentKey nodes.now.slots row.now found.0 found.1 × (from ≤ found.0) × (found.0 < end) × (found.0 < block * row_block + row_block)) }
+    ensures none { MatchOption result (NoParentsInBlock nodes.now.slots row.now from end block)
+        (λ found. NoParentsInBlock nodes.now.slots row.now from found.0 block) }
+    ensures some { IfSome result
+        (λ found. IsParentKey nodes.now.slots row.now found.0 found.1 × (from ≤ found.0)
+        × (found.0 < end) × (found.0 < block * row_block + row_block)) }
 {
     if !row.is_used(block) {
         return None;
@@ -89,7 +95,8 @@ fn parent_in_block(
 fn parent_in(nodes: &Slots, row: &Row, from: usize, end: usize) -> Option<(usize, usize)>
     requires forest { (keys : List ℕ) × IsForest nodes.now.slots keys }
     requires within { end ≤ length row.now }
-    ensures { MatchOption result (NoParents nodes.now.slots row.now from end) (λ found. IsFirstParent nodes.now.slots row.now from end found.0 found.1) }
+    ensures { MatchOption result (NoParents nodes.now.slots row.now from end)
+        (λ found. IsFirstParent nodes.now.slots row.now from end found.0 found.1) }
 {
     for block in from / BLOCK..end / BLOCK + 1 {
         if let Some(found) = parent_in_block(nodes, row, from, end, block) {
@@ -133,7 +140,8 @@ fn seek_parent(
     end: u32,
 ) -> Option<(u32, usize)>
     requires forest { (keys : List ℕ) × IsForest nodes.now.slots keys }
-    ensures { MatchOption result (NoParentPage nodes.now.slots pages.now space page end) (λ found. IsParentPage nodes.now.slots pages.now space page end found.0 found.1) }
+    ensures { MatchOption result (NoParentPage nodes.now.slots pages.now space page end)
+        (λ found. IsParentPage nodes.now.slots pages.now space page end found.0 found.1) }
 {
     let mut next = page;
     loop {
@@ -159,7 +167,8 @@ pub(crate) fn next_parent(
     end: u32,
 ) -> Option<(u32, usize)>
     requires forest { (keys : List ℕ) × IsForest nodes.now.slots keys }
-    ensures { MatchOption result (NoParentPage nodes.now.slots pages.now space page end) (λ found. IsParentPage nodes.now.slots pages.now space page end found.0 found.1) }
+    ensures { MatchOption result (NoParentPage nodes.now.slots pages.now space page end)
+        (λ found. IsParentPage nodes.now.slots pages.now space page end found.0 found.1) }
 {
     if page >= end {
         return None;

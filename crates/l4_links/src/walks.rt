@@ -125,8 +125,10 @@ pub(crate) fn has_source(nodes: &mut Slots, top: usize, stamp: u32) -> bool
 #[inline]
 pub(crate) fn is_leaf(nodes: &Slots, key: usize) -> bool
     requires forest { (keys : List ℕ) × IsForest nodes.now.slots keys }
-    ensures yes { result ≡ true → (node_at nodes.now.slots key ≢ None) × ((low : ℕ) → ¬ (Leads (parent_at (limbs nodes.now.slots)) low key)) }
-    ensures no { result ≡ false → node_at nodes.now.slots key ≢ None → (low : ℕ) × Leads (parent_at (limbs nodes.now.slots)) low key }
+    ensures yes { result ≡ true → (node_at nodes.now.slots key ≢ None)
+        × ((low : ℕ) → ¬ (Leads (parent_at (limbs nodes.now.slots)) low key)) }
+    ensures no { result ≡ false → node_at nodes.now.slots key ≢ None → (low : ℕ)
+        × Leads (parent_at (limbs nodes.now.slots)) low key }
 {
     let Some(node) = node_of(nodes, key) else {
         return false;

@@ -12,7 +12,8 @@ use l4_links::{Links, Place};
 /// Clears the node at the place, if it has a key.
 fn clear_page(links: &mut Links, place: Place)
     requires { HaveRights links.old.entries }
-    ensures clears { (key : ℕ) → IsAt links.old.entries place key → Clears key links.old.entries links.new.entries }
+    ensures clears { (key : ℕ) → IsAt links.old.entries place key
+        → Clears key links.old.entries links.new.entries }
     ensures spaces { links.new.spaces ≡ links.old.spaces }
 {
     let Some(key) = links.find(place) else {
@@ -24,9 +25,13 @@ fn clear_page(links: &mut Links, place: Place)
 /// Clears the target of each used move. All targets are wanted, and no source goes.
 pub(crate) fn clear_targets(links: &mut Links, from: u64, to: u64, items: &[ItemMove])
     requires rights { HaveRights links.old.entries }
-    requires wanted { (move : AUsedMove) → IsMoved links.old.entries from to items.now move → IsWanted links.old.entries move.target }
-    requires stay { (move : AUsedMove) → IsMoved links.old.entries from to items.now move → ¬ (Goes (IsMoved links.old.entries from to items.now) links.old.entries move.source) }
-    ensures clears { (key : ℕ) → IsClearedAt (Goes (IsMoved links.old.entries from to items.now) links.old.entries key) (entry_at links.old.entries key) (entry_at links.new.entries key) }
+    requires wanted { (move : AUsedMove) → IsMoved links.old.entries from to items.now move
+        → IsWanted links.old.entries move.target }
+    requires stay { (move : AUsedMove) → IsMoved links.old.entries from to items.now move
+        → ¬ (Goes (IsMoved links.old.entries from to items.now) links.old.entries move.source) }
+    ensures clears { (key : ℕ)
+        → IsClearedAt (Goes (IsMoved links.old.entries from to items.now) links.old.entries key)
+        (entry_at links.old.entries key) (entry_at links.new.entries key) }
     ensures spaces { links.new.spaces ≡ links.old.spaces }
 {
     links.law_places();

@@ -18,7 +18,8 @@ pub(crate) fn end_of(block: Block) -> u32
 
 /// Cuts the rights of the node under the key and of what descends from it, if an item with these rights granted it there.
 fn cut_key(links: &mut Links, key: usize, rights: Rights)
-    ensures capped { Capped (λ other. (other ≡ key) × IsGrantedAt links.old.entries other rights) links.old.entries links.new.entries }
+    ensures capped { Capped (λ other. (other ≡ key) × IsGrantedAt links.old.entries other rights)
+        links.old.entries links.new.entries }
     ensures spaces { links.new.spaces ≡ links.old.spaces }
 {
     links.law_trees();
@@ -36,7 +37,8 @@ fn cut_key(links: &mut Links, key: usize, rights: Rights)
 
 /// Cuts what the item granted, with what descends from it.
 fn cut_item(links: &mut Links, to: u64, by: &ItemMove)
-    ensures capped { Capped (IsGrantBy links.old.entries to by.now) links.old.entries links.new.entries }
+    ensures capped { Capped (IsGrantBy links.old.entries to by.now) links.old.entries
+        links.new.entries }
     ensures spaces { links.new.spaces ≡ links.old.spaces }
 {
     if !by.grant {
@@ -55,7 +57,8 @@ fn cut_item(links: &mut Links, to: u64, by: &ItemMove)
 
 /// Cuts what the items granted, with what descends from it.
 pub(crate) fn cut(links: &mut Links, to: u64, items: &[ItemMove])
-    ensures capped { Capped (IsGrantBelow links.old.entries to items.now (length items.now)) links.old.entries links.new.entries }
+    ensures capped { Capped (IsGrantBelow links.old.entries to items.now (length items.now))
+        links.old.entries links.new.entries }
     ensures spaces { links.new.spaces ≡ links.old.spaces }
 {
     for item in 0..items.len() {

@@ -23,8 +23,11 @@ use l4_links::Links;
 /// Executes the used moves of a message whose targets are prepared, cuts the rights of what descends from granted pages, and removes all
 /// marks.
 fn carry_out(links: &mut Links, from: u64, to: u64, items: &[ItemMove])
-    requires ready { (start : Linked) × IsStart start from to items.now × Cleared (IsUsed (mappings_of start) from to items.now) start links.old }
-    ensures delivers { (start : Linked) → IsStart start from to items.now → Cleared (IsUsed (mappings_of start) from to items.now) start links.old → Delivers from to items.now (mappings_of start) (mappings_of links.new) }
+    requires ready { (start : Linked) × IsStart start from to items.now
+        × Cleared (IsUsed (mappings_of start) from to items.now) start links.old }
+    ensures delivers { (start : Linked) → IsStart start from to items.now
+        → Cleared (IsUsed (mappings_of start) from to items.now) start links.old
+        → Delivers from to items.now (mappings_of start) (mappings_of links.new) }
     ensures clean { IsClean links.new }
     ensures roots { (start : Linked) → IsStart start from to items.now → Cleared (IsUsed (mappings_of start) from to items.now) start links.old
         → (roots : List ℕ) → RootsKnown start.entries roots → RootsKnown links.new.entries roots }
@@ -47,9 +50,14 @@ fn deliver_any(links: &mut Links, from: u64, to: u64, items: &[ItemMove]) -> Res
     requires there { IsTrue (set.contains links.old.spaces to) }
     requires forest { IsForest (mappings_of links.old) }
     ensures ok { OnOk result (IsDelivered from to items.now links.old links.new) }
-    ensures err { OnErr result ((key : ℕ) → entry_at links.new.entries key ≡ entry_at links.old.entries key) }
-    ensures cause { IfErr result (HasCause (IsUsed (mappings_of links.old) from to items.now) (mappings_of links.old)) }
-    ensures succeeds { TargetsPresent (IsUsed (mappings_of links.old) from to items.now) (mappings_of links.old) → ¬ (IsEntangled (IsUsed (mappings_of links.old) from to items.now) (mappings_of links.old)) → IsOk result }
+    ensures err { OnErr result
+        ((key : ℕ) → entry_at links.new.entries key ≡ entry_at links.old.entries key) }
+    ensures cause { IfErr result
+        (HasCause (IsUsed (mappings_of links.old) from to items.now) (mappings_of links.old)) }
+    ensures succeeds { TargetsPresent (IsUsed (mappings_of links.old) from to items.now)
+        (mappings_of links.old)
+        → ¬ (IsEntangled (IsUsed (mappings_of links.old) from to items.now) (mappings_of links.old))
+        → IsOk result }
     ensures spaces { links.new.spaces ≡ links.old.spaces }
 {
     links.law_places();
@@ -67,10 +75,15 @@ fn deliver_any(links: &mut Links, from: u64, to: u64, items: &[ItemMove]) -> Res
 fn deliver_short(links: &mut Links, from: u64, to: u64, items: &[ItemMove]) -> Result<bool, Cause>
     requires clean { IsClean links.old }
     requires there { IsTrue (set.contains links.old.spaces to) }
-    ensures done { IfOk result (λ done. done ≡ true → IsDelivered from to items.now links.old links.new) }
-    ensures left { IfOk result (λ done. done ≡ false → (key : ℕ) → entry_at links.new.entries key ≡ entry_at links.old.entries key) }
-    ensures err { OnErr result ((key : ℕ) → entry_at links.new.entries key ≡ entry_at links.old.entries key) }
-    ensures cause { IfErr result (HasCause (IsUsed (mappings_of links.old) from to items.now) (mappings_of links.old)) }
+    ensures done { IfOk result
+        (λ done. done ≡ true → IsDelivered from to items.now links.old links.new) }
+    ensures left { IfOk result
+        (λ done. done ≡ false → (key : ℕ) → entry_at links.new.entries key
+        ≡ entry_at links.old.entries key) }
+    ensures err { OnErr result
+        ((key : ℕ) → entry_at links.new.entries key ≡ entry_at links.old.entries key) }
+    ensures cause { IfErr result
+        (HasCause (IsUsed (mappings_of links.old) from to items.now) (mappings_of links.old)) }
     ensures spaces { links.new.spaces ≡ links.old.spaces }
 {
     links.law_places();
@@ -91,9 +104,14 @@ pub fn deliver(links: &mut Links, from: u64, to: u64, items: &[ItemMove]) -> Res
     requires there { IsTrue (set.contains links.old.spaces to) }
     requires forest { IsForest (mappings_of links.old) }
     ensures ok { OnOk result (IsDelivered from to items.now links.old links.new) }
-    ensures err { OnErr result ((key : ℕ) → entry_at links.new.entries key ≡ entry_at links.old.entries key) }
-    ensures cause { IfErr result (HasCause (IsUsed (mappings_of links.old) from to items.now) (mappings_of links.old)) }
-    ensures succeeds { TargetsPresent (IsUsed (mappings_of links.old) from to items.now) (mappings_of links.old) → ¬ (IsEntangled (IsUsed (mappings_of links.old) from to items.now) (mappings_of links.old)) → IsOk result }
+    ensures err { OnErr result
+        ((key : ℕ) → entry_at links.new.entries key ≡ entry_at links.old.entries key) }
+    ensures cause { IfErr result
+        (HasCause (IsUsed (mappings_of links.old) from to items.now) (mappings_of links.old)) }
+    ensures succeeds { TargetsPresent (IsUsed (mappings_of links.old) from to items.now)
+        (mappings_of links.old)
+        → ¬ (IsEntangled (IsUsed (mappings_of links.old) from to items.now) (mappings_of links.old))
+        → IsOk result }
     ensures spaces { links.new.spaces ≡ links.old.spaces }
 {
     links.law_places();

@@ -26,10 +26,15 @@ fn grant_block(links: &mut Links, from: u64, to: u64, items: &[ItemMove]) -> Res
     requires ground { IsGround links.old from to }
     requires there { IsTrue (set.contains links.old.spaces to) }
     ensures apart { IfOk result (λ handed. handed ≡ true → AreApart items.now (length items.now)) }
-    ensures handed { IfOk result (λ handed. handed ≡ true → Handed links.old from to items.now (IsMoved links.old.entries from to items.now) links.new) }
+    ensures handed { IfOk result
+        (λ handed. handed ≡ true
+        → Handed links.old from to items.now (IsMoved links.old.entries from to items.now)
+        links.new) }
     ensures left { IfOk result (λ handed. handed ≡ false → links.new ≡ links.old) }
     ensures err { OnErr result (links.new ≡ links.old) }
-    ensures lacks { OnErr result ((move : AUsedMove) × IsMoved links.old.entries from to items.now move × ((key : ℕ) → ¬ (IsAt links.old.entries move.target key))) }
+    ensures lacks { OnErr result
+        ((move : AUsedMove) × IsMoved links.old.entries from to items.now move
+        × ((key : ℕ) → ¬ (IsAt links.old.entries move.target key))) }
     ensures spaces { links.new.spaces ≡ links.old.spaces }
 {
     if items.len() != 1 {
@@ -63,10 +68,15 @@ pub(crate) fn deliver_grants(
 ) -> Result<bool, Cause>
     requires clean { IsClean links.old }
     requires there { IsTrue (set.contains links.old.spaces to) }
-    ensures done { IfOk result (λ done. done ≡ true → IsDelivered from to items.now links.old links.new) }
-    ensures left { IfOk result (λ done. done ≡ false → (key : ℕ) → entry_at links.new.entries key ≡ entry_at links.old.entries key) }
-    ensures err { OnErr result ((key : ℕ) → entry_at links.new.entries key ≡ entry_at links.old.entries key) }
-    ensures cause { IfErr result (HasCause (IsUsed (mappings_of links.old) from to items.now) (mappings_of links.old)) }
+    ensures done { IfOk result
+        (λ done. done ≡ true → IsDelivered from to items.now links.old links.new) }
+    ensures left { IfOk result
+        (λ done. done ≡ false → (key : ℕ) → entry_at links.new.entries key
+        ≡ entry_at links.old.entries key) }
+    ensures err { OnErr result
+        ((key : ℕ) → entry_at links.new.entries key ≡ entry_at links.old.entries key) }
+    ensures cause { IfErr result
+        (HasCause (IsUsed (mappings_of links.old) from to items.now) (mappings_of links.old)) }
     ensures spaces { links.new.spaces ≡ links.old.spaces }
 {
     links.law_places();

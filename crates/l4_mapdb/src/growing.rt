@@ -29,11 +29,14 @@ fn grow(links: &mut Links, used: UsedMove, rights: Rights) -> Result<(), Stop>
     requires there { IsTrue (set.contains links.old.spaces used.target.space) }
     requires fits { IsPage used.target.page }
     requires stands { IsStanding links.old.entries used.source }
-    requires some { (above : AStanding) → standing_at links.old.entries used.source ≡ Some above → common above.rights rights ≢ no_rights }
-    ensures ok { OnOk result (GrowsAt used.source used.target rights links.old.entries links.new.entries) }
+    requires some { (above : AStanding) → standing_at links.old.entries used.source ≡ Some above
+        → common above.rights rights ≢ no_rights }
+    ensures ok { OnOk result
+        (GrowsAt used.source used.target rights links.old.entries links.new.entries) }
     ensures err { OnErr result (links.new ≡ links.old) }
     ensures stop { IfErr result (λ stop. stop.used ≡ used) }
-    ensures lacks { IfErr result (λ stop. stop.refused ≡ true → (key : ℕ) → ¬ (IsAt links.old.entries used.target key)) }
+    ensures lacks { IfErr result
+        (λ stop. stop.refused ≡ true → (key : ℕ) → ¬ (IsAt links.old.entries used.target key)) }
     ensures spaces { links.new.spaces ≡ links.old.spaces }
 {
     match links.add_child(used.source, used.target, rights) {
@@ -53,7 +56,9 @@ fn grow(links: &mut Links, used: UsedMove, rights: Rights) -> Result<(), Stop>
 fn grow_all(links: &mut Links, from: u64, to: u64, items: &[ItemMove]) -> Result<(), Stop>
     requires ground { IsGround links.old from to }
     requires there { IsTrue (set.contains links.old.spaces to) }
-    ensures ok { OnOk result (Grown links.old from to items.now (IsMoved links.old.entries from to items.now) links.new) }
+    ensures ok { OnOk result
+        (Grown links.old from to items.now (IsMoved links.old.entries from to items.now)
+        links.new) }
     ensures err { IfErr result (IsStopped links.old from to items.now links.new) }
     ensures spaces { links.new.spaces ≡ links.old.spaces }
 {
@@ -70,7 +75,8 @@ fn grow_all(links: &mut Links, from: u64, to: u64, items: &[ItemMove]) -> Result
 /// Removes the node at the place, with its page.
 fn take_back(links: &mut Links, place: Place)
     requires { HaveRights links.old.entries }
-    ensures takes { (key : ℕ) → IsAt links.old.entries place key → TakesBack key links.old.entries links.new.entries }
+    ensures takes { (key : ℕ) → IsAt links.old.entries place key
+        → TakesBack key links.old.entries links.new.entries }
     ensures spaces { links.new.spaces ≡ links.old.spaces }
 {
     let Some(key) = links.find(place) else {
@@ -82,8 +88,10 @@ fn take_back(links: &mut Links, place: Place)
 
 /// Returns whether the two are one used move.
 fn is_same(one: &UsedMove, other: &UsedMove) -> bool
-    ensures yes { result ≡ true → (one.now.item ≡ other.now.item) × (one.now.page ≡ other.now.page) }
-    ensures no { result ≡ false → (one.now.item ≡ other.now.item) → (one.now.page ≡ other.now.page) → ⊥ }
+    ensures yes { result ≡ true → (one.now.item ≡ other.now.item)
+        × (one.now.page ≡ other.now.page) }
+    ensures no { result ≡ false → (one.now.item ≡ other.now.item) → (one.now.page ≡ other.now.page)
+        → ⊥ }
 {
     if one.item != other.item {
         return false;
@@ -93,7 +101,9 @@ fn is_same(one: &UsedMove, other: &UsedMove) -> bool
 
 /// Takes the children of the used moves before this one back.
 fn shrink(links: &mut Links, from: u64, to: u64, items: &[ItemMove], stop: &UsedMove)
-    requires grown { (start : Linked) × IsGround start from to × IsMoved start.entries from to items.now stop.now × Grown start from to items.now (Earlier (turn_of stop.now)) links.old }
+    requires grown { (start : Linked) × IsGround start from to
+        × IsMoved start.entries from to items.now stop.now
+        × Grown start from to items.now (Earlier (turn_of stop.now)) links.old }
     ensures same { (start : Linked) → IsGround start from to → IsMoved start.entries from to items.now stop.now → Grown start from to items.now (Earlier (turn_of stop.now)) links.old
         → (key : ℕ) → entry_at links.new.entries key ≡ entry_at start.entries key }
     ensures spaces { links.new.spaces ≡ links.old.spaces }
@@ -120,7 +130,8 @@ pub(crate) fn grow_children(
     requires there { IsTrue (set.contains links.old.spaces to) }
     requires maps { AreMaps items.now }
     ensures ok { OnOk result (Mapped links.old from to items.now links.new) }
-    ensures err { OnErr result ((key : ℕ) → entry_at links.new.entries key ≡ entry_at links.old.entries key) }
+    ensures err { OnErr result
+        ((key : ℕ) → entry_at links.new.entries key ≡ entry_at links.old.entries key) }
     ensures stop { IfErr result (Stops links.old from to items.now) }
     ensures spaces { links.new.spaces ≡ links.old.spaces }
 {

@@ -45,10 +45,15 @@ pub(crate) fn deliver_maps(
 ) -> Result<bool, Cause>
     requires clean { IsClean links.old }
     requires there { IsTrue (set.contains links.old.spaces to) }
-    ensures done { IfOk result (λ done. done ≡ true → IsDelivered from to items.now links.old links.new) }
-    ensures left { IfOk result (λ done. done ≡ false → (key : ℕ) → entry_at links.new.entries key ≡ entry_at links.old.entries key) }
-    ensures err { OnErr result ((key : ℕ) → entry_at links.new.entries key ≡ entry_at links.old.entries key) }
-    ensures cause { IfErr result (HasCause (IsUsed (mappings_of links.old) from to items.now) (mappings_of links.old)) }
+    ensures done { IfOk result
+        (λ done. done ≡ true → IsDelivered from to items.now links.old links.new) }
+    ensures left { IfOk result
+        (λ done. done ≡ false → (key : ℕ) → entry_at links.new.entries key
+        ≡ entry_at links.old.entries key) }
+    ensures err { OnErr result
+        ((key : ℕ) → entry_at links.new.entries key ≡ entry_at links.old.entries key) }
+    ensures cause { IfErr result
+        (HasCause (IsUsed (mappings_of links.old) from to items.now) (mappings_of links.old)) }
     ensures spaces { links.new.spaces ≡ links.old.spaces }
 {
     links.law_places();

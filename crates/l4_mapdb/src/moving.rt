@@ -12,8 +12,10 @@ use l4_links::{Links, Place};
 
 /// Returns whether a message moves the page of the key: its node is marked and was not granted, and shares a right with the item.
 fn is_moved(links: &Links, key: usize, rights: Rights) -> bool
-    ensures yes { result ≡ true → (place : ALinkPlace) → IsAt links.now.entries place key → IsSourceAt links.now.entries place rights key }
-    ensures no { result ≡ false → (place : ALinkPlace) → IsKeyOf links.now.entries place key → MovesNone place rights links.now.entries }
+    ensures yes { result ≡ true → (place : ALinkPlace) → IsAt links.now.entries place key
+        → IsSourceAt links.now.entries place rights key }
+    ensures no { result ≡ false → (place : ALinkPlace) → IsKeyOf links.now.entries place key
+        → MovesNone place rights links.now.entries }
 {
     let Some(standing) = links.standing(key) else {
         return false;
@@ -26,7 +28,8 @@ fn is_moved(links: &Links, key: usize, rights: Rights) -> bool
 
 /// Moves the page of the key, if the message moves it: a granted node goes to the target, and a mapped one gets a child there.
 fn move_key(links: &mut Links, key: usize, target: Place, rights: Rights, grants: bool)
-    requires blank { (source : ALinkPlace) × IsKeyOf links.old.entries source key × HasBlank source target rights links.old.entries }
+    requires blank { (source : ALinkPlace) × IsKeyOf links.old.entries source key
+        × HasBlank source target rights links.old.entries }
     ensures moves { (source : ALinkPlace) → IsKeyOf links.old.entries source key
         → MovesPage grants source target rights links.old.entries links.new.entries ⊎ (MovesNone source rights links.old.entries × (links.new ≡ links.old)) }
     ensures spaces { links.new.spaces ≡ links.old.spaces }
@@ -46,7 +49,8 @@ fn move_key(links: &mut Links, key: usize, target: Place, rights: Rights, grants
 /// Carries out the used moves of the item of this number, if it is of this kind.
 fn move_item(links: &mut Links, from: u64, to: u64, items: &[ItemMove], grants: bool, item: usize)
     requires within { item < length items.now }
-    requires ready { (start : Linked) × IsStart start from to items.now × Placed start from to items.now (IsDone start from to items.now grants item 0) links.old }
+    requires ready { (start : Linked) × IsStart start from to items.now
+        × Placed start from to items.now (IsDone start from to items.now grants item 0) links.old }
     ensures moves { (start : Linked) → IsStart start from to items.now → Placed start from to items.now (IsDone start from to items.now grants item 0) links.old
         → Placed start from to items.now (IsDone start from to items.now grants (item + 1) 0) links.new }
     ensures spaces { links.new.spaces ≡ links.old.spaces }
@@ -73,7 +77,8 @@ fn move_item(links: &mut Links, from: u64, to: u64, items: &[ItemMove], grants: 
 
 /// Carries out the used moves of all items of this kind.
 fn move_kind(links: &mut Links, from: u64, to: u64, items: &[ItemMove], grants: bool)
-    requires ready { (start : Linked) × IsStart start from to items.now × Placed start from to items.now (IsDone start from to items.now grants 0 0) links.old }
+    requires ready { (start : Linked) × IsStart start from to items.now
+        × Placed start from to items.now (IsDone start from to items.now grants 0 0) links.old }
     ensures moves { (start : Linked) → IsStart start from to items.now → Placed start from to items.now (IsDone start from to items.now grants 0 0) links.old
         → Placed start from to items.now (IsDone start from to items.now grants (length items.now) 0) links.new }
     ensures spaces { links.new.spaces ≡ links.old.spaces }
@@ -85,7 +90,8 @@ fn move_kind(links: &mut Links, from: u64, to: u64, items: &[ItemMove], grants: 
 
 /// Carries out the used moves of all items: first those of map items, then those of grant items.
 pub(crate) fn move_all(links: &mut Links, from: u64, to: u64, items: &[ItemMove])
-    requires ready { (start : Linked) × IsStart start from to items.now × Placed start from to items.now (IsDone start from to items.now false 0 0) links.old }
+    requires ready { (start : Linked) × IsStart start from to items.now
+        × Placed start from to items.now (IsDone start from to items.now false 0 0) links.old }
     ensures moves { (start : Linked) → IsStart start from to items.now → Placed start from to items.now (IsDone start from to items.now false 0 0) links.old
         → Placed start from to items.now (IsDone start from to items.now true (length items.now) 0) links.new }
     ensures spaces { links.new.spaces ≡ links.old.spaces }

@@ -20,7 +20,8 @@ use l4_links::Links;
 
 /// Why a message is refused that there was no memory for.
 pub(crate) fn refusal(links: &Links, from: u64, to: u64, items: &[ItemMove]) -> Cause
-    requires { (move : AUsedMove) × IsMoved links.now.entries from to items.now move × ((key : ℕ) → ¬ (IsAt links.now.entries move.target key)) }
+    requires { (move : AUsedMove) × IsMoved links.now.entries from to items.now move
+        × ((key : ℕ) → ¬ (IsAt links.now.entries move.target key)) }
     ensures { LacksKey (IsMoved links.now.entries from to items.now) links.now.entries result }
 {
     if has_tangle(links, from, to, items) {
@@ -34,11 +35,17 @@ pub(crate) fn refusal(links: &Links, from: u64, to: u64, items: &[ItemMove]) -> 
 fn make_ready(links: &mut Links, from: u64, to: u64, items: &[ItemMove]) -> Result<bool, Cause>
     requires clean { IsClean links.old }
     requires there { IsTrue (set.contains links.old.spaces to) }
-    ensures ok { OnOk result (Roomed (IsMoved links.old.entries from to items.now) links.old.entries links.new.entries) }
-    ensures free { OnOk result (¬ (HasTangle (IsMoved links.old.entries from to items.now) links.old.entries)) }
-    ensures had { IfOk result (λ had. had ≡ false → AreAbsent (IsMoved links.old.entries from to items.now) links.old.entries) }
-    ensures err { OnErr result ((key : ℕ) → entry_at links.new.entries key ≡ entry_at links.old.entries key) }
-    ensures cause { IfErr result (LacksKey (IsMoved links.old.entries from to items.now) links.old.entries) }
+    ensures ok { OnOk result
+        (Roomed (IsMoved links.old.entries from to items.now) links.old.entries links.new.entries) }
+    ensures free { OnOk result
+        (¬ (HasTangle (IsMoved links.old.entries from to items.now) links.old.entries)) }
+    ensures had { IfOk result
+        (λ had. had ≡ false
+        → AreAbsent (IsMoved links.old.entries from to items.now) links.old.entries) }
+    ensures err { OnErr result
+        ((key : ℕ) → entry_at links.new.entries key ≡ entry_at links.old.entries key) }
+    ensures cause { IfErr result
+        (LacksKey (IsMoved links.old.entries from to items.now) links.old.entries) }
     ensures spaces { links.new.spaces ≡ links.old.spaces }
 {
     let Ok(had) = make_room(links, from, to, items) else {
@@ -65,11 +72,19 @@ pub(crate) fn make_way(
 ) -> Result<(), Cause>
     requires clean { IsClean links.old }
     requires there { IsTrue (set.contains links.old.spaces to) }
-    ensures ok { OnOk result (Cleared (IsUsed (mappings_of links.old) from to items.now) links.old links.new) }
-    ensures free { OnOk result (¬ (IsEntangled (IsUsed (mappings_of links.old) from to items.now) (mappings_of links.old))) }
-    ensures err { OnErr result ((key : ℕ) → entry_at links.new.entries key ≡ entry_at links.old.entries key) }
-    ensures cause { IfErr result (HasCause (IsUsed (mappings_of links.old) from to items.now) (mappings_of links.old)) }
-    ensures succeeds { TargetsPresent (IsUsed (mappings_of links.old) from to items.now) (mappings_of links.old) → ¬ (IsEntangled (IsUsed (mappings_of links.old) from to items.now) (mappings_of links.old)) → IsOk result }
+    ensures ok { OnOk result
+        (Cleared (IsUsed (mappings_of links.old) from to items.now) links.old links.new) }
+    ensures free { OnOk result
+        (¬
+        (IsEntangled (IsUsed (mappings_of links.old) from to items.now) (mappings_of links.old))) }
+    ensures err { OnErr result
+        ((key : ℕ) → entry_at links.new.entries key ≡ entry_at links.old.entries key) }
+    ensures cause { IfErr result
+        (HasCause (IsUsed (mappings_of links.old) from to items.now) (mappings_of links.old)) }
+    ensures succeeds { TargetsPresent (IsUsed (mappings_of links.old) from to items.now)
+        (mappings_of links.old)
+        → ¬ (IsEntangled (IsUsed (mappings_of links.old) from to items.now) (mappings_of links.old))
+        → IsOk result }
     ensures spaces { links.new.spaces ≡ links.old.spaces }
 {
     links.law_places();

@@ -42,10 +42,12 @@ fn make_place(links: &mut Links, used: UsedMove, rights: Rights) -> Result<bool,
     requires there { IsTrue (set.contains links.old.spaces used.target.space) }
     requires fits { IsPage used.target.page }
     ensures made { OnOk result (IsMade used.target links.old links.new) }
-    ensures has { IfOk result (λ has. has ≡ true → IsHeld used.source used.target rights links.old links.new) }
+    ensures has { IfOk result
+        (λ has. has ≡ true → IsHeld used.source used.target rights links.old links.new) }
     ensures err { OnErr result (links.new ≡ links.old) }
     ensures stop { IfErr result (λ stop. stop.used ≡ used) }
-    ensures lacks { IfErr result (λ stop. stop.refused ≡ true → (key : ℕ) → ¬ (IsAt links.old.entries used.target key)) }
+    ensures lacks { IfErr result
+        (λ stop. stop.refused ≡ true → (key : ℕ) → ¬ (IsAt links.old.entries used.target key)) }
     ensures spaces { links.new.spaces ≡ links.old.spaces }
 {
     if let Some(key) = links.find(used.target) {
@@ -71,8 +73,13 @@ fn make_place(links: &mut Links, used: UsedMove, rights: Rights) -> Result<bool,
 fn make_places(links: &mut Links, from: u64, to: u64, items: &[ItemMove]) -> Result<bool, Stop>
     requires ground { IsGround links.old from to }
     requires there { IsTrue (set.contains links.old.spaces to) }
-    ensures all { IfOk result (λ all. all ≡ true → Holds links.old from to items.now (IsMoved links.old.entries from to items.now) × (links.new ≡ links.old)) }
-    ensures ok { OnOk result (Spaced links.old from to items.now (IsMoved links.old.entries from to items.now) links.new) }
+    ensures all { IfOk result
+        (λ all. all ≡ true
+        → Holds links.old from to items.now (IsMoved links.old.entries from to items.now)
+        × (links.new ≡ links.old)) }
+    ensures ok { OnOk result
+        (Spaced links.old from to items.now (IsMoved links.old.entries from to items.now)
+        links.new) }
     ensures err { IfErr result (IsBarred links.old from to items.now links.new) }
     ensures spaces { links.new.spaces ≡ links.old.spaces }
 {
@@ -91,7 +98,8 @@ fn make_places(links: &mut Links, from: u64, to: u64, items: &[ItemMove]) -> Res
 /// Replaces the node at the target by a child of the used move's source. A node that is already its child only gets its rights.
 fn renew(links: &mut Links, used: UsedMove, rights: Rights)
     requires ready { CanRenew used.source used.target rights links.old.entries }
-    requires once { (a b : ℕ) → IsAt links.old.entries used.target a → IsAt links.old.entries used.target b → a ≡ b }
+    requires once { (a b : ℕ) → IsAt links.old.entries used.target a
+        → IsAt links.old.entries used.target b → a ≡ b }
     requires rights { HaveRights links.old.entries }
     ensures renews { RenewsAt used.source used.target rights links.old.entries links.new.entries }
     ensures spaces { links.new.spaces ≡ links.old.spaces }
@@ -108,7 +116,8 @@ fn renew(links: &mut Links, used: UsedMove, rights: Rights)
 
 /// Replaces the nodes at the targets of all used moves by children of their sources.
 fn renew_all(links: &mut Links, from: u64, to: u64, items: &[ItemMove])
-    requires ready { (start : Linked) × IsGround start from to × Spaced start from to items.now (IsMoved start.entries from to items.now) links.old }
+    requires ready { (start : Linked) × IsGround start from to
+        × Spaced start from to items.now (IsMoved start.entries from to items.now) links.old }
     requires apart { AreApart items.now (length items.now) }
     ensures renewed { (start : Linked) → IsGround start from to → Spaced start from to items.now (IsMoved start.entries from to items.now) links.old
         → Renewed start from to items.now (IsMoved start.entries from to items.now) links.new }
@@ -135,7 +144,8 @@ pub(crate) fn take_places(
     requires there { IsTrue (set.contains links.old.spaces to) }
     requires apart { AreApart items.now (length items.now) }
     ensures ok { OnOk result (Mapped links.old from to items.now links.new) }
-    ensures err { OnErr result ((key : ℕ) → entry_at links.new.entries key ≡ entry_at links.old.entries key) }
+    ensures err { OnErr result
+        ((key : ℕ) → entry_at links.new.entries key ≡ entry_at links.old.entries key) }
     ensures stop { IfErr result (Stops links.old from to items.now) }
     ensures spaces { links.new.spaces ≡ links.old.spaces }
 {

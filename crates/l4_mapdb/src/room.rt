@@ -16,9 +16,11 @@ use l4_links::{Links, NoMemory, Place};
 fn want_page(links: &mut Links, place: Place) -> Result<bool, NoMemory>
     requires there { IsTrue (set.contains links.old.spaces place.space) }
     requires fits { IsPage place.page }
-    ensures wants { (key : ℕ) → Wants (λ p. p ≡ place) (entry_at links.old.entries key) (entry_at links.new.entries key) }
+    ensures wants { (key : ℕ)
+        → Wants (λ p. p ≡ place) (entry_at links.old.entries key) (entry_at links.new.entries key) }
     ensures ok { OnOk result (IsWanted links.new.entries place) }
-    ensures had { IfOk result (λ had. had ≡ false → (key : ℕ) → ¬ (IsAt links.old.entries place key)) }
+    ensures had { IfOk result
+        (λ had. had ≡ false → (key : ℕ) → ¬ (IsAt links.old.entries place key)) }
     ensures err { OnErr result ((key : ℕ) → ¬ (IsAt links.old.entries place key)) }
     ensures spaces { links.new.spaces ≡ links.old.spaces }
 {
@@ -45,10 +47,16 @@ pub(crate) fn make_room(
 ) -> Result<bool, NoMemory>
     requires clean { IsClean links.old }
     requires there { IsTrue (set.contains links.old.spaces to) }
-    ensures marks { Marks (IsMoved links.old.entries from to items.now) links.old.entries links.new.entries }
-    ensures ok { OnOk result (Roomed (IsMoved links.old.entries from to items.now) links.old.entries links.new.entries) }
-    ensures had { IfOk result (λ had. had ≡ false → AreAbsent (IsMoved links.old.entries from to items.now) links.old.entries) }
-    ensures err { OnErr result ((move : AUsedMove) × IsMoved links.old.entries from to items.now move × ((key : ℕ) → ¬ (IsAt links.old.entries move.target key))) }
+    ensures marks { Marks (IsMoved links.old.entries from to items.now) links.old.entries
+        links.new.entries }
+    ensures ok { OnOk result
+        (Roomed (IsMoved links.old.entries from to items.now) links.old.entries links.new.entries) }
+    ensures had { IfOk result
+        (λ had. had ≡ false
+        → AreAbsent (IsMoved links.old.entries from to items.now) links.old.entries) }
+    ensures err { OnErr result
+        ((move : AUsedMove) × IsMoved links.old.entries from to items.now move
+        × ((key : ℕ) → ¬ (IsAt links.old.entries move.target key))) }
     ensures spaces { links.new.spaces ≡ links.old.spaces }
 {
     links.law_places();

@@ -34,7 +34,8 @@ fn move_of(
     found: (u32, usize),
 ) -> Option<UsedMove>
     requires there { item < length items.now }
-    requires named { (by : AnItemMove) → slice_get items.now item ≡ Some by → InBlock by.mv.source.first by.mv.source.log found.0 }
+    requires named { (by : AnItemMove) → slice_get items.now item ≡ Some by
+        → InBlock by.mv.source.first by.mv.source.log found.0 }
     requires at { IsKeyOf links.now.entries (record { space = from; page = found.0 }) found.1 }
     ensures { MatchOption result
         ((move : UsedMove) → IsMoved links.now.entries from to items.now move → move.item ≡ item → move.page ≢ found.0)
@@ -151,9 +152,11 @@ impl UsedMoves {
         ensures gives { MatchOption result
             ((move : UsedMove) → IsMoved links.now.entries from to items.now move → turn_of move < turn_in self.old)
             (IsNextMove links.now.entries from to items.now (turn_in self.old)) }
-        ensures passes { IfSome result (λ m. self.new ≡ record { item = m.item; page = m.page + 1 }) }
+        ensures passes { IfSome result
+            (λ m. self.new ≡ record { item = m.item; page = m.page + 1 }) }
         ensures fits { IfSome result (λ m. m.page < most_pages) }
-        ensures falls { OnSome result (turns_left items.now self.new < turns_left items.now self.old) }
+        ensures falls { OnSome result
+            (turns_left items.now self.new < turns_left items.now self.old) }
     {
         let mut start = self.page;
         for number in self.item..items.len() {

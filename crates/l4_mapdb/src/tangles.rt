@@ -88,7 +88,8 @@ fn clashes_with(
     other: usize,
 ) -> bool
     requires { other < length items.now }
-    ensures { IsTrue result ↔ ClashesWith (IsMoved links.now.entries from to items.now) used.now other }
+    ensures { IsTrue result
+        ↔ ClashesWith (IsMoved links.now.entries from to items.now) used.now other }
 {
     if other == used.item {
         return false;
@@ -131,7 +132,8 @@ fn clashes(
 
 /// Returns whether a used move fills the page of the node under the key, or of one of its ancestors.
 fn is_taken(links: &Links, from: u64, to: u64, items: &[ItemMove], key: usize) -> bool
-    ensures { IsTrue result ↔ IsTaken (IsMoved links.now.entries from to items.now) links.now.entries key }
+    ensures { IsTrue result
+        ↔ IsTaken (IsMoved links.now.entries from to items.now) links.now.entries key }
 {
     links.law_trees();
     let mut at = key;
@@ -164,7 +166,8 @@ fn tangles_from(
 ) -> bool
     requires used { IsMoved links.now.entries from to items.now used.now }
     requires apart { apart ≡ true → AreApart items.now (length items.now) }
-    ensures { IsTrue result ↔ TanglesFrom (IsMoved links.now.entries from to items.now) links.now.entries used.now }
+    ensures { IsTrue result
+        ↔ TanglesFrom (IsMoved links.now.entries from to items.now) links.now.entries used.now }
 {
     if clashes(links, from, to, items, used, apart) {
         return true;
@@ -174,7 +177,8 @@ fn tangles_from(
 
 /// Returns whether the used moves conflict. Changes nothing, and goes up from each source.
 pub(crate) fn has_tangle(links: &Links, from: u64, to: u64, items: &[ItemMove]) -> bool
-    ensures { IsTrue result ↔ HasTangle (IsMoved links.now.entries from to items.now) links.now.entries }
+    ensures { IsTrue result
+        ↔ HasTangle (IsMoved links.now.entries from to items.now) links.now.entries }
 {
     links.law_places();
     let apart = are_apart(items);
@@ -189,7 +193,8 @@ pub(crate) fn has_tangle(links: &Links, from: u64, to: u64, items: &[ItemMove]) 
 
 /// Returns whether the used moves of a message conflict (this profile's own). Needs no memory.
 pub fn is_entangled(links: &Links, from: u64, to: u64, items: &[ItemMove]) -> bool
-    ensures { IsTrue result ↔ IsEntangled (IsUsed (mappings_of links.now) from to items.now) (mappings_of links.now) }
+    ensures { IsTrue result
+        ↔ IsEntangled (IsUsed (mappings_of links.now) from to items.now) (mappings_of links.now) }
 {
     links.law_places();
     links.law_trees();
@@ -227,7 +232,8 @@ fn tangles(
     requires apart { apart ≡ true → AreApart items.now (length items.now) }
     requires sources { SourcesAre (IsMoved links.old.entries from to items.now) links.old.entries }
     ensures same { (key : ℕ) → entry_at links.new.entries key ≡ entry_at links.old.entries key }
-    ensures answer { IsTrue result ↔ Tangles (IsMoved links.old.entries from to items.now) links.old.entries used.now }
+    ensures answer { IsTrue result
+        ↔ Tangles (IsMoved links.old.entries from to items.now) links.old.entries used.now }
     ensures spaces { links.new.spaces ≡ links.old.spaces }
 {
     if clashes(links, from, to, items, used, apart) {
@@ -241,7 +247,8 @@ fn marked_tangle(links: &mut Links, from: u64, to: u64, items: &[ItemMove], apar
     requires apart { apart ≡ true → AreApart items.now (length items.now) }
     requires sources { SourcesAre (IsMoved links.old.entries from to items.now) links.old.entries }
     ensures same { (key : ℕ) → entry_at links.new.entries key ≡ entry_at links.old.entries key }
-    ensures answer { IsTrue result ↔ HasTangle (IsMoved links.old.entries from to items.now) links.old.entries }
+    ensures answer { IsTrue result
+        ↔ HasTangle (IsMoved links.old.entries from to items.now) links.old.entries }
     ensures spaces { links.new.spaces ≡ links.old.spaces }
 {
     links.law_places();
@@ -264,9 +271,11 @@ pub(crate) fn room_tangle(
     had: bool,
 ) -> bool
     requires sources { SourcesAre (IsMoved links.old.entries from to items.now) links.old.entries }
-    requires had { had ≡ false → NoneReplaced (IsMoved links.old.entries from to items.now) links.old.entries }
+    requires had { had ≡ false
+        → NoneReplaced (IsMoved links.old.entries from to items.now) links.old.entries }
     ensures same { (key : ℕ) → entry_at links.new.entries key ≡ entry_at links.old.entries key }
-    ensures answer { IsTrue result ↔ HasTangle (IsMoved links.old.entries from to items.now) links.old.entries }
+    ensures answer { IsTrue result
+        ↔ HasTangle (IsMoved links.old.entries from to items.now) links.old.entries }
     ensures spaces { links.new.spaces ≡ links.old.spaces }
 {
     let apart = are_apart(items);

@@ -14,7 +14,8 @@ use l4_links::Links;
 /// Removes the marks from the page of the key, and the key if there is no node.
 fn tidy_key(links: &mut Links, key: usize)
     requires { entry_at links.old.entries key ≢ None }
-    ensures tidies { (place : ALinkPlace) → IsKeyOf links.old.entries place key → Tidies (λ p. p ≡ place) links.old.entries links.new.entries }
+    ensures tidies { (place : ALinkPlace) → IsKeyOf links.old.entries place key
+        → Tidies (λ p. p ≡ place) links.old.entries links.new.entries }
     ensures spaces { links.new.spaces ≡ links.old.spaces }
 {
     let Some(_) = links.standing(key) else {
@@ -27,7 +28,8 @@ fn tidy_key(links: &mut Links, key: usize)
 
 /// Removes the marks from the pages of the block in the space, and the keys of those without a node.
 fn tidy_block(links: &mut Links, space: u64, block: Block)
-    ensures tidies { Tidies (InPages space block.first (block.first + 2 ^ block.log)) links.old.entries links.new.entries }
+    ensures tidies { Tidies (InPages space block.first (block.first + 2 ^ block.log))
+        links.old.entries links.new.entries }
     ensures spaces { links.new.spaces ≡ links.old.spaces }
 {
     let end = end_of(block);
@@ -43,7 +45,8 @@ fn tidy_block(links: &mut Links, space: u64, block: Block)
 
 /// Removes the marks from the pages that the items name, and the keys of those without a node.
 pub(crate) fn unmark(links: &mut Links, from: u64, to: u64, items: &[ItemMove])
-    ensures tidies { Tidies (OfItems from to items.now (length items.now)) links.old.entries links.new.entries }
+    ensures tidies { Tidies (OfItems from to items.now (length items.now)) links.old.entries
+        links.new.entries }
     ensures spaces { links.new.spaces ≡ links.old.spaces }
 {
     for item in 0..items.len() {

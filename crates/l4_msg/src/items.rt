@@ -81,7 +81,8 @@ impl Item {
         ensures ok { IfOk result (ItemReads first second) }
         ensures err { IfErr result (ItemFails first second) }
         ensures only { (item : AnItem) → ItemReads first second item → result ≡ Ok item }
-        ensures refused { (fault : AnItemFault) → ItemFails first second fault → result ≡ Err fault }
+        ensures refused { (fault : AnItemFault) → ItemFails first second fault → result
+            ≡ Err fault }
     {
         let base = first >> 10 << 10;
         match first >> 1 & 7 {

@@ -151,14 +151,19 @@ impl Message {
     ///
     /// Condition: there are at most 63 words after the tag, and each send base is a multiple of 1,024 bytes.
     pub fn write(&self) -> ArrayVec<u32, MAX_WORDS>
-        requires fits { array_vec_len self.now.untyped + 2 * array_vec_len self.now.items ≤ max_untyped }
+        requires fits { array_vec_len self.now.untyped + 2 * array_vec_len self.now.items
+            ≤ max_untyped }
         requires whole { All (λ item. base_of item % base_unit ≡ 0) self.now.items.items }
         ensures value { result.items ≡ message_words self.now }
         ensures reads { MessageReads result.items self.now }
         ensures only { (other : AMessage) → MessageReads result.items other → other ≡ self.now }
-        ensures follows { (k : ℕ) → k < array_vec_len self.now.items → item_word self.now result.items k % 2 ≡ (if nat_lt (k + 1) (array_vec_len self.now.items) then 1 else 0) }
-        ensures middle { (k : ℕ) → k < array_vec_len self.now.items → unused_of (item_word self.now result.items k) ≡ 0 }
-        ensures len { array_vec_len result ≡ 1 + array_vec_len self.now.untyped + 2 * array_vec_len self.now.items }
+        ensures follows { (k : ℕ) → k < array_vec_len self.now.items
+            → item_word self.now result.items k % 2
+            ≡ (if nat_lt (k + 1) (array_vec_len self.now.items) then 1 else 0) }
+        ensures middle { (k : ℕ) → k < array_vec_len self.now.items
+            → unused_of (item_word self.now result.items k) ≡ 0 }
+        ensures len { array_vec_len result
+            ≡ 1 + array_vec_len self.now.untyped + 2 * array_vec_len self.now.items }
     {
         let typed = write_items(self.items.as_slice());
         let tag = Tag {

@@ -24,7 +24,8 @@ fn place(larger: Block, log: u8, page: u32) -> Block
 /// window covers no whole page. The window's rights are ignored.
 #[inline(always)]
 pub fn item_moves(item: &Item, window: &Fpage, size: PageSize) -> Option<Move>
-    ensures pages { (source target : ℕ) → MovePairs result source target ↔ ItemMoves size item.now window.now source target }
+    ensures pages { (source target : ℕ) → MovePairs result source target
+        ↔ ItemMoves size item.now window.now source target }
     ensures inside { IfSome result (StaysIn size) }
 {
     let from = item.fpage().pages(size)?;

@@ -62,7 +62,8 @@ impl PageFault {
     /// Reads the page fault that a message reports. Returns `None` unless the label is 0xffe0 to 0xffe7 and there are
     /// two untyped words and no item.
     pub fn read(message: &Message) -> Option<PageFault>
-        ensures reads { MatchOption result ((fault : AFault) → ¬ FaultReads message.now fault) (FaultReads message.now) }
+        ensures reads { MatchOption result ((fault : AFault) → ¬ FaultReads message.now fault)
+            (FaultReads message.now) }
         ensures only { (fault : AFault) → FaultReads message.now fault → result ≡ Some fault }
     {
         if message.label < FAULT_LABEL || message.label > FAULT_LABEL + 7 {
@@ -105,8 +106,10 @@ impl FrameRequest {
     /// Reads the request in a message, with its fpage without rights. Returns `None` unless the label is 0xffa0,
     /// there are two untyped words and no item, and the first word is a valid fpage.
     pub fn read(message: &Message) -> Option<FrameRequest>
-        ensures reads { MatchOption result ((request : ARequest) → ¬ RequestReads message.now request) (RequestReads message.now) }
-        ensures only { (request : ARequest) → RequestReads message.now request → result ≡ Some request }
+        ensures reads { MatchOption result
+            ((request : ARequest) → ¬ RequestReads message.now request) (RequestReads message.now) }
+        ensures only { (request : ARequest) → RequestReads message.now request → result
+            ≡ Some request }
     {
         if message.label != REQUEST_LABEL {
             return None;

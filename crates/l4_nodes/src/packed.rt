@@ -293,7 +293,8 @@ impl Packed {
     #[inline]
     pub(crate) fn blank(place: Place) -> Packed
         requires { IsPage place.page }
-        ensures { slot_shown result no_note ≡ record { place = place; wanted = false; node = None } }
+        ensures { slot_shown result no_note
+            ≡ record { place = place; wanted = false; node = None } }
     {
         Packed {
             space: Halves::of(place.space),
@@ -317,7 +318,8 @@ impl Packed {
     pub(crate) fn of(place: Place, node: Node) -> Packed
         requires fits { IsPage place.page }
         requires depth { IsKey node.depth }
-        ensures { slot_shown result no_note ≡ record { place = place; wanted = false; node = Some (unnoted node) } }
+        ensures { slot_shown result no_note
+            ≡ record { place = place; wanted = false; node = Some (unnoted node) } }
     {
         let notes = Notes {
             wanted: false,
@@ -385,7 +387,8 @@ impl Packed {
     #[inline]
     pub(crate) fn put(&mut self, node: Node)
         requires { IsKey node.depth }
-        ensures { slot_shown self.new no_note ≡ record (slot_shown self.old no_note) { node = Some (unnoted node) } }
+        ensures { slot_shown self.new no_note
+            ≡ record (slot_shown self.old no_note) { node = Some (unnoted node) } }
     {
         let notes = Notes {
             wanted: Notes::of(self.word.notes()).wanted,
@@ -438,7 +441,12 @@ impl Packed {
     #[inline]
     pub(crate) fn give(&mut self, place: Place, rights: Rights)
         requires { IsPage place.page }
-        ensures { Turns (λ (s : ASlot). record s { place = place; node = option_map (λ (n : ANode). record n { granted = Some rights }) s.node }) self.old self.new }
+        ensures { Turns
+            (λ (s : ASlot). record s {
+              place = place;
+              node = option_map (λ (n : ANode). record n { granted = Some rights })
+                  s.node;
+            }) self.old self.new }
     {
         self.space = Halves::of(place.space);
         self.word.set_page(place.page);
@@ -464,7 +472,8 @@ impl Packed {
     /// Sets the rights of a node, and the key after it on the stack of nodes without rights.
     #[inline]
     pub(crate) fn set_rights(&mut self, rights: Rights, doomed: Link)
-        ensures { Turns (with_node (λ (n : ANode). record n { rights = rights; doomed = doomed })) self.old self.new }
+        ensures { Turns (with_node (λ (n : ANode). record n { rights = rights; doomed = doomed }))
+            self.old self.new }
     {
         self.word.set_rights(rights.bits());
         self.doomed = doomed;
@@ -473,7 +482,9 @@ impl Packed {
     /// Records whether the last walk that visited the node has also visited all its descendants.
     #[inline]
     pub(crate) fn set_closed(&mut self, closed: bool)
-        ensures { (note : ANote) → slot_shown self.new note ≡ with_node (λ (n : ANode). record n { mark = if closed then note.stamp else 0 }) (slot_shown self.old note) }
+        ensures { (note : ANote) → slot_shown self.new note
+            ≡ with_node (λ (n : ANode). record n { mark = if closed then note.stamp else 0 })
+            (slot_shown self.old note) }
     {
         let mut notes = Notes::of(self.word.notes());
         notes.closed = closed;
@@ -483,7 +494,8 @@ impl Packed {
     /// Marks a node as a source, or takes the mark away.
     #[inline]
     pub(crate) fn set_source(&mut self, source: bool)
-        ensures { Turns (with_node (λ (n : ANode). record n { source = source })) self.old self.new }
+        ensures { Turns (with_node (λ (n : ANode). record n { source = source })) self.old
+            self.new }
     {
         let mut notes = Notes::of(self.word.notes());
         notes.source = source;
@@ -493,7 +505,8 @@ impl Packed {
     /// Takes the marks of a source and of a grant from a node.
     #[inline]
     pub(crate) fn set_plain(&mut self)
-        ensures { Turns (with_node (λ (n : ANode). record n { source = false; granted = None })) self.old self.new }
+        ensures { Turns (with_node (λ (n : ANode). record n { source = false; granted = None }))
+            self.old self.new }
     {
         self.set_source(false);
         self.word.set_granted(NO_ITEM);

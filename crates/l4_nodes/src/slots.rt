@@ -78,7 +78,8 @@ fn grow(notes: &mut Vec<Note>, keys: usize) -> Result<(), AllocError>
 fn reach(notes: &mut Vec<Note>, key: usize)
     requires room { key < vec_capacity notes.old }
     ensures within { key < length notes.new.items }
-    ensures same { (other : ℕ) → slice_index_or notes.new.items other no_note ≡ slice_index_or notes.old.items other no_note }
+    ensures same { (other : ℕ) → slice_index_or notes.new.items other no_note
+        ≡ slice_index_or notes.old.items other no_note }
     ensures capacity { vec_capacity notes.old ≤ vec_capacity notes.new }
 {
     for _ in notes.len()..key + 1 {
@@ -94,7 +95,8 @@ fn reach(notes: &mut Vec<Note>, key: usize)
 pub(crate) fn put_note(notes: &mut Vec<Note>, key: usize, note: Note)
     requires room { key < vec_capacity notes.old }
     ensures here { slice_index_or notes.new.items key no_note ≡ note }
-    ensures others { (other : ℕ) → other ≢ key → slice_index_or notes.new.items other no_note ≡ slice_index_or notes.old.items other no_note }
+    ensures others { (other : ℕ) → other ≢ key → slice_index_or notes.new.items other no_note
+        ≡ slice_index_or notes.old.items other no_note }
     ensures capacity { vec_capacity notes.old ≤ vec_capacity notes.new }
 {
     if key >= notes.len() {
@@ -107,7 +109,8 @@ pub(crate) fn put_note(notes: &mut Vec<Note>, key: usize, note: Note)
 #[inline]
 pub(crate) fn clear_note(notes: &mut Vec<Note>, key: usize)
     ensures here { slice_index_or notes.new.items key no_note ≡ no_note }
-    ensures others { (other : ℕ) → other ≢ key → slice_index_or notes.new.items other no_note ≡ slice_index_or notes.old.items other no_note }
+    ensures others { (other : ℕ) → other ≢ key → slice_index_or notes.new.items other no_note
+        ≡ slice_index_or notes.old.items other no_note }
     ensures capacity { vec_capacity notes.new ≡ vec_capacity notes.old }
 {
     if key < notes.len() {
@@ -198,7 +201,8 @@ impl Slots {
         ensures key { result ≡ self.old.vacant_key }
         ensures was_vacant { slot_at self.old.slots result ≡ None }
         ensures here { slot_at self.new.slots result ≡ Some (slot_shown slot no_note) }
-        ensures others { (other : ℕ) → other ≢ result → slot_at self.new.slots other ≡ slot_at self.old.slots other }
+        ensures others { (other : ℕ) → other ≢ result → slot_at self.new.slots other
+            ≡ slot_at self.old.slots other }
     {
         let key = self.packed.insert_reserved(slot);
         clear_note(&mut self.notes, key);
@@ -213,8 +217,10 @@ impl Slots {
         ensures room { (more : ℕ) → HasRoomFor self.old (more + 1) → HasRoomFor self.new more }
         ensures key { result ≡ self.old.vacant_key }
         ensures was_vacant { slot_at self.old.slots result ≡ None }
-        ensures here { slot_at self.new.slots result ≡ Some (record { place = place; wanted = false; node = None }) }
-        ensures others { (other : ℕ) → other ≢ result → slot_at self.new.slots other ≡ slot_at self.old.slots other }
+        ensures here { slot_at self.new.slots result
+            ≡ Some (record { place = place; wanted = false; node = None }) }
+        ensures others { (other : ℕ) → other ≢ result → slot_at self.new.slots other
+            ≡ slot_at self.old.slots other }
     {
         self.insert_reserved(Packed::blank(place))
     }
@@ -228,8 +234,10 @@ impl Slots {
         ensures room { (more : ℕ) → HasRoomFor self.old (more + 1) → HasRoomFor self.new more }
         ensures key { result ≡ self.old.vacant_key }
         ensures was_vacant { slot_at self.old.slots result ≡ None }
-        ensures here { slot_at self.new.slots result ≡ Some (record { place = place; wanted = false; node = Some (unnoted node) }) }
-        ensures others { (other : ℕ) → other ≢ result → slot_at self.new.slots other ≡ slot_at self.old.slots other }
+        ensures here { slot_at self.new.slots result
+            ≡ Some (record { place = place; wanted = false; node = Some (unnoted node) }) }
+        ensures others { (other : ℕ) → other ≢ result → slot_at self.new.slots other
+            ≡ slot_at self.old.slots other }
     {
         self.insert_reserved(Packed::of(place, node))
     }
@@ -238,7 +246,8 @@ impl Slots {
     #[inline]
     pub fn remove(&mut self, key: usize)
         ensures gone { slot_at self.new.slots key ≡ None }
-        ensures others { (other : ℕ) → other ≢ key → slot_at self.new.slots other ≡ slot_at self.old.slots other }
+        ensures others { (other : ℕ) → other ≢ key → slot_at self.new.slots other
+            ≡ slot_at self.old.slots other }
     {
         let _ = self.packed.try_remove(key);
     }
@@ -246,7 +255,8 @@ impl Slots {
     /// Removes the records of walks from all keys.
     #[cold]
     pub fn clear_notes(&mut self)
-        ensures { (key : ℕ) → slot_at self.new.slots key ≡ option_map unnoted_slot (slot_at self.old.slots key) }
+        ensures { (key : ℕ) → slot_at self.new.slots key
+            ≡ option_map unnoted_slot (slot_at self.old.slots key) }
     {
         self.notes.clear();
     }

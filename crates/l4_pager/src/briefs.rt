@@ -67,7 +67,9 @@ impl BriefMessage {
 
     /// Returns the page fault that the message reports, or `None`.
     pub fn fault(&self) -> Option<PageFault>
-        ensures { MatchOption result ((fault : AFault) → ¬ FaultReads (brief_message self.now) fault) (FaultReads (brief_message self.now)) }
+        ensures { MatchOption result
+            ((fault : AFault) → ¬ FaultReads (brief_message self.now) fault)
+            (FaultReads (brief_message self.now)) }
     {
         if self.label < FAULT_LABEL || self.label > FAULT_LABEL + 7 {
             return None;
@@ -81,7 +83,9 @@ impl BriefMessage {
 
     /// Returns the request in the message, with its fpage without rights, or `None`.
     pub fn request(&self) -> Option<FrameRequest>
-        ensures { MatchOption result ((request : ARequest) → ¬ RequestReads (brief_message self.now) request) (RequestReads (brief_message self.now)) }
+        ensures { MatchOption result
+            ((request : ARequest) → ¬ RequestReads (brief_message self.now) request)
+            (RequestReads (brief_message self.now)) }
     {
         if self.label != REQUEST_LABEL {
             return None;

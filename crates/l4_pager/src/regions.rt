@@ -129,7 +129,8 @@ fn entry_for(entries: &[Entry], page: u32, access: Rights) -> Option<(usize, Ent
 
 /// Returns the entry at a position, if it contains the page and its rights include those of the access.
 fn entry_at(entries: &[Entry], place: usize, page: u32, access: Rights) -> Option<Entry>
-    ensures { IfSome result (λ entry. (slice_get entries.now place ≡ Some entry) × (serves page access entry ≡ true)) }
+    ensures { IfSome result
+        (λ entry. (slice_get entries.now place ≡ Some entry) × (serves page access entry ≡ true)) }
 {
     let Some(entry) = entries.get(place) else {
         return None;
@@ -243,7 +244,10 @@ impl RegionPager {
     pub fn answer_fault_near(&self, fault: &PageFault, guess: usize) -> (u32, Fpage, usize)
         ensures answers { AnswersFault self.now fault.now (one_item (Map result.0 result.1)) }
         ensures whole { result.0 % base_unit ≡ 0 }
-        ensures place { MatchOption (entry_for self.now.entries (fault.now.address / page_bytes self.now.size) fault.now.access) (result.2 ≡ guess) (λ entry. slice_get self.now.entries result.2 ≡ Some entry) }
+        ensures place { MatchOption
+            (entry_for self.now.entries (fault.now.address / page_bytes self.now.size)
+            fault.now.access) (result.2 ≡ guess)
+            (λ entry. slice_get self.now.entries result.2 ≡ Some entry) }
     {
         self.law_table();
         let page = self.size.page_of(fault.address);

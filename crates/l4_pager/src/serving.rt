@@ -60,7 +60,8 @@ pub trait Gate {
 /// Returns the sender and the message of a reply. Returns `None` if it is not the reply of an Ipc, or if the Ipc
 /// failed.
 pub fn brought(reply: &Reply) -> Option<(ThreadId, Message)>
-    ensures { MatchOption result ((sender : AnId) (m : AMessage) → ¬ Brings reply.now sender m) (λ p. Brings reply.now p.0 p.1) }
+    ensures { MatchOption result ((sender : AnId) (m : AMessage) → ¬ Brings reply.now sender m)
+        (λ p. Brings reply.now p.0 p.1) }
 {
     match reply {
         Reply::Ipc(ipc) => {
@@ -191,8 +192,17 @@ fn next_call(regions: &RegionPager, reply: &Reply) -> (Call, bool)
 /// returns it.
 ///
 pub fn serve<G: Gate>(gate: &mut G, regions: &RegionPager, turns: u32) -> Result<u32, GateFault>
-    ensures ok { IfOk result (λ answers. (entered : List (ACall × AReply)) × (G.pairs gate.new ≡ G.pairs gate.old ++ entered) × (length entered ≡ 1 + turns) × Serves regions.now entered answers × Accepted G.accepts gate.old entered gate.new) }
-    ensures err { IfErr result (λ fault. (before : G) × (call : ACall) × G.refuses before call fault gate.new × ((entered : List (ACall × AReply)) × (answers : ℕ) × (G.pairs gate.new ≡ G.pairs gate.old ++ entered) × (length entered ≤ turns) × Serves regions.now entered answers × ComesNext regions.now entered call × Accepted G.accepts gate.old entered before)) }
+    ensures ok { IfOk result
+        (λ answers. (entered : List (ACall × AReply))
+        × (G.pairs gate.new ≡ G.pairs gate.old ++ entered) × (length entered ≡ 1 + turns)
+        × Serves regions.now entered answers × Accepted G.accepts gate.old entered gate.new) }
+    ensures err { IfErr result
+        (λ fault. (before : G) × (call : ACall) × G.refuses before call fault gate.new
+        ×
+        ((entered : List (ACall × AReply)) × (answers : ℕ)
+        × (G.pairs gate.new ≡ G.pairs gate.old ++ entered) × (length entered ≤ turns)
+        × Serves regions.now entered answers × ComesNext regions.now entered call
+        × Accepted G.accepts gate.old entered before)) }
 {
     let mut reply = match gate.enter(wait()) {
         Ok(reply) => reply,

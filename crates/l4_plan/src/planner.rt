@@ -15,8 +15,10 @@ use l4_msg::{MAX_PLAN_ITEMS, Region, TOO_MANY};
 /// Errors: those of [`PlanRefusal`], in the order of its variants.
 pub fn plan(region: &Region, size: PageSize) -> Result<Plan, PlanRefusal>
     ensures empty { (result ≡ Err PlanRefusal.Empty) ↔ IsEmpty region.now }
-    ensures out_of_space { (result ≡ Err PlanRefusal.OutOfSpace) ↔ (0 < region.now.count × IsOutOfSpace size region.now) }
-    ensures no_rights { (result ≡ Err PlanRefusal.NoRights) ↔ (0 < region.now.count × InSpace size region.now × HasNoRights region.now) }
+    ensures out_of_space { (result ≡ Err PlanRefusal.OutOfSpace)
+        ↔ (0 < region.now.count × IsOutOfSpace size region.now) }
+    ensures no_rights { (result ≡ Err PlanRefusal.NoRights)
+        ↔ (0 < region.now.count × InSpace size region.now × HasNoRights region.now) }
 
     // The items move exactly the region, and their pages are a certificate with one page for each item. So no list of map items is shorter.
     ensures shortest { IfOk result (IsShortest size region.now) }

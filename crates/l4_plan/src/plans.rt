@@ -107,10 +107,12 @@ impl Plan {
         ensures few { result ≤ max_plan_messages }
 
         // No fewer messages move the region.
-        ensures fewest { (size : APageSize) (r : ARegion) → IsShortest size r self.now → NeedsMessages size r result }
+        ensures fewest { (size : APageSize) (r : ARegion) → IsShortest size r self.now
+            → NeedsMessages size r result }
 
         // Each page of the region is in exactly one part. The messages move the parts exactly (clause `moves` of `message`).
-        ensures whole { (size : APageSize) (r : ARegion) → IsShortest size r self.now → AreWholeInParts r self.now.pages result }
+        ensures whole { (size : APageSize) (r : ARegion) → IsShortest size r self.now
+            → AreWholeInParts r self.now.pages result }
     {
         self.items.div_ceil(MAX_ITEMS as u32)
     }
@@ -121,12 +123,16 @@ impl Plan {
         ensures sends { IfOk result (Sends (part_of_list self.now.items number)) }
 
         // It moves exactly the part of the region with this number, and no list of map items that moves that part is shorter.
-        ensures moves { IfOk result (λ m. (size : APageSize) (r : ARegion) → IsShortest size r self.now → IsPlan size (part_of_region r self.now.pages number) m.items.items (part_of_list self.now.pages number)) }
+        ensures moves { IfOk result
+            (λ m. (size : APageSize) (r : ARegion) → IsShortest size r self.now
+            → IsPlan size (part_of_region r self.now.pages number) m.items.items
+            (part_of_list self.now.pages number)) }
 
         // Its words fit into the message registers, and its send bases are multiples of 1 KiB.
         ensures writable { IfOk result CanBeWritten }
         ensures there { IsOk result ↔ (number < messages_of (length self.now.items)) }
-        ensures none { IfErr result (λ e. e ≡ PlanRefusal.NoPart (messages_of (length self.now.items))) }
+        ensures none { IfErr result
+            (λ e. e ≡ PlanRefusal.NoPart (messages_of (length self.now.items))) }
     {
         let messages = self.messages();
         if number >= messages {
@@ -158,7 +164,8 @@ impl Plan {
         ensures sends { IfOk result (Sends self.now.items) }
         ensures writable { IfOk result CanBeWritten }
         ensures one { IsOk result ↔ (messages_of (length self.now.items) ≡ 1) }
-        ensures several { IfErr result (λ e. e ≡ PlanRefusal.Several (messages_of (length self.now.items))) }
+        ensures several { IfErr result
+            (λ e. e ≡ PlanRefusal.Several (messages_of (length self.now.items))) }
     {
         let messages = self.messages();
         if messages > 1 {

@@ -61,7 +61,8 @@ pub(crate) fn pass(region: &Region, most: u32) -> Passed
     requires { InLargestSpace region.now }
     ensures few { result.blocks ≤ most }
     ensures page { result.page ≡ reached region.now region.now.source result.blocks }
-    ensures within { (i : ℕ) → i < result.blocks → reached region.now region.now.source i < region.now.source + region.now.count }
+    ensures within { (i : ℕ) → i < result.blocks → reached region.now region.now.source i
+        < region.now.source + region.now.count }
     ensures to { result.page ≤ region.now.source + region.now.count }
     ensures all { result.blocks < most → result.page ≡ region.now.source + region.now.count }
 {

@@ -35,7 +35,8 @@ pub fn check(
     ensures first { IfErr result (IsFirstFault size region.now items.now pages.now) }
 
     // The result is Proved only if no fault applies, and then the claim is true.
-    ensures none { OnOk result ((fault : AFault) → Holds size region.now items.now pages.now fault → ⊥) }
+    ensures none { OnOk result
+        ((fault : AFault) → Holds size region.now items.now pages.now fault → ⊥) }
     ensures exact { OnOk result (IsRival size region.now items.now) }
     ensures certificate { OnOk result (IsCertificate region.now pages.now) }
     ensures one_each { OnOk result (length pages.now ≡ length items.now) }

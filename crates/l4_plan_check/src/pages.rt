@@ -19,7 +19,8 @@ fn is_inside(region: &Region, page: u32) -> bool
 /// Returns the place of the first page outside the region.
 fn first_outside(region: &Region, pages: &[u32]) -> Option<usize>
     requires { InLargest region.now }
-    ensures { MatchOption result (AreInside region.now pages.now) (IsFirstOutside region.now pages.now) }
+    ensures { MatchOption result (AreInside region.now pages.now)
+        (IsFirstOutside region.now pages.now) }
 {
     for (i, page) in pages.iter().enumerate() {
         if !is_inside(region, *page) {
@@ -107,7 +108,9 @@ fn is_paired(region: &Region, pages: &[u32], i: usize, rising: usize) -> bool
 fn first_pair(region: &Region, pages: &[u32]) -> Option<usize>
     requires space { InLargest region.now }
     requires inside { AreInside region.now pages.now }
-    ensures { MatchOption result ((i : ℕ) → i < length pages.now → HasPair region.now pages.now i → ⊥) (IsFirstPair region.now pages.now) }
+    ensures { MatchOption result
+        ((i : ℕ) → i < length pages.now → HasPair region.now pages.now i → ⊥)
+        (IsFirstPair region.now pages.now) }
 {
     let rising = rising(pages);
     for i in 0..pages.len() {
@@ -123,7 +126,8 @@ fn first_pair(region: &Region, pages: &[u32]) -> Option<usize>
 ///
 pub fn page_fault(region: &Region, pages: &[u32]) -> Option<Fault>
     requires { InLargest region.now }
-    ensures { MatchOption result (HasNoPageFault region.now pages.now) (IsPageFault region.now pages.now) }
+    ensures { MatchOption result (HasNoPageFault region.now pages.now)
+        (IsPageFault region.now pages.now) }
 {
     if let Some(i) = first_outside(region, pages) {
         return Some(Fault::Page(i));

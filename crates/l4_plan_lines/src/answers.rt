@@ -28,7 +28,8 @@ pub enum Answer {
 /// Returns the number, from 0, of the first message whose tag is not that of its items: label 0, no untyped words, and two words for each
 /// item.
 fn first_wrong_tag(claim: &Claim) -> Option<usize>
-    ensures first { MatchOption result (AreRightTags claim.now.tags.items claim.now.items.items) (λ k. IsFirstWrongTag claim.now.tags.items claim.now.items.items k) }
+    ensures first { MatchOption result (AreRightTags claim.now.tags.items claim.now.items.items)
+        (λ k. IsFirstWrongTag claim.now.tags.items claim.now.items.items k) }
     ensures few { IfSome result (λ k. k ≤ 66) }
 {
     let count = claim.tags.len();

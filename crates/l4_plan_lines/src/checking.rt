@@ -50,7 +50,8 @@ pub fn answer_lines<R: Read, W: Write>(
     ensures ok { IfOk result (λ answer. (text : List ℕ)
         × Answered size region.now (R.remaining reader.old) (R.remaining reader.new) answer text
         × Appends (W.contents writer.old) (W.contents writer.new) text) }
-    ensures read { result ≡ Err RunFault.Read → Keeps (W.contents writer.old) (W.contents writer.new) }
+    ensures read { result ≡ Err RunFault.Read
+        → Keeps (W.contents writer.old) (W.contents writer.new) }
     ensures write { result ≡ Err RunFault.Write → (answer : AnAnswer) × (text : List ℕ)
         × Answered size region.now (R.remaining reader.old) (R.remaining reader.new) answer text
         × WentOut (W.contents writer.old) (W.contents writer.new) text }
@@ -79,7 +80,8 @@ pub fn check_lines<R: Read, W: Write>(
     ensures ok { IfOk result (λ proved. (answer : AnAnswer) × (text : List ℕ) × (proved ≡ is_proved answer)
         × Answered size region.now (R.remaining reader.old) (R.remaining reader.new) answer text
         × Appends (W.contents writer.old) (W.contents writer.new) text) }
-    ensures read { result ≡ Err RunFault.Read → Keeps (W.contents writer.old) (W.contents writer.new) }
+    ensures read { result ≡ Err RunFault.Read
+        → Keeps (W.contents writer.old) (W.contents writer.new) }
     ensures write { result ≡ Err RunFault.Write → (answer : AnAnswer) × (text : List ℕ)
         × Answered size region.now (R.remaining reader.old) (R.remaining reader.new) answer text
         × WentOut (W.contents writer.old) (W.contents writer.new) text }

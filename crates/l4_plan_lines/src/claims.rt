@@ -92,7 +92,8 @@ impl Claim {
 
     /// Adds the content of a line. Returns `false` if the line is not allowed at this position.
     pub fn add(&mut self, line: &[u8]) -> bool
-        ensures { MatchBool result (SaysMore self.old self.new line.now) (SaysAll self.old line.now) }
+        ensures { MatchBool result (SaysMore self.old self.new line.now)
+            (SaysAll self.old line.now) }
     {
         match self.head {
             None => self.add_head(line),
@@ -104,7 +105,8 @@ impl Claim {
     /// Adds the first line.
     fn add_head(&mut self, line: &[u8]) -> bool
         requires { self.old.head ≡ None }
-        ensures { MatchBool result (SaysMore self.old self.new line.now) (SaysAll self.old line.now) }
+        ensures { MatchBool result (SaysMore self.old self.new line.now)
+            (SaysAll self.old line.now) }
     {
         let long = b"too-long".as_slice();
         if line == long {
@@ -117,7 +119,8 @@ impl Claim {
     /// Adds the line of a tag or an item.
     fn add_row(&mut self, line: &[u8]) -> bool
         requires { self.old.head ≡ Some Head.Plan }
-        ensures { MatchBool result (SaysMore self.old self.new line.now) (SaysAll self.old line.now) }
+        ensures { MatchBool result (SaysMore self.old self.new line.now)
+            (SaysAll self.old line.now) }
     {
         if self.items.len() == MAX_ITEMS * self.tags.len() {
             return self.add_tag(line);
@@ -128,7 +131,8 @@ impl Claim {
     /// Adds the line of a tag, if one is expected.
     fn add_tag(&mut self, line: &[u8]) -> bool
         requires { AwaitsTag self.old line.now }
-        ensures { MatchBool result (SaysMore self.old self.new line.now) (SaysAll self.old line.now) }
+        ensures { MatchBool result (SaysMore self.old self.new line.now)
+            (SaysAll self.old line.now) }
     {
         if self.tags.is_full() {
             return false;
@@ -146,7 +150,8 @@ impl Claim {
     /// Adds the line of an item, if one is expected.
     fn add_item(&mut self, line: &[u8]) -> bool
         requires { AwaitsItem self.old }
-        ensures { MatchBool result (SaysMore self.old self.new line.now) (SaysAll self.old line.now) }
+        ensures { MatchBool result (SaysMore self.old self.new line.now)
+            (SaysAll self.old line.now) }
     {
         if self.items.is_full() {
             return false;
@@ -167,7 +172,8 @@ impl Claim {
     /// Adds the line of a page.
     fn add_page(&mut self, line: &[u8]) -> bool
         requires { self.old.head ≡ Some Head.TooLong }
-        ensures { MatchBool result (SaysMore self.old self.new line.now) (SaysAll self.old line.now) }
+        ensures { MatchBool result (SaysMore self.old self.new line.now)
+            (SaysAll self.old line.now) }
     {
         if self.pages.is_full() {
             return false;

@@ -43,7 +43,8 @@ impl Found {
 
     /// Adds the next line, with the way it ended. If the line has more than 4,096 bytes, `line` has the first ones.
     pub fn take(&mut self, ending: Ending, line: &[u8])
-        ensures { (lines : List (List ℕ)) (bytes : List ℕ) → EndsSo ending line.now bytes → Reflects self.old lines → TakesOne ending self.new lines bytes }
+        ensures { (lines : List (List ℕ)) (bytes : List ℕ) → EndsSo ending line.now bytes
+            → Reflects self.old lines → TakesOne ending self.new lines bytes }
     {
         match self.wrong {
             Some(_) => {}
@@ -54,7 +55,8 @@ impl Found {
     /// Adds the next line, if no earlier line was wrong.
     fn take_next(&mut self, ending: Ending, line: &[u8])
         requires { self.old.wrong ≡ None }
-        ensures { (lines : List (List ℕ)) (bytes : List ℕ) → EndsSo ending line.now bytes → Reflects self.old lines → TakesOne ending self.new lines bytes }
+        ensures { (lines : List (List ℕ)) (bytes : List ℕ) → EndsSo ending line.now bytes
+            → Reflects self.old lines → TakesOne ending self.new lines bytes }
     {
         let before = self.claim.lines();
         let number = before + 1;
@@ -93,9 +95,11 @@ impl Found {
 
     /// Returns the head of the claim of the whole input, or the first wrong line.
     pub fn finish(&self) -> Result<Head, WrongLine>
-        ensures ok { IfOk result (λ _. (input : List ℕ) → HasEnded self.now input → IsWhole input self.now.claim) }
+        ensures ok { IfOk result
+            (λ _. (input : List ℕ) → HasEnded self.now input → IsWhole input self.now.claim) }
         ensures head { IfOk result (λ head. self.now.claim.head ≡ Some head) }
-        ensures err { IfErr result (λ wrong. (input : List ℕ) → HasEnded self.now input → IsRefused input wrong) }
+        ensures err { IfErr result
+            (λ wrong. (input : List ℕ) → HasEnded self.now input → IsRefused input wrong) }
     {
         if let Some(wrong) = self.wrong {
             return Err(wrong);

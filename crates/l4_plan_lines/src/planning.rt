@@ -25,7 +25,8 @@ fn tell<W: Write>(bytes: &[u8], out: &mut Output, writer: &mut W)
 /// Writes a line and its newline.
 fn tell_line<W: Write>(line: &Text, out: &mut Output, writer: &mut W)
     requires { length line.now ≤ 100 }
-    ensures { Tells (W.contents writer.old) (W.contents writer.new) out.old out.new (ended line.now) }
+    ensures { Tells (W.contents writer.old) (W.contents writer.new) out.old out.new
+        (ended line.now) }
 {
     let mut text = Text::new();
     text.add(line.as_slice());
@@ -36,7 +37,8 @@ fn tell_line<W: Write>(line: &Text, out: &mut Output, writer: &mut W)
 /// Writes the lines of a message's words, with a page for each item.
 fn tell_message<W: Write>(words: &[u32], pages: &[u32], out: &mut Output, writer: &mut W)
     requires { length words.now ≡ 1 + 2 * length pages.now }
-    ensures { Tells (W.contents writer.old) (W.contents writer.new) out.old out.new (message_text words.now pages.now) }
+    ensures { Tells (W.contents writer.old) (W.contents writer.new) out.old out.new
+        (message_text words.now pages.now) }
 {
     tell_line(&tag_text(words[0]), out, writer);
     let mut rest = &words[1..];
@@ -49,7 +51,8 @@ fn tell_message<W: Write>(words: &[u32], pages: &[u32], out: &mut Output, writer
 /// Writes the lines of the message with this number of a plan: its tag, and its items with a page each.
 fn tell_part<W: Write>(plan: &Plan, number: u32, out: &mut Output, writer: &mut W)
     requires { number < messages_of (length plan.now.items) }
-    ensures { Tells (W.contents writer.old) (W.contents writer.new) out.old out.new (part_text plan.now number) }
+    ensures { Tells (W.contents writer.old) (W.contents writer.new) out.old out.new
+        (part_text plan.now number) }
 {
     plan.law_kept();
     let Ok(message) = plan.message(number) else {
@@ -65,7 +68,8 @@ fn tell_part<W: Write>(plan: &Plan, number: u32, out: &mut Output, writer: &mut 
 
 /// Writes the lines of a plan, message by message.
 fn tell_items<W: Write>(plan: &Plan, out: &mut Output, writer: &mut W)
-    ensures { Tells (W.contents writer.old) (W.contents writer.new) out.old out.new (plan_text plan.now) }
+    ensures { Tells (W.contents writer.old) (W.contents writer.new) out.old out.new
+        (plan_text plan.now) }
 {
     for number in 0..plan.messages() {
         tell_part(plan, number, out, writer);
@@ -74,7 +78,8 @@ fn tell_items<W: Write>(plan: &Plan, out: &mut Output, writer: &mut W)
 
 /// Writes the lines of a plan that is too long, with the pages that prove it.
 fn tell_pages<W: Write>(pages: Pages, out: &mut Output, writer: &mut W)
-    ensures { Tells (W.contents writer.old) (W.contents writer.new) out.old out.new (too_long_text pages) }
+    ensures { Tells (W.contents writer.old) (W.contents writer.new) out.old out.new
+        (too_long_text pages) }
 {
     tell(b"too-long\n", out, writer);
     for page in pages {

@@ -80,7 +80,8 @@ fn words_of_line(line: &[u8]) -> Option<(u32, u32, u32)>
 
 /// Reads the map item and the page of an item line. Returns `None` for any other line.
 pub fn item_of_line(line: &[u8]) -> Option<(Item, u32)>
-    ensures { MatchOption result ((item : AnItem) (page : ℕ) → IsItemLine line.now item page → ⊥) (λ found. IsItemLine line.now found.0 found.1) }
+    ensures { MatchOption result ((item : AnItem) (page : ℕ) → IsItemLine line.now item page → ⊥)
+        (λ found. IsItemLine line.now found.0 found.1) }
 {
     let Some((first, second, page)) = words_of_line(line) else {
         return None;

@@ -132,7 +132,8 @@ impl Sigma0 {
     /// Returns the answer to a page fault from a space: the send base, in bytes, and the fpage of its map item.
     /// `answer` states the rule.
     pub fn answer_fault(&mut self, from_space: u64, fault: &PageFault) -> (u32, Fpage)
-        ensures answers { (m : AMessage) → FaultReads m fault.now → Answers self.old from_space m (one_item (Map result.0 result.1)) self.new }
+        ensures answers { (m : AMessage) → FaultReads m fault.now
+            → Answers self.old from_space m (one_item (Map result.0 result.1)) self.new }
         ensures whole { result.0 % base_unit ≡ 0 }
     {
         let page = self.size.page_of(fault.address);
@@ -148,7 +149,8 @@ impl Sigma0 {
     /// Returns the answer to a request from a space: the send base, in bytes, and the fpage of its map item. `answer`
     /// states the rule. The rights of the request's fpage are ignored.
     pub fn answer_request(&mut self, from_space: u64, request: &FrameRequest) -> (u32, Fpage)
-        ensures answers { (m : AMessage) → AsksFor m request.now → Answers self.old from_space m (one_item (Map result.0 result.1)) self.new }
+        ensures answers { (m : AMessage) → AsksFor m request.now
+            → Answers self.old from_space m (one_item (Map result.0 result.1)) self.new }
         ensures whole { result.0 % base_unit ≡ 0 }
     {
         let Some(block) = frames_of(request, self.size) else {

@@ -68,7 +68,8 @@ impl Model for Spaces {
 #[cold]
 fn index_among(spaces: &Vec<(u64, Vec<Row>)>, space: u64) -> Option<usize>
     requires { IsOnce spaces.now.items }
-    ensures at { MatchOption result (has spaces.now.items space ≡ false) (StandsAt space spaces.now.items) }
+    ensures at { MatchOption result (has spaces.now.items space ≡ false)
+        (StandsAt space spaces.now.items) }
     ensures within { IfSome result (λ at. at < length spaces.now.items) }
 {
     for index in 0..spaces.len() {
@@ -83,7 +84,8 @@ fn index_among(spaces: &Vec<(u64, Vec<Row>)>, space: u64) -> Option<usize>
 #[inline]
 fn index_of(spaces: &Vec<(u64, Vec<Row>)>, space: u64) -> Option<usize>
     requires { IsOnce spaces.now.items }
-    ensures at { MatchOption result (has spaces.now.items space ≡ false) (StandsAt space spaces.now.items) }
+    ensures at { MatchOption result (has spaces.now.items space ≡ false)
+        (StandsAt space spaces.now.items) }
     ensures within { IfSome result (λ at. at < length spaces.now.items) }
 {
     let number = space as usize;
@@ -189,8 +191,11 @@ impl Spaces {
         requires there { IsSpace self.old space }
         requires fits { IsPage page }
         ensures spaces { self.new.spaces ≡ self.old.spaces }
-        ensures claimed { IfOk result (λ done. done ≡ true → (key_of self.old space page ≡ None) × (self.new.pages ≡ map.insert self.old.pages (space, page) key)) }
-        ensures present { IfOk result (λ done. done ≡ false → IsPresent self.old space page × (self.new ≡ self.old)) }
+        ensures claimed { IfOk result
+            (λ done. done ≡ true → (key_of self.old space page ≡ None)
+            × (self.new.pages ≡ map.insert self.old.pages (space, page) key)) }
+        ensures present { IfOk result
+            (λ done. done ≡ false → IsPresent self.old space page × (self.new ≡ self.old)) }
         ensures err { OnErr result ((key_of self.old space page ≡ None) × (self.new ≡ self.old)) }
         ensures room { KeepsRoom self.old self.new }
 
@@ -209,12 +214,14 @@ impl Spaces {
     pub fn set(&mut self, space: u64, page: u32, key: usize)
         requires there { IsSpace self.old space }
         requires fits { IsPage page }
-        requires room { IsPresent self.old space page ⊎ (rest : List ℕ) × HasRoom self.old space (page ∷ rest) }
+        requires room { IsPresent self.old space page ⊎ (rest : List ℕ)
+            × HasRoom self.old space (page ∷ rest) }
         ensures pages { self.new.pages ≡ map.insert self.old.pages (space, page) key }
         ensures spaces { self.new.spaces ≡ self.old.spaces }
 
         // The room for the remaining pages is kept; if the page was present, all room is kept.
-        ensures rest { (rest : List ℕ) → HasRoom self.old space (page ∷ rest) → HasRoom self.new space rest }
+        ensures rest { (rest : List ℕ) → HasRoom self.old space (page ∷ rest)
+            → HasRoom self.new space rest }
         ensures room { IsPresent self.old space page → KeepsRoom self.old self.new }
     {
         self.fill(space, page, key);
@@ -223,7 +230,8 @@ impl Spaces {
     /// Writes the key of a page that is present or that there is room for. No table is taken by that, so all room is kept.
     fn fill(&mut self, space: u64, page: u32, key: usize)
         requires there { IsSpace self.old space }
-        requires room { IsPresent self.old space page ⊎ (rest : List ℕ) × HasRoom self.old space (page ∷ rest) }
+        requires room { IsPresent self.old space page ⊎ (rest : List ℕ)
+            × HasRoom self.old space (page ∷ rest) }
         ensures pages { self.new.pages ≡ map.insert self.old.pages (space, page) key }
         ensures spaces { self.new.spaces ≡ self.old.spaces }
         ensures room { KeepsRoom self.old self.new }
@@ -240,7 +248,8 @@ impl Spaces {
         requires present { IsPresent self.old space page }
         requires there { IsSpace self.old other_space }
         requires room { HasRoom self.old other_space (other_page ∷ []) }
-        ensures pages { self.new.pages ≡ map.insert (map.remove self.old.pages (space, page)) (other_space, other_page) key }
+        ensures pages { self.new.pages
+            ≡ map.insert (map.remove self.old.pages (space, page)) (other_space, other_page) key }
         ensures spaces { self.new.spaces ≡ self.old.spaces }
         ensures room { KeepsRoom self.old self.new }
     {
@@ -263,7 +272,8 @@ impl Spaces {
 
     /// Returns the least present page of the space that is not below `page`, or None.
     pub fn next_present(&self, space: u64, page: u32) -> Option<u32>
-        ensures { MatchOption result (NonePresentFrom self.now space page) (IsNextPresent self.now space page) }
+        ensures { MatchOption result (NonePresentFrom self.now space page)
+            (IsNextPresent self.now space page) }
     {
         let Some(at) = index_of(&self.spaces, space) else {
             return None;
@@ -276,7 +286,8 @@ impl Spaces {
 
     /// Returns the least present page of the space that is not below `page`, if it is below `end`. Does not look at pages from `end` on.
     pub fn next_in(&self, space: u64, page: u32, end: u32) -> Option<u32>
-        ensures { MatchOption result (NonePresentIn self.now space page end) (IsNextIn self.now space page end) }
+        ensures { MatchOption result (NonePresentIn self.now space page end)
+            (IsNextIn self.now space page end) }
     {
         let Some((next, _)) = self.next_node(space, page, end) else {
             return None;
@@ -288,7 +299,9 @@ impl Spaces {
     /// from `end` on.
     #[inline]
     pub fn next_node(&self, space: u64, page: u32, end: u32) -> Option<(u32, usize)>
-        ensures { MatchOption result (NonePresentIn self.now space page end) (λ found. IsNextIn self.now space page end found.0 × (key_of self.now space found.0 ≡ Some found.1)) }
+        ensures { MatchOption result (NonePresentIn self.now space page end)
+            (λ found. IsNextIn self.now space page end found.0
+            × (key_of self.now space found.0 ≡ Some found.1)) }
     {
         let Some(at) = index_of(&self.spaces, space) else {
             return None;
@@ -299,7 +312,8 @@ impl Spaces {
     /// Returns the first existing table with pages of the space from `page` on and before `end`, and its first page. A walk over many pages
     /// therefore looks the space and the table up once for each table.
     pub fn next_table(&self, space: u64, page: u32, end: u32) -> Option<(u32, &Row)>
-        ensures { MatchOption result (NonePresentIn self.now space page end) (λ found. IsTableIn self.now space page end found.0 found.1.now) }
+        ensures { MatchOption result (NonePresentIn self.now space page end)
+            (λ found. IsTableIn self.now space page end found.0 found.1.now) }
     {
         let Some(at) = index_of(&self.spaces, space) else {
             return None;

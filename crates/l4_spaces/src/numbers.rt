@@ -29,7 +29,8 @@ impl Spaces {
 
     /// Returns the least number of a space that is not below `from`, or None. Visits all spaces.
     pub fn next_space(&self, from: u64) -> Option<u64>
-        ensures { MatchOption result (NoSpaceFrom self.now.spaces from) (IsNextSpace self.now.spaces from) }
+        ensures { MatchOption result (NoSpaceFrom self.now.spaces from)
+            (IsNextSpace self.now.spaces from) }
     {
         let mut least = None;
         for entry in &self.spaces {

@@ -60,7 +60,8 @@ fn long_key(long: &Vec<usize>, low: usize) -> usize
 fn put_long(long: &mut Vec<usize>, low: usize, key: usize)
     requires room { low < vec_capacity long.old }
     ensures here { slice_index_or long.new.items low 0 ≡ key }
-    ensures others { (other : ℕ) → other ≢ low → slice_index_or long.new.items other 0 ≡ slice_index_or long.old.items other 0 }
+    ensures others { (other : ℕ) → other ≢ low → slice_index_or long.new.items other 0
+        ≡ slice_index_or long.old.items other 0 }
     ensures capacity { vec_capacity long.old ≤ vec_capacity long.new }
 {
     for _ in long.len()..low + 1 {
@@ -125,7 +126,8 @@ impl Row {
     /// Returns whether an entry of the block of this number may have a key. The answer stays true after a key was removed.
     #[inline]
     pub fn is_used(&self, block: usize) -> bool
-        ensures { result ≡ false → NoKeys self.now (block * row_block) (block * row_block + row_block) }
+        ensures { result ≡ false
+            → NoKeys self.now (block * row_block) (block * row_block + row_block) }
     {
         self.used[block % BLOCKS]
     }

@@ -32,8 +32,10 @@ pub(crate) fn key_in(tables: &Vec<Row>, page: u32) -> Option<usize>
 pub(crate) fn put(tables: &mut Vec<Row>, page: u32, key: usize)
     requires ready { IsReady tables.old.items page }
     ensures here { entry tables.new.items page ≡ Some key }
-    ensures others { (other : ℕ) → other ≢ page → entry tables.new.items other ≡ entry tables.old.items other }
-    ensures long { (high : ℕ) → length (row tables.new.items high) ≡ length (row tables.old.items high) }
+    ensures others { (other : ℕ) → other ≢ page → entry tables.new.items other
+        ≡ entry tables.old.items other }
+    ensures long { (high : ℕ) → length (row tables.new.items high)
+        ≡ length (row tables.old.items high) }
     ensures full { length tables.new.items ≡ length tables.old.items }
 {
     let high = (page / TABLE_PAGES) as usize;
@@ -44,8 +46,10 @@ pub(crate) fn put(tables: &mut Vec<Row>, page: u32, key: usize)
 /// Removes the key of the page.
 pub(crate) fn clear(tables: &mut Vec<Row>, page: u32)
     ensures here { entry tables.new.items page ≡ None }
-    ensures others { (other : ℕ) → other ≢ page → entry tables.new.items other ≡ entry tables.old.items other }
-    ensures long { (high : ℕ) → length (row tables.new.items high) ≡ length (row tables.old.items high) }
+    ensures others { (other : ℕ) → other ≢ page → entry tables.new.items other
+        ≡ entry tables.old.items other }
+    ensures long { (high : ℕ) → length (row tables.new.items high)
+        ≡ length (row tables.old.items high) }
     ensures full { length tables.new.items ≡ length tables.old.items }
 {
     let high = (page / TABLE_PAGES) as usize;
@@ -60,7 +64,8 @@ fn make(tables: &mut Vec<Row>, alloc: Global, high: usize) -> Result<(), AllocEr
     requires within { high < length tables.old.items }
     ensures same { (other : ℕ) → entry tables.new.items other ≡ entry tables.old.items other }
     ensures made { OnOk result (length (row tables.new.items high) ≡ table_pages) }
-    ensures others { (other : ℕ) → other ≢ high → row tables.new.items other ≡ row tables.old.items other }
+    ensures others { (other : ℕ) → other ≢ high → row tables.new.items other
+        ≡ row tables.old.items other }
     ensures full { length tables.new.items ≡ length tables.old.items }
     ensures err { OnErr result (tables.new ≡ tables.old) }
 {
@@ -73,7 +78,8 @@ fn make(tables: &mut Vec<Row>, alloc: Global, high: usize) -> Result<(), AllocEr
 fn unmake(tables: &mut Vec<Row>, alloc: Global, high: usize)
     requires within { high < length tables.old.items }
     ensures gone { row tables.new.items high ≡ [] }
-    ensures others { (other : ℕ) → other ≢ high → row tables.new.items other ≡ row tables.old.items other }
+    ensures others { (other : ℕ) → other ≢ high → row tables.new.items other
+        ≡ row tables.old.items other }
     ensures full { length tables.new.items ≡ length tables.old.items }
 {
     tables[high] = Row::absent(alloc);
@@ -87,7 +93,8 @@ fn grow_root(tables: &mut Vec<Row>, alloc: Global, high: usize) -> Result<(), Al
     requires full { length tables.old.items ≤ space_tables }
     ensures rows { (other : ℕ) → row tables.new.items other ≡ row tables.old.items other }
     ensures long { OnOk result (high < length tables.new.items) }
-    ensures least { (length tables.new.items ≡ length tables.old.items) ⊎ (length tables.new.items ≡ high + 1) }
+    ensures least { (length tables.new.items ≡ length tables.old.items)
+        ⊎ (length tables.new.items ≡ high + 1) }
     ensures full { length tables.new.items ≤ space_tables }
 {
     let from = tables.len();
@@ -111,8 +118,11 @@ fn is_ready(tables: &Vec<Row>, page: u32) -> bool
 
 /// Returns the index of the first of these pages whose table does not exist.
 fn first_absent(tables: &Vec<Row>, pages: &[u32]) -> Option<usize>
-    ensures ready { MatchOption result (AreMade tables.now.items pages.now (length pages.now)) (λ at. AreMade tables.now.items pages.now at) }
-    ensures absent { IfSome result (λ at. (at < length pages.now) × (is_made tables.now.items (slice_index_or pages.now at 0 / table_pages) ≡ false)) }
+    ensures ready { MatchOption result (AreMade tables.now.items pages.now (length pages.now))
+        (λ at. AreMade tables.now.items pages.now at) }
+    ensures absent { IfSome result
+        (λ at. (at < length pages.now)
+        × (is_made tables.now.items (slice_index_or pages.now at 0 / table_pages) ≡ false)) }
 {
     for at in 0..pages.len() {
         if !is_ready(tables, pages[at]) {
@@ -131,8 +141,10 @@ fn make_more(tables: &mut Vec<Row>, alloc: Global, pages: &[u32]) -> Result<(), 
     requires fit { All IsPage pages.now }
     ensures same { (other : ℕ) → entry tables.new.items other ≡ entry tables.old.items other }
     ensures ok { OnOk result (AreMade tables.new.items pages.now (length pages.now)) }
-    ensures kept { (high : ℕ) → is_made tables.old.items high ≡ true → is_made tables.new.items high ≡ true }
-    ensures err { OnErr result ((high : ℕ) → is_made tables.new.items high ≡ is_made tables.old.items high) }
+    ensures kept { (high : ℕ) → is_made tables.old.items high ≡ true → is_made tables.new.items high
+        ≡ true }
+    ensures err { OnErr result
+        ((high : ℕ) → is_made tables.new.items high ≡ is_made tables.old.items high) }
     ensures whole { AreWhole tables.new.items }
     ensures full { length tables.new.items ≤ space_tables }
     ensures succeeds { AreMade tables.old.items pages.now (length pages.now) → IsOk result }
@@ -162,8 +174,10 @@ pub(crate) fn make_all(
     requires fit { All IsPage pages.now }
     ensures same { (other : ℕ) → entry tables.new.items other ≡ entry tables.old.items other }
     ensures ok { OnOk result (AreMade tables.new.items pages.now (length pages.now)) }
-    ensures kept { (high : ℕ) → is_made tables.old.items high ≡ true → is_made tables.new.items high ≡ true }
-    ensures err { OnErr result ((high : ℕ) → is_made tables.new.items high ≡ is_made tables.old.items high) }
+    ensures kept { (high : ℕ) → is_made tables.old.items high ≡ true → is_made tables.new.items high
+        ≡ true }
+    ensures err { OnErr result
+        ((high : ℕ) → is_made tables.new.items high ≡ is_made tables.old.items high) }
     ensures whole { AreWhole tables.new.items }
     ensures full { length tables.new.items ≤ space_tables }
     ensures succeeds { AreMade tables.old.items pages.now (length pages.now) → IsOk result }
@@ -187,12 +201,20 @@ pub(crate) fn claim(
     requires whole { AreWhole tables.old.items }
     requires full { length tables.old.items ≤ space_tables }
     requires fits { IsPage page }
-    ensures claimed { IfOk result (λ done. done ≡ true → (entry tables.old.items page ≡ None) × (entry tables.new.items page ≡ Some key)) }
-    ensures present { IfOk result (λ done. done ≡ false → IsTrue (is_some (entry tables.old.items page)) × (tables.new.items ≡ tables.old.items)) }
-    ensures err { OnErr result ((entry tables.old.items page ≡ None) × (entry tables.new.items page ≡ None)) }
-    ensures others { (other : ℕ) → other ≢ page → entry tables.new.items other ≡ entry tables.old.items other }
-    ensures kept { (high : ℕ) → is_made tables.old.items high ≡ true → is_made tables.new.items high ≡ true }
-    ensures refused { OnErr result ((high : ℕ) → is_made tables.new.items high ≡ is_made tables.old.items high) }
+    ensures claimed { IfOk result
+        (λ done. done ≡ true → (entry tables.old.items page ≡ None)
+        × (entry tables.new.items page ≡ Some key)) }
+    ensures present { IfOk result
+        (λ done. done ≡ false → IsTrue (is_some (entry tables.old.items page))
+        × (tables.new.items ≡ tables.old.items)) }
+    ensures err { OnErr result
+        ((entry tables.old.items page ≡ None) × (entry tables.new.items page ≡ None)) }
+    ensures others { (other : ℕ) → other ≢ page → entry tables.new.items other
+        ≡ entry tables.old.items other }
+    ensures kept { (high : ℕ) → is_made tables.old.items high ≡ true → is_made tables.new.items high
+        ≡ true }
+    ensures refused { OnErr result
+        ((high : ℕ) → is_made tables.new.items high ≡ is_made tables.old.items high) }
     ensures whole { AreWhole tables.new.items }
     ensures full { length tables.new.items ≤ space_tables }
     ensures succeeds { AreMade tables.old.items (page ∷ []) 1 → IsOk result }
@@ -228,9 +250,12 @@ fn claim_more(
     ensures done { IfOk result (λ done. done ≡ true) }
     ensures ok { OnOk result (entry tables.new.items page ≡ Some key) }
     ensures err { OnErr result (entry tables.new.items page ≡ None) }
-    ensures others { (other : ℕ) → other ≢ page → entry tables.new.items other ≡ entry tables.old.items other }
-    ensures kept { (high : ℕ) → is_made tables.old.items high ≡ true → is_made tables.new.items high ≡ true }
-    ensures refused { OnErr result ((high : ℕ) → is_made tables.new.items high ≡ is_made tables.old.items high) }
+    ensures others { (other : ℕ) → other ≢ page → entry tables.new.items other
+        ≡ entry tables.old.items other }
+    ensures kept { (high : ℕ) → is_made tables.old.items high ≡ true → is_made tables.new.items high
+        ≡ true }
+    ensures refused { OnErr result
+        ((high : ℕ) → is_made tables.new.items high ≡ is_made tables.old.items high) }
     ensures whole { AreWhole tables.new.items }
     ensures full { length tables.new.items ≤ space_tables }
     ensures succeeds { AreMade tables.old.items (page ∷ []) 1 → IsOk result }
@@ -243,8 +268,11 @@ fn claim_more(
 /// Returns the first entry from this one on and below the end that has a key, with the key.
 fn next_among(row: &Row, from: usize, end: usize) -> Option<(usize, usize)>
     requires within { end ≤ length row.now }
-    ensures none { MatchOption result (NoKeys row.now from end) (λ found. NoKeys row.now from found.0) }
-    ensures some { IfSome result (λ found. (from ≤ found.0) × (found.0 < end) × (slice_index_or row.now found.0 None ≡ Some found.1)) }
+    ensures none { MatchOption result (NoKeys row.now from end)
+        (λ found. NoKeys row.now from found.0) }
+    ensures some { IfSome result
+        (λ found. (from ≤ found.0) × (found.0 < end)
+        × (slice_index_or row.now found.0 None ≡ Some found.1)) }
 {
     for low in from..end {
         if let Some(key) = row.at(low) {
@@ -259,8 +287,11 @@ fn next_among(row: &Row, from: usize, end: usize) -> Option<(usize, usize)>
 fn next_in_block(row: &Row, from: usize, end: usize, block: usize) -> Option<(usize, usize)>
     requires within { end ≤ length row.now }
     requires begun { block * row_block ≤ end }
-    ensures none { MatchOption result (NoKeysInBlock row.now from end block) (λ found. NoKeysInBlock row.now from found.0 block) }
-    ensures some { IfSome result (λ found. (from ≤ found.0) × (found.0 < end) × (found.0 < block * row_block + row_block) × (slice_index_or row.now found.0 None ≡ Some found.1)) }
+    ensures none { MatchOption result (NoKeysInBlock row.now from end block)
+        (λ found. NoKeysInBlock row.now from found.0 block) }
+    ensures some { IfSome result
+        (λ found. (from ≤ found.0) × (found.0 < end) × (found.0 < block * row_block + row_block)
+        × (slice_index_or row.now found.0 None ≡ Some found.1)) }
 {
     if !row.is_used(block) {
         return None;
@@ -273,8 +304,11 @@ fn next_in_block(row: &Row, from: usize, end: usize, block: usize) -> Option<(us
 /// Does what `next_among` does, for all entries. A block that is not used is skipped.
 fn next_in_row(row: &Row, from: usize, end: usize) -> Option<(usize, usize)>
     requires within { end ≤ length row.now }
-    ensures none { MatchOption result (NoKeys row.now from end) (λ found. NoKeys row.now from found.0) }
-    ensures some { IfSome result (λ found. (from ≤ found.0) × (found.0 < end) × (slice_index_or row.now found.0 None ≡ Some found.1)) }
+    ensures none { MatchOption result (NoKeys row.now from end)
+        (λ found. NoKeys row.now from found.0) }
+    ensures some { IfSome result
+        (λ found. (from ≤ found.0) × (found.0 < end)
+        × (slice_index_or row.now found.0 None ≡ Some found.1)) }
 {
     for block in from / BLOCK..end / BLOCK + 1 {
         if let Some(found) = next_in_block(row, from, end, block) {
@@ -313,7 +347,8 @@ fn last_low(places: usize, start: u32, end: u32) -> usize
 pub(crate) fn next_table(tables: &Vec<Row>, page: u32, end: u32) -> Option<usize>
     requires whole { AreWhole tables.now.items }
     requires full { length tables.now.items ≤ space_tables }
-    ensures { MatchOption result (NoneIn tables.now.items page end) (IsTableFrom tables.now.items page end) }
+    ensures { MatchOption result (NoneIn tables.now.items page end)
+        (IsTableFrom tables.now.items page end) }
 {
     let first = (page / TABLE_PAGES) as usize;
     for high in first..tables.len() {
@@ -332,7 +367,8 @@ pub(crate) fn next_table(tables: &Vec<Row>, page: u32, end: u32) -> Option<usize
 pub(crate) fn next_page(tables: &Vec<Row>, page: u32, end: u32) -> Option<(u32, usize)>
     requires whole { AreWhole tables.now.items }
     requires full { length tables.now.items ≤ space_tables }
-    ensures { MatchOption result (NoneIn tables.now.items page end) (λ found. IsFirstIn tables.now.items page end found.0 found.1) }
+    ensures { MatchOption result (NoneIn tables.now.items page end)
+        (λ found. IsFirstIn tables.now.items page end found.0 found.1) }
 {
     if page >= end {
         return None;
@@ -352,7 +388,8 @@ pub(crate) fn next_page(tables: &Vec<Row>, page: u32, end: u32) -> Option<(u32, 
 fn seek(tables: &Vec<Row>, page: u32, end: u32) -> Option<(u32, usize)>
     requires whole { AreWhole tables.now.items }
     requires full { length tables.now.items ≤ space_tables }
-    ensures { MatchOption result (NoneIn tables.now.items page end) (λ found. IsFirstIn tables.now.items page end found.0 found.1) }
+    ensures { MatchOption result (NoneIn tables.now.items page end)
+        (λ found. IsFirstIn tables.now.items page end found.0 found.1) }
 {
     let first = (page / TABLE_PAGES) as usize;
     for high in first..tables.len() {

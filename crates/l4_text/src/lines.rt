@@ -99,7 +99,8 @@ impl Source {
     /// Returns whether a whole line was read after this many bytes.
     fn has_line_behind(&self, count: usize) -> bool
         requires { count ≤ length self.now.0 }
-        ensures { MatchBool result (NoNewline (drop count self.now.0) → ⊥) (NoNewline (drop count self.now.0)) }
+        ensures { MatchBool result (NoNewline (drop count self.now.0) → ⊥)
+            (NoNewline (drop count self.now.0)) }
     {
         if self.start + count < self.lines {
             return true;
@@ -127,7 +128,8 @@ impl Source {
     #[cold]
     #[inline(never)]
     fn fill<R: Read>(&mut self, reader: &mut R) -> Result<bool, RunFault>
-        ensures { Filled (R.remaining reader.old) (R.remaining reader.new) self.old self.new result }
+        ensures { Filled (R.remaining reader.old) (R.remaining reader.new) self.old self.new
+            result }
     {
         if self.reads >= MOST_READS {
             return Err(RunFault::Read);
@@ -198,7 +200,8 @@ impl Line {
     }
 
     fn add(&mut self, bytes: &[u8])
-        ensures { (before : List ℕ) → self.old ≡ kept_of before → self.new ≡ kept_of (before ++ bytes.now) }
+        ensures { (before : List ℕ) → self.old ≡ kept_of before → self.new
+            ≡ kept_of (before ++ bytes.now) }
     {
         let room = self.bytes.room();
         if bytes.len() <= room {
@@ -243,7 +246,8 @@ pub fn next_line<R: Read>(
     line: &mut Line,
     reader: &mut R,
 ) -> Result<Option<Ending>, RunFault>
-    ensures { GivesLine (R.remaining reader.old) (R.remaining reader.new) source.old source.new line.new result }
+    ensures { GivesLine (R.remaining reader.old) (R.remaining reader.new) source.old source.new
+        line.new result }
 {
     source.law_few_reads();
     line.clear();
@@ -276,7 +280,8 @@ fn read_line<R: Read>(
     line: &mut Line,
     reader: &mut R,
 ) -> Result<Option<Ending>, RunFault>
-    ensures { GivesLine (R.remaining reader.old) (R.remaining reader.new) source.old source.new line.new result }
+    ensures { GivesLine (R.remaining reader.old) (R.remaining reader.new) source.old source.new
+        line.new result }
 {
     next_line(source, line, reader)
 }
@@ -334,7 +339,8 @@ impl LineReader {
 
     /// Takes the next line. Returns how it ended, or None at the end of the stream. A call after that reads the stream again.
     pub fn next<R: Read>(&mut self, reader: &mut R) -> Result<Option<Ending>, RunFault>
-        ensures { GivesLine (R.remaining reader.old) (R.remaining reader.new) self.old.0 self.new.0 self.new.1 result }
+        ensures { GivesLine (R.remaining reader.old) (R.remaining reader.new) self.old.0 self.new.0
+            self.new.1 result }
     {
         self.source.take(self.lent);
         self.lent = 0;

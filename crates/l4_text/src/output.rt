@@ -119,7 +119,8 @@ impl Held {
     /// Writes what is held back. After a write that failed it is dropped.
     fn send<W: Write>(&mut self, writer: &mut W) -> Result<(), RunFault>
         ensures none { self.new ≡ [] }
-        ensures ok { OnOk result (Appends (W.contents writer.old) (W.contents writer.new) self.old) }
+        ensures ok { OnOk result
+            (Appends (W.contents writer.old) (W.contents writer.new) self.old) }
         ensures err { IfErr result (λ e. (e ≡ RunFault.Write)
             × WentOut (W.contents writer.old) (W.contents writer.new) self.old) }
     {
@@ -131,7 +132,8 @@ impl Held {
     /// Writes what is held, and has the writer pass on what it holds back itself.
     fn finish<W: Write>(&mut self, writer: &mut W) -> Result<(), RunFault>
         ensures none { self.new ≡ [] }
-        ensures ok { OnOk result (Appends (W.contents writer.old) (W.contents writer.new) self.old) }
+        ensures ok { OnOk result
+            (Appends (W.contents writer.old) (W.contents writer.new) self.old) }
         ensures err { IfErr result (λ e. (e ≡ RunFault.Write)
             × WentOut (W.contents writer.old) (W.contents writer.new) self.old) }
     {
@@ -333,7 +335,8 @@ impl Output {
     /// Adds a text after a mark of at most two bytes, and makes room for both.
     pub fn put_marked<W: Write>(&mut self, writer: &mut W, mark: &[u8], text: &Text)
         requires { length mark.now ≤ 2 }
-        ensures { Tells (W.contents writer.old) (W.contents writer.new) self.old self.new (mark.now ++ text.now) }
+        ensures { Tells (W.contents writer.old) (W.contents writer.new) self.old self.new
+            (mark.now ++ text.now) }
     {
         self.make_room(writer);
         self.add(mark);
@@ -342,7 +345,8 @@ impl Output {
 
     /// Adds a newline, and makes room for it.
     pub fn end_line<W: Write>(&mut self, writer: &mut W)
-        ensures { Tells (W.contents writer.old) (W.contents writer.new) self.old self.new (10 ∷ []) }
+        ensures { Tells (W.contents writer.old) (W.contents writer.new) self.old self.new
+            (10 ∷ []) }
     {
         self.make_room(writer);
         self.push(b'\n');
@@ -364,7 +368,8 @@ impl Output {
     #[inline(always)]
     fn put_row<W: Write>(&mut self, writer: &mut W, row: &[u32])
         requires { 9 * length row.now ≤ text_bytes }
-        ensures { Tells (W.contents writer.old) (W.contents writer.new) self.old self.new (words_text row.now) }
+        ensures { Tells (W.contents writer.old) (W.contents writer.new) self.old self.new
+            (words_text row.now) }
     {
         self.make_room(writer);
         self.add_words(row);
@@ -372,7 +377,8 @@ impl Output {
 
     /// Adds words as eight lower-case hexadecimal digits, each after a space, and makes room for them.
     pub fn put_words<W: Write>(&mut self, writer: &mut W, words: &[u32])
-        ensures { Tells (W.contents writer.old) (W.contents writer.new) self.old self.new (words_text words.now) }
+        ensures { Tells (W.contents writer.old) (W.contents writer.new) self.old self.new
+            (words_text words.now) }
     {
         for row in words.chunks(WORDS_IN_TEXT) {
             self.put_row(writer, row);

@@ -268,7 +268,8 @@ impl Activity {
     /// Makes the thread run, with the words after the tag that the other thread sends as the reply of its Ipc.
     #[inline(always)]
     pub(crate) fn take(&mut self, from: &Activity, envelope: Envelope)
-        ensures { (sending : ASending) → sending_in from.now ≡ Some sending → self.new ≡ Running (Some (Ipc (message_of envelope (drop 1 sending.words.items)))) }
+        ensures { (sending : ASending) → sending_in from.now ≡ Some sending → self.new
+            ≡ Running (Some (Ipc (message_of envelope (drop 1 sending.words.items)))) }
     {
         if let Some(sending) = from.sending() {
             self.answer(envelope, behind_tag(sending.words.as_slice()));

@@ -13,7 +13,8 @@ use arrayvec::ArrayVec;
 
 /// Returns the lesser of this number and the one given before, if any.
 pub fn lesser(least: Option<u32>, number: u32) -> u32
-    ensures { result ≡ option_map_or (λ other. if nat_lt other number then other else number) least number }
+    ensures { result
+        ≡ option_map_or (λ other. if nat_lt other number then other else number) least number }
 {
     match least {
         Some(other) => { if other < number { other } else { number } }

@@ -203,7 +203,8 @@ impl ThreadId {
     /// is 0, or at least 2^18; the low six bits of the version are all zero, or it is at least 2^14; or the two make
     /// anythread.
     pub fn global(number: u32, version: u32) -> Option<ThreadId>
-        ensures { MatchOption result ((id : AnId) → ¬ (IsGlobalId number version id)) (IsGlobalId number version) }
+        ensures { MatchOption result ((id : AnId) → ¬ (IsGlobalId number version id))
+            (IsGlobalId number version) }
     {
         if number >= 1 << NUMBER_BITS || version >= 1 << VERSION_BITS {
             return None;

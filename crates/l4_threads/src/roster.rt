@@ -176,7 +176,8 @@ impl Roster {
     pub fn end(&mut self, number: u32, ending: Wordless) -> bool
         requires { found self.old number ≢ None }
         ensures sent { result ≡ sends_in self.old number }
-        ensures value { self.new ≡ changed_in self.old number (in_state (Running (Some (wordless_reply ending)))) }
+        ensures value { self.new
+            ≡ changed_in self.old number (in_state (Running (Some (wordless_reply ending)))) }
     {
         let Some(at) = self.place(number) else {
             return false;
@@ -191,7 +192,9 @@ impl Roster {
         requires there { found self.old number ≢ None }
         requires words { length words.now ≤ max_words }
         ensures sent { result ≡ sends_in self.old number }
-        ensures value { self.new ≡ changed_in self.old number (in_state (Running (Some (Ipc (message_of envelope words.now))))) }
+        ensures value { self.new
+            ≡ changed_in self.old number
+            (in_state (Running (Some (Ipc (message_of envelope words.now))))) }
     {
         let Some(at) = self.place(number) else {
             return false;
@@ -224,7 +227,8 @@ impl Roster {
         requires there { found self.old number ≢ None }
         requires words { length words.now ≤ max_words }
         requires items { length items.now ≤ max_items }
-        ensures { self.new ≡ changed_in self.old number (in_state (Sends (sending_of words.now items.now phase))) }
+        ensures { self.new
+            ≡ changed_in self.old number (in_state (Sends (sending_of words.now items.now phase))) }
     {
         if let Some(at) = self.place(number) {
             self.entries[at].1.state.send(words, items, phase);

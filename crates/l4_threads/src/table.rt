@@ -72,7 +72,8 @@ ghost use Rattle.l4_threads.specs.Enabled.{offers_to};
 
 /// Returns whether the one state sends to the thread of the other, which accepts its message.
 fn offers(sends: Option<&Activity>, takes: Option<&Activity>, sender: u32, receiver: u32) -> bool
-    ensures { result ≡ offers_to (option_copied sends.entry) (option_copied takes.entry) sender receiver }
+    ensures { result
+        ≡ offers_to (option_copied sends.entry) (option_copied takes.entry) sender receiver }
 {
     let Some(from) = sends else {
         return false;
@@ -196,7 +197,8 @@ impl Threads {
 
     /// Returns the number of the first thread in the queue whose message the receiver accepts.
     pub fn first_sender(&self, receiver: u32) -> Option<u32>
-        ensures { MatchOption result ((s : ℕ) → ¬ (Offers self.now s receiver)) (IsFirstSender self.now receiver) }
+        ensures { MatchOption result ((s : ℕ) → ¬ (Offers self.now s receiver))
+            (IsFirstSender self.now receiver) }
     {
         let takes = self.state(receiver);
         for sender in self.queue.as_slice() {
@@ -244,7 +246,8 @@ impl Threads {
     #[inline(always)]
     fn transfer_of(&self, number: u32) -> Option<(u32, u32)>
         requires { TakesPart self.now number }
-        ensures { MatchOption result ((s r : ℕ) → ¬ (IsFirstSender self.now r s)) (IsNextTransfer self.now) }
+        ensures { MatchOption result ((s r : ℕ) → ¬ (IsFirstSender self.now r s))
+            (IsNextTransfer self.now) }
     {
         self.law_consistent();
         if self.sends(number) {
@@ -257,7 +260,8 @@ impl Threads {
 
     /// Returns the enabled transfer whose sender is first in the queue, by a search.
     fn first_transfer(&self) -> Option<(u32, u32)>
-        ensures { MatchOption result ((s r : ℕ) → ¬ (IsFirstSender self.now r s)) (IsNextTransfer self.now) }
+        ensures { MatchOption result ((s r : ℕ) → ¬ (IsFirstSender self.now r s))
+            (IsNextTransfer self.now) }
     {
         if !any_receives(self.threads.as_slice()) {
             return None;
@@ -273,7 +277,8 @@ impl Threads {
     /// Returns the enabled transfer whose sender is first in the queue: the sender's number and the receiver's.
     #[inline(always)]
     pub fn next_transfer(&self) -> Option<(u32, u32)>
-        ensures { MatchOption result ((s r : ℕ) → ¬ (IsFirstSender self.now r s)) (IsNextTransfer self.now) }
+        ensures { MatchOption result ((s r : ℕ) → ¬ (IsFirstSender self.now r s))
+            (IsNextTransfer self.now) }
     {
         match self.focus {
             Focus::Nobody => None,
@@ -624,7 +629,8 @@ impl Threads {
 
     /// Returns the space, if no thread is in it.
     fn without_thread(&self, space: u64) -> Option<u64>
-        ensures { MatchOption result ((n : ℕ) × (space_of self.now n ≡ Some space)) (λ s. (s ≡ space) × HasEnded self.now space) }
+        ensures { MatchOption result ((n : ℕ) × (space_of self.now n ≡ Some space))
+            (λ s. (s ≡ space) × HasEnded self.now space) }
     {
         if is_inhabited(self.threads.as_slice(), space) {
             None
@@ -640,7 +646,8 @@ impl Threads {
     /// (`id` names no thread), `Kept` (it is sigma0, root or the caller).
     ///
     pub fn delete(&mut self, caller: u32, id: ThreadId) -> Result<Deleted, ThreadFault>
-        ensures test { MatchResult result (λ d. delete_test self.old caller id ≡ Ok d.number) (λ e. delete_test self.old caller id ≡ Err e) }
+        ensures test { MatchResult result (λ d. delete_test self.old caller id ≡ Ok d.number)
+            (λ e. delete_test self.old caller id ≡ Err e) }
         ensures ok { IfOk result (λ d. Deletes d.number self.old self.new) }
         ensures ended { IfOk result (λ d. IsEndedList self.old self.new d.ended.items) }
         ensures space { IfOk result (λ d. TellsEnd self.old self.new d.number d.space) }

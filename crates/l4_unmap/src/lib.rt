@@ -33,11 +33,14 @@ pub fn unmap(
     control: u32,
     words: &[u32],
 ) -> Result<(), UnmapFault>
-    ensures ok { OnOk result ((fpages : List Fpage) × UnmapReads control words.now fpages × Unmaps size space (with_own control) fpages forest.old forest.new) }
+    ensures ok { OnOk result
+        ((fpages : List Fpage) × UnmapReads control words.now fpages
+        × Unmaps size space (with_own control) fpages forest.old forest.new) }
     ensures err { OnErr result (forest.new ≡ forest.old) }
     ensures fault { IfErr result (UnmapFails control words.now) }
     ensures only { (fpages : List Fpage) → UnmapReads control words.now fpages → IsOk result }
-    ensures refused { (fault : UnmapFault) → UnmapFails control words.now fault → result ≡ Err fault }
+    ensures refused { (fault : UnmapFault) → UnmapFails control words.now fault → result
+        ≡ Err fault }
 {
     match test_words(control, words) {
         Ok(()) => {
@@ -85,7 +88,8 @@ fn test_words(control: u32, words: &[u32]) -> Result<(), UnmapFault>
 fn unmap_words(forest: &mut Forest, space: u64, size: PageSize, control: u32, words: &[u32])
     requires forest { IsForest forest.old }
     requires read { (fpages : List Fpage) × UnmapReads control words.now fpages }
-    ensures { (fpages : List Fpage) → UnmapReads control words.now fpages → Unmaps size space (with_own control) fpages forest.old forest.new }
+    ensures { (fpages : List Fpage) → UnmapReads control words.now fpages
+        → Unmaps size space (with_own control) fpages forest.old forest.new }
 {
     let own = means_own(control);
     for i in 0..register_count(control) {
@@ -96,7 +100,8 @@ fn unmap_words(forest: &mut Forest, space: u64, size: PageSize, control: u32, wo
 /// Takes away what the fpage of the word names.
 fn unmap_word(forest: &mut Forest, space: u64, size: PageSize, own: bool, word: u32)
     requires { IsForest forest.old }
-    ensures { (fpage : Fpage) → ReadsAs word fpage → Unmaps size space own (fpage ∷ []) forest.old forest.new }
+    ensures { (fpage : Fpage) → ReadsAs word fpage
+        → Unmaps size space own (fpage ∷ []) forest.old forest.new }
 {
     let Ok(fpage) = Fpage::read(word) else {
         return;
