@@ -5,10 +5,10 @@ by step, so that the state can be queried after each step.
 """
 from __future__ import annotations
 
-import re
 from dataclasses import dataclass
-from typing import Callable, Dict, Iterable, Iterator, List, Optional, Set, Tuple
+from typing import Callable, Dict, Iterable, Iterator, List, Optional, Set, Tuple, TypeVar
 
+from . import _symbols
 from ._library import L4_DELETE
 from .calls import Call
 from .kernel import Kernel, Reply, ReplyKind, Transfer
@@ -27,8 +27,7 @@ MOST_STEPS = 999_871
 _MOST_ACTS = 256
 _NO_SPACE = (1 << 64) - 1
 
-_NUMBER = re.compile(r"0x[0-9A-Fa-f]{1,8}|[0-9]{1,10}")
-_RIGHTS = {str(rights): rights for rights in map(Rights.of_bits, range(8))}
+_Read = TypeVar("_Read")
 
 
 @dataclass(frozen=True)
@@ -51,11 +50,20 @@ class _Bad(Exception):
     """A refused line: its code, with the number that the code carries."""
 
 
+def _read(read: Callable[..., _Read], *tokens: object) -> _Read:
+    """Returns what a function makes of these tokens. A line with a token that it refuses is S2."""
+    try:
+        return read(*tokens)
+    except ValueError:
+        raise _Bad("S2") from None
+
+
 class _Tokens:
     """The tokens of a line after its command, taken one by one."""
 
-    def __init__(self, tokens: List[str]) -> None:
+    def __init__(self, tokens: List[str], page_bytes: int) -> None:
         self.left = tokens
+        self.page_bytes = page_bytes
 
     def take(self) -> str:
         if not self.left:
@@ -63,10 +71,7 @@ class _Tokens:
         return self.left.pop(0)
 
     def number(self, below: int = 1 << 32) -> int:
-        token = self.take()
-        if not _NUMBER.fullmatch(token):
-            raise _Bad("S2")
-        value = int(token, 16 if token.startswith("0x") else 10)
+        value = _read(_symbols.number, self.take())
         if value >= below:
             raise _Bad("S2")
         return value
@@ -86,15 +91,21 @@ class _Tokens:
         return self.id_or({"nil": ThreadId.NIL})
 
     def rights(self) -> Rights:
-        token = self.take()
-        if token not in _RIGHTS:
-            raise _Bad("S2")
-        return _RIGHTS[token]
+        return _read(_symbols.rights, self.take())
+
+    def window(self) -> int:
+        return _read(_symbols.window, self.take(), self.page_bytes)
+
+    def timeout_word(self) -> int:
+        return _read(_symbols.timeout_word, self.take())
 
     def words(self) -> Tuple[int, ...]:
+        return _read(_symbols.words, self.left, self.page_bytes)
+
+    def fpages(self) -> Tuple[int, ...]:
         if len(self.left) > MAX_WORDS:
             raise _Bad("S2")
-        return tuple(self.number() for _ in list(self.left))
+        return tuple(_read(_symbols.fpage, token, self.page_bytes) for token in self.left)
 
     def end(self) -> None:
         if self.left:
@@ -176,7 +187,7 @@ class Script:
         command = _COMMANDS.get(tokens[0])
         if command is None:
             raise _Bad("S1")
-        return command(self, _Tokens(tokens[1:]))
+        return command(self, _Tokens(tokens[1:], self.page_bytes))
 
     # the commands
 
@@ -198,7 +209,7 @@ class Script:
         return self._enter(ThreadId.ROOT.number, Call.delete(_id(number)))
 
     def _recv(self, tokens: _Tokens) -> Iterator[Event]:
-        number, source, window = tokens.thread(), tokens.partner(), tokens.number()
+        number, source, window = tokens.thread(), tokens.partner(), tokens.window()
         tokens.end()
         return self._enter(number, _ipc(ThreadId.NIL, source, window=window))
 
@@ -208,7 +219,7 @@ class Script:
 
     def _ipc(self, tokens: _Tokens) -> Iterator[Event]:
         number, to, source = tokens.thread(), tokens.partner(), tokens.partner()
-        timeout_word, window = tokens.number(), tokens.number()
+        timeout_word, window = tokens.timeout_word(), tokens.window()
         return self._enter(number, _ipc(to, source, tokens.words(), timeout_word, window))
 
     def _delegate(self, tokens: _Tokens) -> Iterator[Event]:
@@ -233,7 +244,7 @@ class Script:
 
     def _unmap(self, tokens: _Tokens) -> Iterator[Event]:
         number, control = tokens.thread(), tokens.number()
-        return self._enter(number, Call.unmap_words(control, tokens.words()))
+        return self._enter(number, Call.unmap_words(control, tokens.fpages()))
 
     def _fault(self, tokens: _Tokens) -> Iterator[Event]:
         number, address, ip, access = tokens.thread(), tokens.number(), tokens.number(), tokens.rights()

@@ -3,7 +3,7 @@ use Rattle.std.specs.Prelude.{ℕ, Bool, Result, Ok, Err, is_some, if◌then◌e
 use Rattle.l4_expectations.specs.declared.outcomes.Failure.{Failure}
 use Rattle.l4_expectations.specs.declared.outcomes.Failure.TheVariants.{Differs, Malformed, Stopped as StoppedTest}
 use Rattle.l4_expectations.specs.declared.outcomes.Passed.{Passed}
-use Rattle.l4_options.specs.Statuses.{run_status}
+use Rattle.l4_programs.specs.Statuses.{run_status}
 use Rattle.l4_plan_lines.specs.Answers.{is_proved}
 use Rattle.l4_plan_lines.specs.declared.answers.Answer.{Answer}
 use Rattle.l4_sinks.specs.declared.scripts.Ended.{Ended}

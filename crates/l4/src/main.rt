@@ -17,12 +17,13 @@ use l4_decode::{Reading, decode};
 use l4_fpage::PageSize;
 use l4_history::{Presence, Question, ThreadPage, WhyResult, answered_history, history, why};
 use l4_msg::Region;
-use l4_options::{
-    NOT_UNDERSTOOD, Options, ScriptOptions, WatchedReader, WatchedWriter, cause, command_words,
-    misread, not_opened, options, show, status_of, stopped, warn_of_cut_line,
-};
+use l4_options::{Options, ScriptOptions, misread, options};
 use l4_plan::plan;
 use l4_plan_lines::{Answer, answer_lines, plan_lines};
+use l4_programs::{
+    NOT_UNDERSTOOD, WatchedReader, WatchedWriter, cause, command_words, not_opened, show,
+    status_of, stopped, warn_of_cut_line,
+};
 use l4_reasons::Reason;
 use l4_sinks::{Ended, Style, answer_script};
 use l4_step_lines::{Fault, JudgeFault, judge};

@@ -5,10 +5,8 @@ ghost use Rattle.l4_options.specs.Ranges.{IsFrameCount};
 
 use crate::DIFFERS;
 use l4_expectations::{Difference, Failure, Fault, Passed, test_script};
-use l4_options::{
-    NOT_UNDERSTOOD, OptionFault, Options, ScriptOptions, WatchedReader, not_opened, options,
-    stopped,
-};
+use l4_options::{OptionFault, Options, ScriptOptions, options};
+use l4_programs::{NOT_UNDERSTOOD, WatchedReader, not_opened, stopped};
 use l4_text::{Ending, LineReader, RunFault, next_token};
 use std::alloc::Global;
 use std::io::{ErrorKind, Read};

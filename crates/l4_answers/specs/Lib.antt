@@ -1,4 +1,5 @@
 pub mod Pages
 pub mod Refusals
 pub mod Replies
+pub mod Lines
 pub mod Reports

@@ -1,6 +1,7 @@
 -- The answers of a script as reports, and the text of each.
 use Rattle.std.specs.Prelude.{ℕ, Bool, List, [], ◌∷◌, ◌++◌, Option, Some, None, is_some, codes, decimal}
 use Rattle.std.specs.List.{list_any}
+use Rattle.l4_fpage.specs.declared.sizes.PageSize.{PageSize}
 use Rattle.l4_ipc.specs.declared.steps.Outcome.{Outcome}
 use Rattle.l4_mapdb.specs.declared.Mapping.{Mapping}
 use Rattle.l4_threads.specs.declared.Reply.{Reply}
@@ -12,8 +13,8 @@ use Rattle.l4_answers.specs.Replies.{newline, numbered_text, transfer_text, expi
 pub data Report : Type 0 where
   -- the script's line with this number is refused
   RefusedLine : ℕ → Refusal → Report
-  -- the script's line with this number can't be read: its refusal, and its bytes
-  UnreadLine : ℕ → Refusal → List ℕ → Report
+  -- the script's line with this number can't be read, where pages have this size: its refusal, and its bytes
+  UnreadLine : PageSize → ℕ → Refusal → List ℕ → Report
   -- a served thread's call is refused
   RefusedAct : ℕ → Refusal → Report
   -- a transfer between two threads, and its outcome
@@ -47,7 +48,7 @@ steps_text count = codes "steps " ++ decimal count ++ newline
 -- the line of an answer
 abbrev pub report_text : Report → List ℕ
 report_text (RefusedLine line refusal) = refused_text line refusal
-report_text (UnreadLine line refusal bytes) = refused_text line refusal
+report_text (UnreadLine size line refusal bytes) = refused_text line refusal
 report_text (RefusedAct thread refusal) = refused_act_text thread refusal
 report_text (Transferred sender receiver outcome) = transfer_text sender receiver outcome
 report_text (TimedOut n) = expire_text n
@@ -62,7 +63,7 @@ report_text (StepCount count) = steps_text count
 -- the number of the script's line that it refuses, if it refuses one
 abbrev pub refused_line : Report → Option ℕ
 refused_line (RefusedLine line refusal) = Some line
-refused_line (UnreadLine line refusal bytes) = Some line
+refused_line (UnreadLine size line refusal bytes) = Some line
 refused_line report = None
 
 -- whether one of these refuses a line

@@ -1,11 +1,13 @@
 //! The kernel's answers: their receivers and their texts.
 #![tactic(auto)]
 
+mod lines;
 mod pages;
 mod refusals;
 mod replies;
 mod sink;
 
+pub use lines::{AnswerLines, first_line, later_lines};
 pub use pages::{add_page, add_place, add_rights, put_page, put_parent, put_shown};
 pub use refusals::{
     Code, add_code, put_refused_act, put_refused_line, put_region, put_steps, refused_code,

@@ -4,6 +4,7 @@ ghost use Rattle.std.specs.Option.{option_copied};
 ghost use Rattle.l4_answers.specs.Reports.{Report, RefusedLine, UnreadLine, RefusedAct, Transferred, TimedOut, Waits, Ended, Page, Shown, Parent, AddedRegion, StepCount, Adds, Keeps, AllOut};
 
 use crate::refusals::Code;
+use l4_fpage::PageSize;
 use l4_ipc::Outcome;
 use l4_mapdb::Mapping;
 use l4_text::{LineReader, RunFault};
@@ -21,65 +22,51 @@ pub trait Sink {
     /// Whether it takes no more answers.
     ghost closed: { Self → Bool };
 
-    /// Reports that a line of the script is refused.
-    fn refused_line(&mut self, line: u64, code: &Code)
-        ensures { Adds has_told self.old self.new (RefusedLine line code.now) };
-
-    /// Reports that a line of the script can't be read, with its bytes.
-    fn unread_line(&mut self, line: u64, code: &Code, bytes: &[u8])
-        ensures { Adds has_told self.old self.new (UnreadLine line code.now bytes.now) };
-
-    /// Reports that a served thread's call is refused.
-    fn refused_act(&mut self, thread: u32, code: &Code)
-        ensures { Adds has_told self.old self.new (RefusedAct thread code.now) };
-
-    /// Reports a transfer.
-    fn transfer(&mut self, sender: u32, receiver: u32, outcome: Outcome)
-        ensures { Adds has_told self.old self.new (Transferred sender receiver outcome) };
-
-    /// Reports that a zero timeout expired.
-    fn expire(&mut self, number: u32)
-        ensures { Adds has_told self.old self.new (TimedOut number) };
-
-    /// Reports that a thread's call has not ended.
-    fn waits(&mut self, number: u32)
-        ensures { Adds has_told self.old self.new (Waits number) };
-
-    /// Reports how a thread's call ended. A thread that is gone has no reply.
-    fn ended(&mut self, number: u32, reply: Option<&Reply>)
-        ensures { Adds has_told self.old self.new (Ended number (option_copied reply.entry)) };
-
-    /// Reports a page that is present.
-    fn page(&mut self, page: u32, mapping: &Mapping)
-        ensures { Adds has_told self.old self.new (Page page mapping.now) };
-
-    /// Reports how many pages were listed.
-    fn shown(&mut self, count: u32)
-        ensures { Adds has_told self.old self.new (Shown count) };
-
-    /// Reports the parent of a page, or that the page is absent.
-    fn parent(&mut self, mapping: Option<Mapping>)
-        ensures { Adds has_told self.old self.new (Parent mapping) };
-
-    /// Reports that a pager's table has one region more.
-    fn region_added(&mut self)
-        ensures { Adds has_told self.old self.new AddedRegion };
-
-    /// Reports how many entries the history has.
-    fn steps(&mut self, count: u64)
-        ensures { Adds has_told self.old self.new (StepCount count) };
-
-    /// Writes what it holds back if the next line has to be read first.
-    fn before_line(&mut self, lines: &LineReader)
-        ensures { Keeps has_told self.old self.new };
-
-    /// Returns whether it takes no more answers.
-    fn is_closed(&self) -> bool
-        ensures { result ≡ closed self.now };
-
     /// Writes all that it holds back.
     fn finish(&mut self) -> Result<(), RunFault>
         ensures ok { OnOk result (AllOut has_told is_out self.old self.new) }
         ensures same { OnOk result (closed self.new ≡ closed self.old) }
         ensures err { IfErr result (λ e. (e ≡ RunFault.Write) × Keeps has_told self.old self.new) };
+    /// Returns whether it takes no more answers.
+    fn is_closed(&self) -> bool
+        ensures { result ≡ closed self.now };
+    /// Writes what it holds back if the next line has to be read first.
+    fn before_line(&mut self, lines: &LineReader)
+        ensures { Keeps has_told self.old self.new };
+    /// Reports that a line of the script is refused.
+    fn refused_line(&mut self, line: u64, code: &Code)
+        ensures { Adds has_told self.old self.new (RefusedLine line code.now) };
+    /// Reports that a line of the script can't be read, with its bytes. Pages have this size.
+    fn unread_line(&mut self, line: u64, code: &Code, bytes: &[u8], size: PageSize)
+        ensures { Adds has_told self.old self.new (UnreadLine size line code.now bytes.now) };
+    /// Reports that a served thread's call is refused.
+    fn refused_act(&mut self, thread: u32, code: &Code)
+        ensures { Adds has_told self.old self.new (RefusedAct thread code.now) };
+    /// Reports a transfer.
+    fn transfer(&mut self, sender: u32, receiver: u32, outcome: Outcome)
+        ensures { Adds has_told self.old self.new (Transferred sender receiver outcome) };
+    /// Reports that a zero timeout expired.
+    fn expire(&mut self, number: u32)
+        ensures { Adds has_told self.old self.new (TimedOut number) };
+    /// Reports that a thread's call has not ended.
+    fn waits(&mut self, number: u32)
+        ensures { Adds has_told self.old self.new (Waits number) };
+    /// Reports how a thread's call ended. A thread that is gone has no reply.
+    fn ended(&mut self, number: u32, reply: Option<&Reply>)
+        ensures { Adds has_told self.old self.new (Ended number (option_copied reply.entry)) };
+    /// Reports a page that is present.
+    fn page(&mut self, page: u32, mapping: &Mapping)
+        ensures { Adds has_told self.old self.new (Page page mapping.now) };
+    /// Reports how many pages were listed.
+    fn shown(&mut self, count: u32)
+        ensures { Adds has_told self.old self.new (Shown count) };
+    /// Reports the parent of a page, or that the page is absent.
+    fn parent(&mut self, mapping: Option<Mapping>)
+        ensures { Adds has_told self.old self.new (Parent mapping) };
+    /// Reports that a pager's table has one region more.
+    fn region_added(&mut self)
+        ensures { Adds has_told self.old self.new AddedRegion };
+    /// Reports how many entries the history has.
+    fn steps(&mut self, count: u64)
+        ensures { Adds has_told self.old self.new (StepCount count) };
 }

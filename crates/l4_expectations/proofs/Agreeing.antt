@@ -11,6 +11,7 @@ use Rattle.std.proofs.lemmas.Slice.Eq.{bytes_eq-Decides}
 use mathlib.Core.List.{append_assoc}
 use Rattle.l4_answers.specs.Reports.{Report}
 use Rattle.l4_text.specs.Grammar.{TextLine, is_silent, ending_of}
+use Rattle.l4_fpage.specs.declared.sizes.PageSize.{PageSize}
 use Rattle.l4_shell.specs.Commands.{command_of}
 use Rattle.l4_shell.specs.Requests.{asked_at, asked_of, some_request}
 use Rattle.l4_shell.specs.Sessions.{Session, AnswersLine}
@@ -22,9 +23,10 @@ use Rattle.l4_expectations.specs.declared.due.Due.{Due}
 use Rattle.l4_expectations.specs.declared.due.Stage.{Stage}
 use Rattle.l4_expectations.specs.declared.due.Stage.TheVariants.{Untouched, Begun, Rest}
 use Rattle.l4_expectations.specs.Expectations.{is_marked, answer_in, expected_in, rest, is_rest, one, expected_by, expected_below, lines_text, Agrees, IsAsExpected, AreAsExpected}
-use Rattle.l4_expectations.specs.Tests.{HasCompared, Compares, AgreesSoFar, is_ended, is_surplus, has_surplus, is_next}
-use Rattle.l4_expectations.specs.Inside.Lines.{later_lines, Takes}
-use Rattle.l4_expectations.proofs.FirstLine.{next_in_front}
+use Rattle.l4_expectations.specs.Tests.{HasCompared, Compares, AgreesSoFar, is_ended, is_surplus, has_surplus}
+use Rattle.l4_expectations.specs.Inside.Lines.{Takes}
+use Rattle.l4_answers.specs.Lines.{later_lines, is_next}
+use Rattle.l4_answers.proofs.FirstLine.{next_in_front}
 
 abbrev Silent : TextLine → Type 0
 Silent line = is_silent line.bytes ≡ true
@@ -84,12 +86,12 @@ expected_more first between last number (head ∷ before) line below asks are mo
     )
 
 -- a silent line has no answer
-asked_none : (bytes : List ℕ) → is_silent bytes ≡ true → asked_at Whole bytes ≡ Ok None
-asked_none bytes is = ap (λ b. cond b (Ok None) (some_request bytes (command_of (tokens_of bytes)))) is
+asked_none : (size : PageSize) (bytes : List ℕ) → is_silent bytes ≡ true → asked_at size Whole bytes ≡ Ok None
+asked_none size bytes is = ap (λ b. cond b (Ok None) (some_request bytes (command_of size (tokens_of bytes)))) is
 
-silent_answers : (m : Session) (number : ℕ) (line : TextLine) → IsWhole line → Silent line → AnswersLine m number (asked_of line) [] m
+silent_answers : (m : Session) (number : ℕ) (line : TextLine) → IsWhole line → Silent line → AnswersLine m number (asked_of m.machine.size line) [] m
 silent_answers m number line whole is =
-    let asked : asked_of line ≡ Ok None = ap (λ e. asked_at e line.bytes) whole ∙ asked_none line.bytes is in
+    let asked : asked_of m.machine.size line ≡ Ok None = ap (λ e. asked_at m.machine.size e line.bytes) whole ∙ asked_none m.machine.size line.bytes is in
     subst (λ (q : Result _ _). AnswersLine m number q [] m) (sym asked) (refl, refl)
 
 silent_lines : (m : Session) (number : ℕ) (lines : List TextLine) → All IsWhole lines → All Silent lines → All Readable lines → AreAsExpected m number lines m
@@ -132,7 +134,7 @@ due_closed first lines due last c closed =
       record {
         told = c.told;
         text = c.text;
-        answers = subst (λ (n : ℕ). AnswersLine c.between n (asked_of c.line) c.told last) c.number c.answers;
+        answers = subst (λ (n : ℕ). AnswersLine c.between n (asked_of c.between.machine.size c.line) c.told last) c.number c.answers;
         is_text = c.is_text;
         agrees = λ asks. all_agree due.stage (expected_below c.below) c.text due.left c.compared closed;
         readable = c.readable;
@@ -175,7 +177,7 @@ some_readable line answer h is = h ∙ sym (ap is_some is)
 -- a line with answers
 pub answered_more : (first : Session) (lines : List TextLine) (due : Option Due) (last next : Session) (line : TextLine) (number : ℕ) (text : List ℕ) → All IsWhole lines → AgreesSoFar first lines due last
     → has_surplus due ≡ false → IsWhole line → is_silent line.bytes ≡ false → number ≡ 1 + length lines
-    → (told : List Report) × AnswersLine last number (asked_of line) told next × AreAnswerTexts None told text
+    → (told : List Report) × AnswersLine last number (asked_of last.machine.size line) told next × AreAnswerTexts None told text
     → Compares first (lines ++ line ∷ []) (record { number = number; left = text; stage = Untouched }) next
 answered_more first lines due last next line number text whole a closed whole_line asks number_is is = record {
   before = lines;
@@ -212,7 +214,7 @@ below_push first lines due after last line c whole silent readable same compared
   number = same ∙ c.number;
   told = c.told;
   text = c.text;
-  answers = subst (λ (n : ℕ). AnswersLine c.between n (asked_of c.line) c.told last) (sym same) c.answers;
+  answers = subst (λ (n : ℕ). AnswersLine c.between n (asked_of c.between.machine.size c.line) c.told last) (sym same) c.answers;
   is_text = c.is_text;
   asks = c.asks;
   readable = c.readable;

@@ -1,5 +1,3 @@
 mod Agreeing
 mod Answering
-mod FirstLine
-mod Taking
 mod TestedLines

@@ -11,7 +11,6 @@ use Rattle.l4_shell.specs.Requests.{asked_at, asked_of}
 use Rattle.l4_shell.specs.Sessions.{Session, AnswersLine}
 use Rattle.l4_shell.specs.declared.by_lines.ScriptRun.{ScriptRun}
 use Rattle.l4_text.proofs.Grammar.{cut_line, none_whole}
-use Rattle.l4_shell.proofs.Scripting.{something_kept, nothing_kept}
 use Rattle.l4_text.specs.Lines.{GivesLine}
 use Rattle.l4_text.specs.declared.faults.RunFault.{RunFault}
 use Rattle.l4_text.specs.declared.faults.RunFault.TheVariants.{Read, Write, Memory}
@@ -26,7 +25,7 @@ use Rattle.l4_expectations.specs.Expectations.{is_marked, expected_in, expected_
 use Rattle.l4_expectations.specs.Tests.{Compares, AgreesSoFar, FailsAt, FailsNext, AgreesFirst, Tests}
 use Rattle.l4_expectations.specs.Inside.Lines.{Fails, Compared, Goes, GoesBy, TestsLine, EndsWhole, TestsEnd, IsFirst, AgreesSome, TestsLines}
 use Rattle.l4_expectations.proofs.Agreeing.{lines_closed, none_above, answered_more, silent_more, expected_one, counted_one, counted_none, asked_unmarked}
-use Rattle.l4_expectations.proofs.Taking.{Taken, taken_none, taken_more, taken_with, rest_is, line_of_more, ending_whole, ending_long}
+use Rattle.l4_answers.proofs.Taking.{Taken, taken_none, taken_more, taken_with, rest_is, line_of_more, ending_whole, ending_long, something_kept, nothing_kept}
 
 abbrev IsWhole : TextLine → Type 0
 IsWhole line = ending_of line ≡ Whole
@@ -64,7 +63,7 @@ record OneMore (first : Session) (lines : List TextLine) (line : TextLine) (old 
 goes_more : (first : Session) (lines : List TextLine) (line : TextLine) (number : ℕ) (old new : Tested) (last next : Session) → All IsWhole lines → AgreesSoFar first lines old.due last → old.expectations ≡ length (expected_by lines)
     → IsWhole line → number ≡ 1 + length lines → is_silent line.bytes ≡ false → Goes last old number line.bytes next new → OneMore first lines line old new next
 goes_more first lines line number old new last next whole agrees counted whole_line number_is asks g =
-    let answers : AnswersLine last number (asked_of line) g.answered.0 next = subst (λ (e : Ending). AnswersLine last number (asked_at e line.bytes) g.answered.0 next) (sym whole_line) g.answered.1 in
+    let answers : AnswersLine last number (asked_of last.machine.size line) g.answered.0 next = subst (λ (e : Ending). AnswersLine last number (asked_at last.machine.size e line.bytes) g.answered.0 next) (sym whole_line) g.answered.1 in
     record {
       agrees = subst (λ (d : Option Due). AgreesSoFar first (lines ++ line ∷ []) d next) (sym g.due_is)
           (answered_more first lines old.due last next line number g.text whole agrees g.closed whole_line asks number_is (g.answered.0, answers, g.answered.2));

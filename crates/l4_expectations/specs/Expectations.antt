@@ -62,7 +62,7 @@ Agrees expected text = (expected ≡ []) ⊎ ((text ≡ lines_text expected) ⊎
 pub record IsAsExpected (old : Session) (number : ℕ) (line : TextLine) (below : List TextLine) (new : Session) : Type 0 where
   pub told : List Report
   pub text : List ℕ
-  pub answers : AnswersLine old number (asked_of line) told new
+  pub answers : AnswersLine old number (asked_of old.machine.size line) told new
   pub is_text : AreAnswerTexts None told text
   pub agrees : is_silent line.bytes ≡ false → Agrees (expected_below below) text
   pub readable : is_marked line.bytes ≡ is_some (expected_in line.bytes)

@@ -1,10 +1,11 @@
 -- A test of a script: whether its answers are the expected ones, and if not, the first difference (this profile's own).
-use Rattle.std.specs.Prelude.{ℕ, ◌≡◌, ◌+◌, ◌==◌, ◌<◌, ◌&&◌, ◌⊎◌, Bool, true, false, not, List, [], ◌∷◌, ◌++◌, length, take, filter, bytes_eq, Option, Some, None, is_some, Result, Ok, Err}
-use Rattle.std.specs.List.{All, position_or_len}
+use Rattle.std.specs.Prelude.{ℕ, ◌≡◌, ◌+◌, ◌==◌, ◌<◌, ◌⊎◌, Bool, true, false, not, List, [], ◌∷◌, ◌++◌, length, filter, Option, Some, None, is_some, Result, Ok, Err}
+use Rattle.std.specs.List.{All}
 use Rattle.std.specs.Io.KnownBytes.{Consumes, IsAtEnd}
 use Rattle.l4_fpage.specs.declared.sizes.PageSize.{PageSize}
 use Rattle.l4_ipc.specs.Machine.{Machine, IsBoot}
 use Rattle.l4_answers.specs.Reports.{Report}
+use Rattle.l4_answers.specs.Lines.{first_line, is_next}
 use Rattle.l4_text.specs.Grammar.{TextLine, lines_of, is_silent, ending_of}
 use Rattle.l4_shell.specs.Requests.{asked_of}
 use Rattle.l4_shell.specs.Sessions.{Session, first_session, AnswersLine}
@@ -43,7 +44,7 @@ pub record Compares (first : Session) (lines : List TextLine) (due : Due) (last 
   pub number : due.number ≡ 1 + length before
   pub told : List Report
   pub text : List ℕ
-  pub answers : AnswersLine between due.number (asked_of line) told last
+  pub answers : AnswersLine between due.number (asked_of between.machine.size line) told last
   pub is_text : AreAnswerTexts None told text
   pub asks : is_silent line.bytes ≡ false
   pub readable : is_marked line.bytes ≡ is_some (expected_in line.bytes)
@@ -65,14 +66,6 @@ AgreesSoFar first lines None last = AreSilent first lines last
 AgreesSoFar first lines (Some due) last = Compares first lines due last
 
 -- THE FIRST DIFFERENCE
-
--- the first line of a text
-abbrev pub first_line : List ℕ → List ℕ
-first_line text = take (position_or_len (λ byte. byte == 10) text) text
-
--- this is the next of the answers that are left
-abbrev pub is_next : List ℕ → List ℕ → Bool
-is_next answer left = not (length (first_line left) == length left) && bytes_eq answer (first_line left)
 
 -- the line's number, and both answers
 abbrev pub Differ : ℕ → List ℕ → List ℕ → Difference → Type 0

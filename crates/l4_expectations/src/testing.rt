@@ -3,13 +3,13 @@ ghost use Rattle.std.specs.Prelude.{◌≡◌, ◌≤◌, ◌<◌, ◌+◌, ◌^
 ghost use Rattle.std.specs.Option.{option_copied};
 ghost use Rattle.l4_fpage.specs.Pages.{max_frames};
 ghost use Rattle.l4_shell.specs.ByLines.{session_of};
-ghost use Rattle.l4_expectations.specs.Tests.{is_ended, has_surplus, first_line, Tests};
+ghost use Rattle.l4_expectations.specs.Tests.{is_ended, has_surplus, Tests};
 ghost use Rattle.l4_expectations.specs.Inside.Lines.{Reports, EndsWhole, Closes, Answered, ComparesAnswer, AnswersNext, TestsLine, TestsEnd, TestsLines, IsFirst};
 
-use crate::due::{Due, LeftLines, Stage};
+use crate::due::{Due, Stage};
 use crate::marks::{expected_in, is_marked, is_silent};
 use crate::outcomes::{Difference, Failure, Fault, Passed};
-use l4_answers::Sink;
+use l4_answers::{AnswerLines, Sink};
 use l4_fpage::PageSize;
 use l4_shell::ScriptRun;
 use l4_sinks::Teller;
@@ -132,7 +132,7 @@ fn answer(run: &mut ScriptRun, tested: &mut Tested, number: u64, line: &[u8]) ->
     };
     tested.due = Some(Due {
         number,
-        left: LeftLines::new(text),
+        left: AnswerLines::new(text),
         stage: Stage::Untouched,
     });
     Ok(())

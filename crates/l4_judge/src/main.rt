@@ -9,7 +9,8 @@ ghost use Rattle.l4_fpage.specs.Pages.{max_frames};
 
 use l4_fpage::PageSize;
 use l4_ipc::{Kernel, MOST_PAGES, Place};
-use l4_options::{StepOptions, command_words, misread, show, status_of, step_options, stopped};
+use l4_options::{StepOptions, misread, step_options};
+use l4_programs::{command_words, show, status_of, stopped};
 use l4_provenance::{provenance, replay};
 use l4_provenance_check::check_provenance;
 use l4_record::History;

@@ -4,11 +4,11 @@ use Rattle.std.proofs.lemmas.List.{append-nil, append_assoc, drop_all, drop_more
 use Rattle.clap.specs.Walk.{Text}
 use Rattle.l4_fpage.specs.declared.sizes.PageSize.{PageSize}
 use Rattle.l4_msg.specs.declared.messages.Message.{Message}
-use Rattle.l4_symbols.specs.Messages.{Adds, Begins}
+use Rattle.l4_symbols.specs.Messages.{Adds, AddsEach, Begins, IsMessageOf}
 use Rattle.l4_symbols.specs.Words.{NamesWord}
 use Rattle.l4_symbols.specs.declared.words.WordKind.{WordKind}
 use Rattle.l4_text.specs.Numbers.{number_of}
-use Rattle.l4_options.specs.Spelled.{AddsEach, AreWords, IsMessageOf}
+use Rattle.l4_options.specs.Spelled.{AreWords}
 
 -- the words of an argument that was found
 pub words_are : (words : List Text) (found : Option (List Text)) → Some words ≡ found → words ≡ unwrap_or found []

@@ -11,7 +11,7 @@ use Rattle.l4_msg.specs.Messages.{message_words}
 use Rattle.l4_msg.specs.declared.messages.Message.{Message}
 use Rattle.l4_msg.specs.declared.regions.Region.{Region}
 use Rattle.l4_text.specs.Numbers.{below, digit_of, number_of, value_from}
-use Rattle.l4_symbols.specs.Messages.{Adds, Begins}
+use Rattle.l4_symbols.specs.Messages.{IsMessageOf}
 use Rattle.l4_symbols.specs.Words.{NamesWord}
 use Rattle.l4_symbols.specs.declared.words.WordKind.{WordKind}
 use Rattle.l4_symbols.specs.declared.words.WordKind.TheVariants.{Fpage as AnFpage, Window as AWindow, Timeouts}
@@ -87,16 +87,6 @@ kind_of word =
 -- the words spell these numbers, decimal or hexadecimal, one after another
 abbrev pub Spell : List Text → List ℕ → Type 0
 Spell words numbers = map number_of words ≡ map Some numbers
-
--- the message with these tokens behind its own, one after another
-abbrev pub AddsEach : PageSize → List Text → Message → Message → Type 0
-AddsEach size [] before after = before ≡ after
-AddsEach size (token ∷ tokens) before after = (next : Message) × Adds size token before next × AddsEach size tokens next after
-
--- the message of a tag and the tokens behind it
-abbrev pub IsMessageOf : PageSize → List Text → Message → Type 0
-IsMessageOf size [] message = ⊥
-IsMessageOf size (tag ∷ tokens) message = (begun : Message) × Begins tag begun × AddsEach size tokens begun message
 
 -- the words that the tokens name, each by itself, one after another
 abbrev pub AreWords : WordKind → PageSize → List Text → List ℕ → Type 0

@@ -1,15 +1,7 @@
--- The exit statuses of the programs (this profile's own).
+-- The exit status after a command line that is invalid (this profile's own).
 use Rattle.std.specs.Prelude.{ℕ}
-use Rattle.l4_text.specs.declared.faults.RunFault.{RunFault}
-use Rattle.l4_text.specs.declared.faults.RunFault.TheVariants.{Read, Write, Memory}
 use Rattle.l4_options.specs.declared.requests.OptionFault.{OptionFault}
 use Rattle.l4_options.specs.declared.requests.OptionFault.TheVariants.{Memory as NoMemory, Words, Frames, Pages, Number, Rights, Hyphens, Word, TooMany, TooManyTokens, Kind, Token, Reading}
-
--- after a run that stopped: 3 where a stream failed, 4 for want of memory
-abbrev pub run_status : RunFault → ℕ
-run_status Read = 3
-run_status Write = 3
-run_status Memory = 4
 
 -- after a command line that isn't understood: 2, but 4 for want of memory
 abbrev pub option_status : OptionFault → ℕ

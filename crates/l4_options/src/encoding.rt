@@ -2,7 +2,8 @@
 ghost use Rattle.std.specs.Prelude.{◌≡◌, IfOk, codes, map};
 ghost use Rattle.l4_options.specs.Commands.{encode_command, option, Asks};
 ghost use Rattle.l4_options.specs.Inside.Lines.{IsCommand, IsRule, found_in};
-ghost use Rattle.l4_options.specs.Spelled.{AddsEach, AreWords, Encodes, IsKindIn, IsMessageOf, kind_of};
+ghost use Rattle.l4_options.specs.Spelled.{AreWords, Encodes, IsKindIn, kind_of};
+ghost use Rattle.l4_symbols.specs.Messages.{AddsEach, IsMessageOf};
 
 use crate::help::ENCODE;
 use crate::requests::{OptionFault, Options};

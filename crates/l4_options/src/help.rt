@@ -220,10 +220,11 @@ lines that begin with #, are skipped.
   delete N               root deletes thread N, which cannot be 1 or 2. A space
                          is deleted together with its last thread
   recv N FROM WINDOW     N receives from a thread, from any thread (FROM is any)
-                         or from no thread (FROM is nil). WINDOW is an fpage
-                         word: 0 accepts no message with pages, 0x10 accepts
-                         pages anywhere
-  send N TO WORD..       N sends these words, the tag first, to thread TO
+                         or from no thread (FROM is nil). WINDOW says where N
+                         accepts pages: all (anywhere), none (nowhere), 32+4 (in
+                         the 4 pages from page 32 on), or an fpage word
+  send N TO WORD..       N sends these words, the tag first, to thread TO. They
+                         are numbers or the tokens below
   delegate N TO SOURCE TARGET COUNT RIGHTS
                          N maps COUNT of its pages, starting at page SOURCE, to
                          the pages of thread TO's space that start at TARGET.
@@ -235,13 +236,17 @@ lines that begin with #, are skipped.
                          prints for the region
   ipc N TO FROM TIMEOUTS WINDOW WORD..
                          N sends these words, unless TO is nil, and then
-                         receives, unless FROM is nil. TIMEOUTS has the send
-                         timeout in bits 31 to 16 and the receive timeout in
-                         bits 15 to 0: 0 is never, 0x400 is zero
-  unmap N CONTROL WORD.. N revokes rights from the pages that were mapped from
-                         its own. The words are fpages with the rights to revoke.
-                         Bits 5 to 0 of CONTROL are the number of words minus 1;
-                         bit 6 revokes the rights from N's own pages too
+                         receives, unless FROM is nil. TIMEOUTS is never or zero
+                         for both phases, or two of these, as zero,never (send,
+                         receive). As a number, it has the send timeout in bits
+                         31 to 16 and the receive timeout in bits 15 to 0: 0 is
+                         never, 0x400 is zero
+  unmap N CONTROL FPAGE..
+                         N revokes rights from the pages that were mapped from
+                         its own. FPAGE is 16+4:rwx (4 pages from page 16 on,
+                         and the rights to revoke) or an fpage word. Bits 5 to 0
+                         of CONTROL are the number of fpages minus 1; bit 6
+                         revokes the rights from N's own pages too
   fault N ADDRESS IP RIGHTS
                          the instruction of N at IP accesses ADDRESS, both in
                          bytes. RIGHTS is the access (such as r--). If the page
@@ -267,6 +272,21 @@ lines that begin with #, are skipped.
 
 N is a thread number, below 262144. Thread 1 is sigma0, in whose space page i has
 frame i. Thread 2 is root. Numbers are decimal, or hexadecimal with a 0x prefix.
+
+These tokens stand for the words of a message:
+
+  tag:LABEL                   the tag, as the first token. It counts the words and
+                              the items that follow it
+  map:FIRST+COUNT>BASE:RIGHTS a map item: COUNT pages that start at page FIRST,
+                              with the send base at page BASE. Items stand after
+                              the words
+  grant:FIRST+COUNT>BASE:RIGHTS
+                              a grant item
+
+COUNT is a power of two, and FIRST a multiple of it. +COUNT may be omitted for one
+page, but not in WINDOW. RIGHTS are r, w and x in this order, with a hyphen for
+each missing right.
+
 In answers, TAG and WORD are hexadecimal without the prefix.
 
   N ipc TAG ERROR FROM WORD..      an ipc of N ended; ERROR is 0 if it succeeded

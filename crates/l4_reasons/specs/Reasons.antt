@@ -11,6 +11,10 @@ line_says line = codes "line " ++ decimal line ++ codes ": "
 unfoldable pub token_says : ℕ → ℕ → List ℕ → List ℕ → List ℕ
 token_says line number token expected = line_says line ++ codes "token " ++ decimal number ++ codes " " ++ quoted token ++ codes ": expected " ++ expected ++ hints token
 
+-- a token is almost right: its number from 1, the token, what would make it right, and what is said of its bytes
+unfoldable pub symbol_says : ℕ → ℕ → List ℕ → List ℕ → List ℕ
+symbol_says line number token reason = line_says line ++ codes "token " ++ decimal number ++ codes " " ++ quoted token ++ codes ": " ++ reason ++ hints token
+
 -- the line ends before a token: its number from 1, and what would be right
 unfoldable pub missing_says : ℕ → ℕ → List ℕ → List ℕ
 missing_says line number expected = line_says line ++ codes "token " ++ decimal number ++ codes " is missing: expected " ++ expected

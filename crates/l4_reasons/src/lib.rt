@@ -5,4 +5,4 @@ mod hints;
 mod quoted;
 mod reasons;
 
-pub use reasons::{Reason, line_reason, missing_reason, token_reason};
+pub use reasons::{Reason, line_reason, missing_reason, symbol_reason, token_reason};

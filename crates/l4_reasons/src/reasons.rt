@@ -1,6 +1,6 @@
 //! The text of why a line can't be read.
 ghost use Rattle.std.specs.Prelude.{◌≡◌, ◌≤◌, ◌+◌, ◌++◌, ◌∷◌, [], length, decimal};
-ghost use Rattle.l4_reasons.specs.Reasons.{token_says, missing_says, line_says};
+ghost use Rattle.l4_reasons.specs.Reasons.{token_says, symbol_says, missing_says, line_says};
 ghost use Rattle.l4_reasons.specs.Sizes.{reason_bytes};
 
 use crate::hints::add_hints;
@@ -112,6 +112,24 @@ pub fn token_reason(line: u64, number: u64, token: &[u8], expected: &[u8]) -> Re
     add_quoted(&mut reason, token);
     reason.add(b": expected ");
     reason.add(expected);
+    add_hints(&mut reason, token);
+    reason
+}
+
+/// Returns why a line can't be read whose token of this number, from 1, is almost right: `line LINE: token NUMBER "TOKEN": WHY`, and what an
+/// editor may not show of the token.
+#[tactic(auto, unfolding(crate::specs::Reasons::symbol_says))]
+pub fn symbol_reason(line: u64, number: u64, token: &[u8], why: &[u8]) -> Reason
+    requires { length why.now ≤ 160 }
+    ensures { result ≡ symbol_says line number token.now why.now }
+{
+    let mut reason = line_reason(line);
+    reason.add(b"token ");
+    reason.add_number(number);
+    reason.add(b" ");
+    add_quoted(&mut reason, token);
+    reason.add(b": ");
+    reason.add(why);
     add_hints(&mut reason, token);
     reason
 }

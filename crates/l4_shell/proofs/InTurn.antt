@@ -4,12 +4,17 @@ use Rattle.std.proofs.lemmas.Bool.{false≢true}
 use Rattle.std.proofs.lemmas.Bool.Decides.{nat_tests}
 use Rattle.std.proofs.lemmas.Slice.Eq.{bytes_eq-Decides}
 use Rattle.std.specs.Option.{option_and_then}
+use Rattle.std.specs.Option.{option_or}
+use Rattle.std.specs.Result.{result_ok}
 use Rattle.l4_fpage.specs.Rights.{RightsSet}
+use Rattle.l4_fpage.specs.declared.sizes.PageSize.{PageSize}
+use Rattle.l4_symbols.specs.Computed.{word_in}
+use Rattle.l4_symbols.specs.declared.words.WordKind.{WordKind}
 use Rattle.std.specs.Str.{bytes_eq}
 use Rattle.l4_text.specs.Numbers.{number_of, decimal_of, hex_of, below}
 use Rattle.l4_text.specs.Tokens.{tokens_of, FirstNumber}
 use Rattle.l4_text.specs.Grammar.{◌>>=◌}
-use Rattle.l4_shell.specs.Commands.{first_by, no_more, thread_of, nil_or_thread_of, partner_of, last_rights_of, rights_of, command_of}
+use Rattle.l4_shell.specs.Commands.{first_by, no_more, thread_of, nil_or_thread_of, partner_of, last_rights_of, rights_of, symbol_of, command_of}
 use Rattle.l4_shell.specs.Inside.Asking.{asked}
 use Rattle.l4_shell.specs.declared.partners.Partner.TheVariants.{Nil, Any, Thread}
 use Rattle.l4_shell.specs.declared.commands.ScriptFault.TheVariants.{BadTokens}
@@ -64,6 +69,11 @@ partner_few n token few is = partner_is n token is ∙ ap (λ o. option_and_then
 pub partner_many : (n : ℕ) (token : List ℕ) → 262144 ≤ n → Some n ≡ number_of token → partner_of token ≡ None
 partner_many n token many is = partner_is n token is ∙ ap (λ o. option_and_then (λ k. Some (Thread k)) o) (thread_many n token many is)
 
+-- a number is the word itself
+pub symbol_number : (kind : WordKind) (size : PageSize) (n : ℕ) (token : List ℕ) → Some n ≡ number_of token → symbol_of kind size token ≡ Some n
+unfolding symbol_of
+symbol_number kind size n token is = ap (λ o. option_or o (result_ok (word_in kind size token))) (sym is)
+
 -- the rights of the one token that is left
 pub rights_alone : (token : List ℕ) → rights_of token ≡ last_rights_of (token ∷ [])
 rights_alone token = elim (rights_of token) as (λ (o : Option RightsSet). o ≡ ((o >>= λ z. Some (z, [])) >>= λ (z : RightsSet × List (List ℕ)). no_more z.0 z.1)) [
@@ -73,18 +83,21 @@ rights_alone token = elim (rights_of token) as (λ (o : Option RightsSet). o ≡
 
 -- ---- the commands of most lines
 
-pub recv_is : (name : List ℕ) (tokens : List (List ℕ)) → bytes_eq name (codes "recv") ≡ true → ok_or (asked (codes "recv") tokens) BadTokens ≡ command_of (name ∷ tokens)
-unfolding command_of
-recv_is name tokens is = ap (λ n. command_of (n ∷ tokens)) (sym ((bytes_eq-Decides name (codes "recv")).0 is))
+pub in_size : (size own : PageSize) (tokens : List (List ℕ)) → size ≡ own → command_of size tokens ≡ command_of own tokens
+in_size size own tokens is = ap (λ (z : PageSize). command_of z tokens) is
 
-pub send_is : (name : List ℕ) (tokens : List (List ℕ)) → bytes_eq name (codes "send") ≡ true → ok_or (asked (codes "send") tokens) BadTokens ≡ command_of (name ∷ tokens)
+pub recv_is : (size : PageSize) (name : List ℕ) (tokens : List (List ℕ)) → bytes_eq name (codes "recv") ≡ true → ok_or (asked size (codes "recv") tokens) BadTokens ≡ command_of size (name ∷ tokens)
 unfolding command_of
-send_is name tokens is = ap (λ n. command_of (n ∷ tokens)) (sym ((bytes_eq-Decides name (codes "send")).0 is))
+recv_is size name tokens is = ap (λ n. command_of size (n ∷ tokens)) (sym ((bytes_eq-Decides name (codes "recv")).0 is))
 
-pub ipc_is : (name : List ℕ) (tokens : List (List ℕ)) → bytes_eq name (codes "ipc") ≡ true → ok_or (asked (codes "ipc") tokens) BadTokens ≡ command_of (name ∷ tokens)
+pub send_is : (size : PageSize) (name : List ℕ) (tokens : List (List ℕ)) → bytes_eq name (codes "send") ≡ true → ok_or (asked size (codes "send") tokens) BadTokens ≡ command_of size (name ∷ tokens)
 unfolding command_of
-ipc_is name tokens is = ap (λ n. command_of (n ∷ tokens)) (sym ((bytes_eq-Decides name (codes "ipc")).0 is))
+send_is size name tokens is = ap (λ n. command_of size (n ∷ tokens)) (sym ((bytes_eq-Decides name (codes "send")).0 is))
 
-pub fault_is : (name : List ℕ) (tokens : List (List ℕ)) → bytes_eq name (codes "fault") ≡ true → ok_or (asked (codes "fault") tokens) BadTokens ≡ command_of (name ∷ tokens)
+pub ipc_is : (size : PageSize) (name : List ℕ) (tokens : List (List ℕ)) → bytes_eq name (codes "ipc") ≡ true → ok_or (asked size (codes "ipc") tokens) BadTokens ≡ command_of size (name ∷ tokens)
 unfolding command_of
-fault_is name tokens is = ap (λ n. command_of (n ∷ tokens)) (sym ((bytes_eq-Decides name (codes "fault")).0 is))
+ipc_is size name tokens is = ap (λ n. command_of size (n ∷ tokens)) (sym ((bytes_eq-Decides name (codes "ipc")).0 is))
+
+pub fault_is : (size : PageSize) (name : List ℕ) (tokens : List (List ℕ)) → bytes_eq name (codes "fault") ≡ true → ok_or (asked size (codes "fault") tokens) BadTokens ≡ command_of size (name ∷ tokens)
+unfolding command_of
+fault_is size name tokens is = ap (λ n. command_of size (n ∷ tokens)) (sym ((bytes_eq-Decides name (codes "fault")).0 is))

@@ -1,5 +1,5 @@
 -- The present pages of a space, listed one after another.
-use Rattle.std.proofs.Common.{◌≡◌, ℕ, Bool, true, false, nat_lt, min, Some, ◌+◌, ◌<◌, ◌≤◌, List, [], ◌∷◌, ◌++◌, length, get_or, Contains, Option, sym, ap, subst, ◌∙◌, refl, arith, inl, inr, ◌⊎◌, ◌↔◌, length-append}
+use Rattle.std.proofs.Common.{◌≡◌, ℕ, true, false, nat_lt, min, Some, ◌+◌, ◌<◌, ◌≤◌, List, [], ◌∷◌, ◌++◌, length, get_or, Contains, Option, sym, ap, subst, ◌∙◌, refl, arith, inl, inr, ◌⊎◌, ◌↔◌, length-append}
 use Rattle.std.proofs.lemmas.List.{append-nil, get_or_default}
 use Rattle.std.proofs.lemmas.List.Quantifiers.{all_pairs_push}
 use Rattle.std.proofs.lemmas.List.Elements.{Contains-push, Contains-push_cases, Contains-append_left}
@@ -11,7 +11,7 @@ use Rattle.l4_forest.specs.Places.{NonePresentFrom, IsNextPresent}
 use Rattle.l4_fpage.specs.Pages.{space_pages}
 use Rattle.l4_fpage.specs.declared.sizes.PageSize.{PageSize}
 use Rattle.l4_ipc.specs.Machine.{Machine}
-use Rattle.l4_answers.specs.Reports.{Report, RefusedLine, Page, Shown, AddsAll}
+use Rattle.l4_answers.specs.Reports.{Report, RefusedLine, Shown, AddsAll}
 use Rattle.l4_threads.specs.Threads.{space_of}
 use Rattle.std.specs.Prelude.{MatchOption}
 use Rattle.l4_answers.specs.Refusals.{kernel_refusal}

@@ -133,4 +133,4 @@ carries_one old line TellSteps told new c = inl (ap has_refusal c.3)
 pub one_answer : (old : Session) (line : ℕ) (asked : Result (Option Request) Unread) (told : List Report) (new : Session) → AnswersLine old line asked told new → IsOneAnswer line told
 one_answer old line (Ok None) told new a = inl (ap has_refusal a.0)
 one_answer old line (Ok (Some request)) told new a = carries_one old line request told new a
-one_answer old line (Err unread) told new a = inr (UnreadLine line (script_refusal unread.fault) unread.bytes, refl, a.0)
+one_answer old line (Err unread) told new a = inr (UnreadLine old.machine.size line (script_refusal unread.fault) unread.bytes, refl, a.0)

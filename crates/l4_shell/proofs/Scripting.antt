@@ -1,5 +1,5 @@
 -- The lines of a script, answered one by one.
-use Rattle.std.proofs.Common.{◌≡◌, ℕ, ◌+◌, ◌-◌, ◌==◌, ◌<◌, ◌≤◌, ◌⊎◌, Bool, true, false, cond, nat_lt, List, [], ◌∷◌, ◌++◌, length, length-append, take, filter, Option, Some, None, Result, Ok, Err, inl, inr, sym, ap, subst, ◌∙◌, refl, arith, length-take}
+use Rattle.std.proofs.Common.{◌≡◌, ℕ, ◌+◌, ◌-◌, ◌<◌, ◌≤◌, ◌⊎◌, Bool, true, false, cond, nat_lt, List, [], ◌∷◌, ◌++◌, length, length-append, take, filter, Option, Some, None, Result, Ok, Err, inl, inr, sym, ap, subst, ◌∙◌, refl, arith, length-take}
 use Rattle.std.specs.Io.KnownBytes.{Consumes}
 use Rattle.std.specs.List.{All}
 use Rattle.std.proofs.lemmas.List.{append-nil, take_all}
@@ -45,12 +45,12 @@ whole_front (line ∷ lines) more h none =
 
 -- the answer to one line more
 answers_more : (old between new : Session) (number : ℕ) (lines : List TextLine) (told : List Report) (line : TextLine) (last : List Report) → AnswersLines old number lines told between
-    → AnswersLine between (number + length lines) (asked_of line) last new → AnswersLines old number (lines ++ line ∷ []) (told ++ last) new
+    → AnswersLine between (number + length lines) (asked_of between.machine.size line) last new → AnswersLines old number (lines ++ line ∷ []) (told ++ last) new
 answers_more old between new number [] told line last are is = (
   last,
   [],
   new,
-  subst (λ (m : Session). AnswersLine m number (asked_of line) last new) are.1 (subst (λ (n : ℕ). AnswersLine between n (asked_of line) last new) (omega arith) is),
+  subst (λ (m : Session). AnswersLine m number (asked_of m.machine.size line) last new) are.1 (subst (λ (n : ℕ). AnswersLine between n (asked_of between.machine.size line) last new) (omega arith) is),
   (refl, refl),
   ap (λ t. t ++ last) are.0 ∙ sym (append-nil last),
 )
@@ -60,21 +60,21 @@ answers_more old between new number (first ∷ lines) told line last are is =
       are.1 ++ last,
       are.2,
       are.3,
-      answers_more are.2 between new (number + 1) lines are.1 line last are.4 (subst (λ (k : ℕ). AnswersLine between k (asked_of line) last new) n is),
+      answers_more are.2 between new (number + 1) lines are.1 line last are.4 (subst (λ (k : ℕ). AnswersLine between k (asked_of between.machine.size line) last new) n is),
       ap (λ t. t ++ last) are.5 ∙ append_assoc are.0 are.1 last,
     )
 
 -- what is kept of a line says what the line asks for
-asked_whole : (bytes : List ℕ) (kept : List ℕ × Bool) → kept ≡ kept_of bytes → kept.1 ≡ false → asked_at Whole kept.0 ≡ asked_of (record { bytes = bytes; whole = true })
-asked_whole bytes kept is short =
+asked_whole : (size : PageSize) (bytes : List ℕ) (kept : List ℕ × Bool) → kept ≡ kept_of bytes → kept.1 ≡ false → asked_at size Whole kept.0 ≡ asked_of size (record { bytes = bytes; whole = true })
+asked_whole size bytes kept is short =
     let f : nat_lt 4096 (length bytes) ≡ false = sym (ap (λ k. k.1) is) ∙ short in
     let le : length bytes ≤ 4096 = grind (arith, nat_tests) in
-    ap (asked_at Whole) (ap (λ k. k.0) is ∙ take_all 4096 bytes le) ∙ sym (ap (λ v. asked_at (cond v Long Whole) bytes) f)
+    ap (asked_at size Whole) (ap (λ k. k.0) is ∙ take_all 4096 bytes le) ∙ sym (ap (λ v. asked_at size (cond v Long Whole) bytes) f)
 
-asked_long : (bytes : List ℕ) (kept : List ℕ × Bool) → kept ≡ kept_of bytes → kept.1 ≡ true → asked_at Long kept.0 ≡ asked_of (record { bytes = bytes; whole = true })
-asked_long bytes kept is long =
+asked_long : (size : PageSize) (bytes : List ℕ) (kept : List ℕ × Bool) → kept ≡ kept_of bytes → kept.1 ≡ true → asked_at size Long kept.0 ≡ asked_of size (record { bytes = bytes; whole = true })
+asked_long size bytes kept is long =
     let t : nat_lt 4096 (length bytes) ≡ true = sym (ap (λ k. k.1) is) ∙ long in
-    sym (ap (λ v. asked_at (cond v Long Whole) bytes) t)
+    sym (ap (λ v. asked_at size (cond v Long Whole) bytes) t)
 
 -- THE LOOP
 
@@ -125,8 +125,8 @@ opened_before has_told closed old next last lines line number asked before s ear
 -- one whole line more
 answered_more : {T : Type 0} (has_told : T → T → List Report → Type 0) (closed : T → Bool) (m last next : Session) (old mid new : Option (List ℕ)) (now after : List ℕ × ℕ) (kept : List ℕ × Bool) (number : ℕ)
     (before s t : T) (ending : Ending) → closed s ≡ false → Answered has_told closed m old mid now number last before s → (l : TakesLine mid new now after kept)
-    → asked_at ending kept.0 ≡ asked_of (record { bytes = l.bytes; whole = true })
-    → (told : List Report) × AnswersLine last number (asked_at ending kept.0) told next × AddsAll has_told s t told
+    → asked_at last.machine.size ending kept.0 ≡ asked_of last.machine.size (record { bytes = l.bytes; whole = true })
+    → (told : List Report) × AnswersLine last number (asked_at last.machine.size ending kept.0) told next × AddsAll has_told s t told
     → Answered has_told closed m old new after (number + 1) next before t
 answered_more has_told closed m last next old mid new now after kept number before s t ending opened a l asks is =
     let line : TextLine = record { bytes = l.bytes; whole = true } in
@@ -143,8 +143,8 @@ answered_more has_told closed m last next old mid new now after kept number befo
       whole = All-push (λ (l : TextLine). l.whole ≡ true) a.lines line a.whole refl;
       told = a.told ++ is.0;
       answers = answers_more m last next 1 a.lines a.told line is.0 a.answers
-          (subst (λ (n : ℕ). AnswersLine last n (asked_of line) is.0 next) a.number_is (subst (λ (q : Result _ _). AnswersLine last number q is.0 next) asks is.1));
-      was_open = inr (opened_before has_told closed m next last a.lines line number (asked_at ending kept.0) before s a.told is.0 a.number_is is.1 a.adds opened);
+          (subst (λ (n : ℕ). AnswersLine last n (asked_of last.machine.size line) is.0 next) a.number_is (subst (λ (q : Result _ _). AnswersLine last number q is.0 next) asks is.1));
+      was_open = inr (opened_before has_told closed m next last a.lines line number (asked_at last.machine.size ending kept.0) before s a.told is.0 a.number_is is.1 a.adds opened);
       adds = adds_more has_told before s t _ _ a.adds is.2;
       bound = omega (arith, a.bound, l.shorter);
       few = l.few;
@@ -267,14 +267,14 @@ AfterLine Cut has_told closed m old new now number last before after = TellsAll 
 
 pub after_line : {T : Type 0} (has_told : T → T → List Report → Type 0) (closed : T → Bool) (ending : Ending) (m last next : Session) (old mid new : Option (List ℕ)) (now after : List ℕ × ℕ) (kept : List ℕ × Bool) (number : ℕ)
     (before s t : T) (r : Option Ending) → closed s ≡ false → Answered has_told closed m old mid now number last before s → GivesLine mid new now after kept (Ok r) → r ≡ Some ending
-    → (told : List Report) × AnswersLine last number (asked_at ending kept.0) told next × AddsAll has_told s t told
+    → (told : List Report) × AnswersLine last number (asked_at last.machine.size ending kept.0) told next × AddsAll has_told s t told
     → AfterLine ending has_told closed m old new after number next before t
 after_line has_told closed Whole m last next old mid new now after kept number before s t r opened a gives is told =
     let g = subst (λ (o : Option Ending). GivesLine mid new now after kept (Ok o)) is gives in
-    answered_more has_told closed m last next old mid new now after kept number before s t Whole opened a g.0 (asked_whole g.0.bytes kept g.0.kept_is g.1) told
+    answered_more has_told closed m last next old mid new now after kept number before s t Whole opened a g.0 (asked_whole last.machine.size g.0.bytes kept g.0.kept_is g.1) told
 after_line has_told closed Long m last next old mid new now after kept number before s t r opened a gives is told =
     let g = subst (λ (o : Option Ending). GivesLine mid new now after kept (Ok o)) is gives in
-    answered_more has_told closed m last next old mid new now after kept number before s t Long opened a g.0 (asked_long g.0.bytes kept g.0.kept_is g.1) told
+    answered_more has_told closed m last next old mid new now after kept number before s t Long opened a g.0 (asked_long last.machine.size g.0.bytes kept g.0.kept_is g.1) told
 after_line has_told closed Cut m last next old mid new now after kept number before s t r opened a gives is told =
     let g = subst (λ (o : Option Ending). GivesLine mid new now after kept (Ok o)) is gives in
     let l = g.0 in
@@ -291,8 +291,8 @@ after_line has_told closed Cut m last next old mid new now after kept number bef
         parts = all ∙ sym (append-nil (a.lines ++ line ∷ []));
         sure = inr g.1;
         told = a.told ++ told.0;
-        answers = answers_more m last next 1 a.lines a.told line told.0 a.answers (subst (λ (n : ℕ). AnswersLine last n (asked_of line) told.0 next) a.number_is told.1);
-        was_open = inr (opened_before has_told closed m next last a.lines line number (asked_at Cut kept.0) before s a.told told.0 a.number_is told.1 a.adds opened);
+        answers = answers_more m last next 1 a.lines a.told line told.0 a.answers (subst (λ (n : ℕ). AnswersLine last n (asked_of last.machine.size line) told.0 next) a.number_is told.1);
+        was_open = inr (opened_before has_told closed m next last a.lines line number (asked_at last.machine.size Cut kept.0) before s a.told told.0 a.number_is told.1 a.adds opened);
         adds = adds_more has_told before s t _ _ a.adds told.2;
       };
       number = omega (arith, a.number_is, length-append a.lines (line ∷ []));
@@ -396,6 +396,6 @@ records_on has_told closed frames size m k sv sv' old new before after (Err Memo
 
 -- the bytes of the line are those that were kept
 pub same_bytes : {T : Type 0} (has_told : T → T → List Report → Type 0) (last next : Session) (number : ℕ) (ending : Ending) (bytes kept : List ℕ) (s t : T) → bytes ≡ kept
-    → (told : List Report) × AnswersLine last number (asked_at ending bytes) told next × AddsAll has_told s t told
-    → (told : List Report) × AnswersLine last number (asked_at ending kept) told next × AddsAll has_told s t told
-same_bytes has_told last next number ending bytes kept s t is h = (h.0, subst (λ (b : List ℕ). AnswersLine last number (asked_at ending b) h.0 next) is h.1, h.2)
+    → (told : List Report) × AnswersLine last number (asked_at last.machine.size ending bytes) told next × AddsAll has_told s t told
+    → (told : List Report) × AnswersLine last number (asked_at last.machine.size ending kept) told next × AddsAll has_told s t told
+same_bytes has_told last next number ending bytes kept s t is h = (h.0, subst (λ (b : List ℕ). AnswersLine last number (asked_at last.machine.size ending b) h.0 next) is h.1, h.2)

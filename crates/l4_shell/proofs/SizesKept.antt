@@ -164,7 +164,7 @@ line_size size old line (Err unread) told new a h = same_size size old new a.1 h
 pub lines_sized : (size : PageSize) (old : Session) (number : ℕ) (lines : List TextLine) (told : List Report) (new : Session) → AnswersLines old number lines told new → HasSize size old → HasSize size new
 lines_sized size old number [] told new a h = same_size size old new a.1 h
 lines_sized size old number (line ∷ lines) told new a h =
-    lines_sized size a.2 (number + 1) lines a.1 new a.4 (line_size size old number (asked_of line) a.0 a.2 a.3 h)
+    lines_sized size a.2 (number + 1) lines a.1 new a.4 (line_size size old number (asked_of old.machine.size line) a.0 a.2 a.3 h)
 
 pub first_sized : (frames : ℕ) (boot : Machine) → HasSize boot.size (first_session frames boot)
 first_sized frames boot = record {

@@ -1,6 +1,7 @@
 -- Lines that go straight to their call.
-use Rattle.std.proofs.Common.{◌≡◌, ℕ, List, [], ◌∷◌, Option, Some, None, Result, Ok, Err, ok_or, refl, subst, sym, ap}
+use Rattle.std.proofs.Common.{◌≡◌, ℕ, List, [], ◌∷◌, Option, Some, None, Result, Ok, Err, ok_or, refl, subst, sym, ap, ◌∙◌}
 use Rattle.std.proofs.lemmas.Option.{none-some, same_Some}
+use Rattle.l4_fpage.specs.declared.sizes.PageSize.{PageSize}
 use Rattle.l4_ipc.specs.declared.calls.Call.{Call}
 use Rattle.l4_answers.specs.Reports.{Report, UnreadLine, AddsAll}
 use Rattle.l4_answers.proofs.Adding.{adds_none}
@@ -14,21 +15,22 @@ use Rattle.l4_shell.specs.Requests.{Unread, some_request}
 use Rattle.l4_shell.specs.Sessions.{Session, Enters, CarriesOut, AnswersLine}
 
 -- a line is refused
-pub refuses_line : {T : Type 0} (has_told : T → T → List Report → Type 0) (m : Session) (line : ℕ) (bytes : List ℕ) (fault : ScriptFault) (q : Result (Option Request) Unread) (code : Refusal) (before t : T)
-    → Err (record { fault = fault; bytes = bytes }) ≡ q → code ≡ script_refusal fault → AddsAll has_told before t (UnreadLine line code bytes ∷ [])
+pub refuses_line : {T : Type 0} (has_told : T → T → List Report → Type 0) (m : Session) (line : ℕ) (bytes : List ℕ) (fault : ScriptFault) (q : Result (Option Request) Unread) (code : Refusal) (size : PageSize) (before t : T)
+    → Err (record { fault = fault; bytes = bytes }) ≡ q → code ≡ script_refusal fault → size ≡ m.machine.size → AddsAll has_told before t (UnreadLine size line code bytes ∷ [])
     → (told : List Report) × AnswersLine m line q told m × AddsAll has_told before t told
-refuses_line has_told m line bytes fault q code before t is code_is tells = (
-  UnreadLine line code bytes ∷ [],
-  subst (λ (x : Result (Option Request) Unread). AnswersLine m line x (UnreadLine line code bytes ∷ []) m) is (ap (λ (r : Refusal). UnreadLine line r bytes ∷ []) code_is, refl),
+refuses_line has_told m line bytes fault q code size before t is code_is size_is tells = (
+  UnreadLine size line code bytes ∷ [],
+  subst (λ (x : Result (Option Request) Unread). AnswersLine m line x (UnreadLine size line code bytes ∷ []) m) is
+      (ap (λ (z : PageSize). UnreadLine z line code bytes ∷ []) size_is ∙ ap (λ (r : Refusal). UnreadLine m.machine.size line r bytes ∷ []) code_is, refl),
   tells,
 )
 
 -- a line's tokens can't be read, and so there is no call
-pub no_call : {T : Type 0} (has_told : T → T → List Report → Type 0) (m : Session) (line : ℕ) (bytes : List ℕ) (o : Option Request) (code : Refusal) (before t : T)
-    → None ≡ o → code ≡ script_refusal BadTokens → AddsAll has_told before t (UnreadLine line code bytes ∷ [])
+pub no_call : {T : Type 0} (has_told : T → T → List Report → Type 0) (m : Session) (line : ℕ) (bytes : List ℕ) (o : Option Request) (code : Refusal) (size : PageSize) (before t : T)
+    → None ≡ o → code ≡ script_refusal BadTokens → size ≡ m.machine.size → AddsAll has_told before t (UnreadLine size line code bytes ∷ [])
     → (told : List Report) × AnswersLine m line (some_request bytes (ok_or o BadTokens)) told m × AddsAll has_told before t told
-no_call has_told m line bytes o code before t none code_is tells =
-    refuses_line has_told m line bytes BadTokens _ code before t (ap (λ p. some_request bytes (ok_or p BadTokens)) none) code_is tells
+no_call has_told m line bytes o code size before t none code_is size_is tells =
+    refuses_line has_told m line bytes BadTokens _ code size before t (ap (λ p. some_request bytes (ok_or p BadTokens)) none) code_is size_is tells
 
 -- a line's call is entered
 pub enters_call : {T : Type 0} (has_told : T → T → List Report → Type 0) (old new : Session) (line n : ℕ) (bytes : List ℕ) (call : Call) (o : Option Request) (before t : T)

@@ -1,7 +1,10 @@
 -- The commands of a script, from the tokens of a line (this profile's own).
 use Rattle.std.specs.Prelude.{ℕ, ◌==◌, Bool, true, false, List, [], ◌∷◌, length, nat_le, slice_index, Option, Some, None, Result, Err, ok_or, if◌then◌else◌, codes}
 use Rattle.std.specs.Str.{bytes_eq}
+use Rattle.std.specs.Option.{option_or}
+use Rattle.std.specs.Result.{result_ok}
 use Rattle.l4_fpage.specs.Rights.{RightsSet}
+use Rattle.l4_fpage.specs.declared.sizes.PageSize.{PageSize}
 use Rattle.l4_msg.specs.Sizes.{max_words}
 use Rattle.l4_threads.specs.Sizes.{numbers}
 use Rattle.l4_msg.specs.declared.regions.Region.{Region as Delegated}
@@ -16,7 +19,11 @@ use Rattle.l4_shell.specs.declared.requests.Request.TheVariants.{Enter, CreateTh
 use Rattle.l4_shell.specs.Calls.{create_call, set_pager_call, receive_call, send_call, ipc_call, unmap_call, fault_call, root}
 use Rattle.l4_shell.specs.declared.commands.ScriptFault.{ScriptFault}
 use Rattle.l4_shell.specs.declared.commands.ScriptFault.TheVariants.{UnknownCommand, BadTokens}
-use Rattle.l4_text.specs.Grammar.{◌>>=◌, numbers_of}
+use Rattle.l4_symbols.specs.Computed.{word_in}
+use Rattle.l4_symbols.specs.Rows.{message_words_in}
+use Rattle.l4_symbols.specs.declared.words.WordKind.{WordKind}
+use Rattle.l4_symbols.specs.declared.words.WordKind.TheVariants.{Fpage, Window, Timeouts}
+use Rattle.l4_text.specs.Grammar.{◌>>=◌}
 use Rattle.l4_text.specs.Numbers.{below, number_of}
 
 -- whether a token is this word
@@ -51,9 +58,22 @@ rights_of token = if length token == 3 then (do
   x ← right_of 120 (slice_index token 2)
   Some (record { r = r; w = w; x = x })) else None
 
--- the numbers of words, at most as many as there are message registers
-unfoldable pub words_of : List (List ℕ) → Option (List ℕ)
-words_of tokens = if nat_le (length tokens) max_words then numbers_of tokens else None
+-- a number, or else the word that a symbolic token of this kind names
+unfoldable pub symbol_of : WordKind → PageSize → List ℕ → Option ℕ
+symbol_of kind size token = option_or (number_of token) (result_ok (word_in kind size token))
+
+-- the words of fpages, if each of the tokens is one
+abbrev pub each_fpage : PageSize → List (List ℕ) → Option (List ℕ)
+each_fpage size [] = Some []
+each_fpage size (token ∷ tokens) = symbol_of Fpage size token >>= λ word. each_fpage size tokens >>= λ words. Some (word ∷ words)
+
+-- the words of fpages, at most as many as there are message registers
+unfoldable pub fpages_of : PageSize → List (List ℕ) → Option (List ℕ)
+fpages_of size tokens = if nat_le (length tokens) max_words then each_fpage size tokens else None
+
+-- the words of a message: numbers, or symbolic tokens
+unfoldable pub words_of : PageSize → List (List ℕ) → Option (List ℕ)
+words_of size tokens = result_ok (message_words_in size tokens)
 
 -- TOKENS IN ORDER
 
@@ -91,10 +111,10 @@ region_of tokens =
 abbrev pub entry_with : ℕ → ℕ → ℕ → RightsSet → Entry
 entry_with f s c r = record { first = f; source = s; count = c; rights = r }
 
--- Each command's name, the tokens after it, and what it requests. Threads are named by their numbers, below 2^18; the first of the words of
--- a message is its tag.
-abbrev pub commands : List (List ℕ × (List (List ℕ) → Option Request))
-commands =
+-- Each command's name, the tokens after it, and what it requests, where pages have this size. Threads are named by their numbers, below
+-- 2^18; the first of the words of a message is its tag.
+abbrev pub commands : PageSize → List (List ℕ × (List (List ℕ) → Option Request))
+commands size =
     -- thread N SPACE PAGER: root creates a thread of this number, in this space and with this pager
     (codes "thread", (thread_of ▹ new_space_of ▹ nil_or_thread_of ▹ no_more) (λ n space pager. CreateThread n (create_call n space pager)))
     -- setpager N PAGER: root changes a thread's pager
@@ -102,22 +122,22 @@ commands =
     -- delete N: root deletes a thread
     ∷ (codes "delete", (thread_of ▹ no_more) EndThread)
     -- recv N FROM WINDOW: a thread receives from a partner, with this window
-    ∷ (codes "recv", (thread_of ▹ partner_of ▹ number_of ▹ no_more) (λ n «from» window. Enter n (receive_call «from» window)))
+    ∷ (codes "recv", (thread_of ▹ partner_of ▹ symbol_of Window size ▹ no_more) (λ n «from» window. Enter n (receive_call «from» window)))
     -- send N TO WORD..: a thread sends these words to a partner
-    ∷ (codes "send", (thread_of ▹ partner_of ▹ all_by words_of) (λ n to words. Enter n (send_call to words)))
+    ∷ (codes "send", (thread_of ▹ partner_of ▹ all_by (words_of size)) (λ n to words. Enter n (send_call to words)))
     -- ipc N TO FROM TIMEOUTS WINDOW WORD..: a thread sends these words to a partner, and then receives from another one, with these timeouts
     -- and this window
     ∷ (
       codes "ipc",
-      (thread_of ▹ partner_of ▹ partner_of ▹ number_of ▹ number_of ▹ all_by words_of)
+      (thread_of ▹ partner_of ▹ partner_of ▹ symbol_of Timeouts size ▹ symbol_of Window size ▹ all_by (words_of size))
           (λ n to «from» timeouts window words. Enter n (ipc_call to «from» timeouts window words)),
     )
     -- delegate N TO SOURCE TARGET COUNT RIGHTS: a thread sends the only message of the region's plan to a partner
     ∷ (codes "delegate", (thread_of ▹ partner_of ▹ all_by region_of) (λ n to region. SendPlan n to Only region))
     -- part N TO K SOURCE TARGET COUNT RIGHTS: a thread sends the message with this number, from 0, of the region's plan to a partner
     ∷ (codes "part", (thread_of ▹ partner_of ▹ number_of ▹ all_by region_of) (λ n to k region. SendPlan n to (Message k) region))
-    -- unmap N CONTROL WORD..: a thread revokes rights, by the control word and the message registers
-    ∷ (codes "unmap", (thread_of ▹ number_of ▹ all_by words_of) (λ n control words. Enter n (unmap_call control words)))
+    -- unmap N CONTROL FPAGE..: a thread revokes rights, by the control word and the fpages
+    ∷ (codes "unmap", (thread_of ▹ number_of ▹ all_by (fpages_of size)) (λ n control words. Enter n (unmap_call control words)))
     -- show N FIRST COUNT: the present pages of a thread's space among this number of pages from a first one on
     ∷ (codes "show", (thread_of ▹ number_of ▹ number_of ▹ no_more) ListPages)
     -- parent N PAGE: the parent of a page of a thread's space
@@ -137,7 +157,7 @@ abbrev pub command_in : List (List ℕ × (List (List ℕ) → Option Request)) 
 command_in [] name tokens = Err UnknownCommand
 command_in (row ∷ rows) name tokens = if is_word row.0 name then ok_or (row.1 tokens) BadTokens else command_in rows name tokens
 
--- what a line that has tokens requests, or the reason why they cannot be read
-unfoldable pub command_of : List (List ℕ) → Result Request ScriptFault
-command_of [] = Err UnknownCommand
-command_of (name ∷ tokens) = command_in commands name tokens
+-- what a line that has tokens requests, where pages have this size, or the reason why they cannot be read
+unfoldable pub command_of : PageSize → List (List ℕ) → Result Request ScriptFault
+command_of size [] = Err UnknownCommand
+command_of size (name ∷ tokens) = command_in (commands size) name tokens

@@ -275,13 +275,13 @@ CarriesOut old line TellSteps told new = TellsCount old told new
 abbrev pub AnswersLine : Session → ℕ → Result (Option Request) Unread → List Report → Session → Type 0
 AnswersLine old line (Ok None) told new = (told ≡ []) × (new ≡ old)
 AnswersLine old line (Ok (Some request)) told new = CarriesOut old line request told new
-AnswersLine old line (Err unread) told new = (told ≡ UnreadLine line (script_refusal unread.fault) unread.bytes ∷ []) × (new ≡ old)
+AnswersLine old line (Err unread) told new = (told ≡ UnreadLine old.machine.size line (script_refusal unread.fault) unread.bytes ∷ []) × (new ≡ old)
 
 -- the reports of lines, one after another, of which the first has this number
 abbrev pub AnswersLines : Session → ℕ → List TextLine → List Report → Session → Type 0
 AnswersLines old number [] told new = (told ≡ []) × (new ≡ old)
 AnswersLines old number (line ∷ lines) told new =
-    (first : List Report) × (rest : List Report) × (between : Session) × AnswersLine old number (asked_of line) first between
+    (first : List Report) × (rest : List Report) × (between : Session) × AnswersLine old number (asked_of old.machine.size line) first between
     × AnswersLines between (number + 1) lines rest new × (told ≡ first ++ rest)
 
 -- THE ANSWERS TO A SCRIPT'S LINES, over a machine at boot with this number of frames of this size, and without servers

@@ -1,6 +1,7 @@
 //! Answers lines. Most lines are `recv`, `send`, `ipc` and `fault`, whose tokens are read directly into their call.
 ghost use Rattle.std.specs.Prelude.{◌≡◌, ◌∷◌, ℕ, List, [], Option, false, ok_or, option_map, codes, bytes_eq};
 ghost use Rattle.l4_answers.specs.Reports.{Report, AddsAll};
+ghost use Rattle.l4_fpage.specs.declared.sizes.PageSize.{PageSize as APageSize};
 ghost use Rattle.l4_text.specs.Tokens.{tokens_of};
 ghost use Rattle.l4_text.specs.declared.lines.Ending.TheVariants.{Whole};
 ghost use Rattle.l4_shell.specs.declared.commands.ScriptFault.TheVariants.{BadTokens};
@@ -21,6 +22,7 @@ use crate::refusals::script_code;
 use crate::requests::{CallPlaces, make_fault, make_ipc, make_receive, set_parts};
 use crate::session::Session;
 use l4_answers::Sink;
+use l4_fpage::PageSize;
 use l4_ipc::Call;
 use l4_record::{History, SeatedKernel};
 use l4_servers::Servers;
@@ -29,24 +31,24 @@ use l4_text::Ending;
 /// Writes the call of a `recv` line into the buffer, and returns its thread. Returns None if the tokens cannot be read; the content of the
 /// buffer is then unspecified.
 #[inline(always)]
-fn read_receive(line: &[u8], call: &mut Call) -> Option<u32>
+fn read_receive(line: &[u8], size: PageSize, call: &mut Call) -> Option<u32>
     ensures { option_map (λ n. Enter n call.new) result
-        ≡ asked (codes "recv") (tokens_of line.now) }
+        ≡ asked size (codes "recv") (tokens_of line.now) }
 {
-    let (number, from, window) = receive_parts(line)?;
+    let (number, from, window) = receive_parts(line, size)?;
     make_receive(call, from, window);
     Some(number)
 }
 
 /// Writes the call of a `send` line, with its words, into the buffer, as `read_receive` does.
 #[inline(always)]
-fn read_send(line: &[u8], call: &mut Call) -> Option<u32>
+fn read_send(line: &[u8], size: PageSize, call: &mut Call) -> Option<u32>
     ensures { option_map (λ n. Enter n call.new) result
-        ≡ asked (codes "send") (tokens_of line.now) }
+        ≡ asked size (codes "send") (tokens_of line.now) }
 {
     make_ipc(call);
     if let Call::Ipc(exchange) = call {
-        let (number, to) = send_parts(line, &mut exchange.words)?;
+        let (number, to) = send_parts(line, size, &mut exchange.words)?;
         set_parts(exchange, to, Partner::Nil, 0, 0);
         return Some(number);
     }
@@ -55,12 +57,13 @@ fn read_send(line: &[u8], call: &mut Call) -> Option<u32>
 
 /// Writes the call of an `ipc` line, with its words, into the buffer, as `read_receive` does.
 #[inline(always)]
-fn read_ipc(line: &[u8], call: &mut Call) -> Option<u32>
-    ensures { option_map (λ n. Enter n call.new) result ≡ asked (codes "ipc") (tokens_of line.now) }
+fn read_ipc(line: &[u8], size: PageSize, call: &mut Call) -> Option<u32>
+    ensures { option_map (λ n. Enter n call.new) result
+        ≡ asked size (codes "ipc") (tokens_of line.now) }
 {
     make_ipc(call);
     if let Call::Ipc(exchange) = call {
-        let (number, to, from, timeouts, window) = ipc_parts(line, &mut exchange.words)?;
+        let (number, to, from, timeouts, window) = ipc_parts(line, size, &mut exchange.words)?;
         set_parts(exchange, to, from, timeouts, window);
         return Some(number);
     }
@@ -70,8 +73,8 @@ fn read_ipc(line: &[u8], call: &mut Call) -> Option<u32>
 /// Writes the call of a `fault` line into the buffer, as `read_receive` does.
 #[inline(always)]
 fn read_fault(line: &[u8], call: &mut Call) -> Option<u32>
-    ensures { option_map (λ n. Enter n call.new) result
-        ≡ asked (codes "fault") (tokens_of line.now) }
+    ensures { (size : APageSize) → option_map (λ n. Enter n call.new) result
+        ≡ asked size (codes "fault") (tokens_of line.now) }
 {
     let (number, fault) = fault_parts(line)?;
     make_fault(call, fault);
@@ -102,7 +105,12 @@ impl Session {
     {
         match number {
             Some(thread) => self.enter_and_follow(line, thread, call, sink),
-            None => sink.unread_line(line, &script_code(ScriptFault::BadTokens), bytes),
+            None => sink.unread_line(
+                line,
+                &script_code(ScriptFault::BadTokens),
+                bytes,
+                self.page_size(),
+            ),
         }
     }
 }
@@ -147,12 +155,13 @@ impl Script {
         requires send { bytes_eq name.now (codes "send") ≡ false }
         requires ipc { bytes_eq name.now (codes "ipc") ≡ false }
         requires fault { bytes_eq name.now (codes "fault") ≡ false }
-        ensures { (told : List Report) × AnswersLine (session self.old.session.kernel self.old.session.servers) line (some_request bytes.now (command_of (name.now ∷ tokens_of rest.now))) told (session self.new.session.kernel self.new.session.servers)
+        ensures { (told : List Report) × AnswersLine (session self.old.session.kernel self.old.session.servers) line (some_request bytes.now (command_of self.old.session.kernel.machine.size (name.now ∷ tokens_of rest.now))) told (session self.new.session.kernel self.new.session.servers)
             × AddsAll S.has_told sink.old sink.new told }
     {
-        match other_request(name, rest, &mut self.calls.ipc) {
+        let size = self.session.page_size();
+        match other_request(name, rest, size, &mut self.calls.ipc) {
             Ok(request) => self.session.carry_out(line, request, sink),
-            Err(fault) => sink.unread_line(line, &script_code(fault), bytes),
+            Err(fault) => sink.unread_line(line, &script_code(fault), bytes, size),
         }
     }
 
@@ -166,20 +175,20 @@ impl Script {
         rest: &[u8],
         sink: &mut S,
     )
-        ensures { (told : List Report) × AnswersLine (session self.old.session.kernel self.old.session.servers) line (some_request bytes.now (command_of (name.now ∷ tokens_of rest.now))) told (session self.new.session.kernel self.new.session.servers)
+        ensures { (told : List Report) × AnswersLine (session self.old.session.kernel self.old.session.servers) line (some_request bytes.now (command_of self.old.session.kernel.machine.size (name.now ∷ tokens_of rest.now))) told (session self.new.session.kernel self.new.session.servers)
             × AddsAll S.has_told sink.old sink.new told }
     {
         let Script { session, calls } = self;
         if is_recv(name) {
-            let number = read_receive(rest, &mut calls.ipc);
+            let number = read_receive(rest, session.page_size(), &mut calls.ipc);
             return session.answer_call(line, bytes, number, &calls.ipc, sink);
         }
         if is_send(name) {
-            let number = read_send(rest, &mut calls.ipc);
+            let number = read_send(rest, session.page_size(), &mut calls.ipc);
             return session.answer_call(line, bytes, number, &calls.ipc, sink);
         }
         if is_ipc(name) {
-            let number = read_ipc(rest, &mut calls.ipc);
+            let number = read_ipc(rest, session.page_size(), &mut calls.ipc);
             return session.answer_call(line, bytes, number, &calls.ipc, sink);
         }
         if is_fault(name) {
@@ -192,7 +201,7 @@ impl Script {
     /// Answers a line that ends with a newline, and is not too long.
     #[inline(always)]
     fn answer_whole<S: Sink>(&mut self, line: u64, bytes: &[u8], sink: &mut S)
-        ensures { (told : List Report) × AnswersLine (session self.old.session.kernel self.old.session.servers) line (asked_at Whole bytes.now) told (session self.new.session.kernel self.new.session.servers)
+        ensures { (told : List Report) × AnswersLine (session self.old.session.kernel self.old.session.servers) line (asked_at self.old.session.kernel.machine.size Whole bytes.now) told (session self.new.session.kernel self.new.session.servers)
             × AddsAll S.has_told sink.old sink.new told }
     {
         if is_comment(bytes) {
@@ -212,13 +221,23 @@ impl Script {
         bytes: &[u8],
         sink: &mut S,
     )
-        ensures { (told : List Report) × AnswersLine (session self.old.session.kernel self.old.session.servers) line (asked_at ending bytes.now) told (session self.new.session.kernel self.new.session.servers)
+        ensures { (told : List Report) × AnswersLine (session self.old.session.kernel self.old.session.servers) line (asked_at self.old.session.kernel.machine.size ending bytes.now) told (session self.new.session.kernel self.new.session.servers)
             × AddsAll S.has_told sink.old sink.new told }
     {
         match ending {
             Ending::Whole => self.answer_whole(line, bytes, sink),
-            Ending::Long => sink.unread_line(line, &script_code(ScriptFault::LineTooLong), b""),
-            Ending::Cut => sink.unread_line(line, &script_code(ScriptFault::CutLine), b""),
+            Ending::Long => sink.unread_line(
+                line,
+                &script_code(ScriptFault::LineTooLong),
+                b"",
+                self.session.page_size(),
+            ),
+            Ending::Cut => sink.unread_line(
+                line,
+                &script_code(ScriptFault::CutLine),
+                b"",
+                self.session.page_size(),
+            ),
         }
     }
 }

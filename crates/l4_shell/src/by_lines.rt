@@ -37,7 +37,7 @@ impl ScriptRun {
 
     /// Answers the line with this number and this ending.
     pub fn answer_line<S: Sink>(&mut self, line: u64, ending: Ending, bytes: &[u8], sink: &mut S)
-        ensures { (told : List Report) × AnswersLine (session_of self.old) line (asked_at ending bytes.now) told (session_of self.new)
+        ensures { (told : List Report) × AnswersLine (session_of self.old) line (asked_at (session_of self.old).machine.size ending bytes.now) told (session_of self.new)
             × AddsAll S.has_told sink.old sink.new told }
     {
         self.script.answer_line(line, ending, bytes, sink);

@@ -1,21 +1,25 @@
 //! Reads the tokens of script lines.
 ghost use Rattle.std.specs.Prelude.{◌≡◌, ◌∷◌, [], false, codes, bytes_eq, option_map, MatchOption};
+ghost use Rattle.l4_fpage.specs.declared.sizes.PageSize.{PageSize as APageSize};
 ghost use Rattle.l4_text.specs.Tokens.{tokens_of};
 ghost use Rattle.l4_ipc.specs.declared.calls.Call.TheVariants.{Fault as Faults};
 ghost use Rattle.l4_shell.specs.declared.requests.Request.TheVariants.{Enter};
 ghost use Rattle.l4_shell.specs.Calls.{receive_call, send_call, ipc_call};
-ghost use Rattle.l4_shell.specs.Commands.{words_of, command_in, command_of};
+ghost use Rattle.l4_shell.specs.Commands.{command_in, command_of};
 ghost use Rattle.l4_shell.specs.Inside.Asking.{asked, pager_commands};
 
 use crate::delegations::Which;
 use crate::partners::{Partner, next_pager, next_partner, next_space, next_thread, next_word};
 use crate::regions::{last_rights, region};
 use crate::requests::{ROOT, Request, put_create, put_pager, put_unmap};
+use crate::symbols::{next_symbol, read_fpages, read_words};
 use arrayvec::ArrayVec;
+use l4_fpage::PageSize;
 use l4_ipc::{Call, FaultCall};
 use l4_msg::MAX_WORDS;
 use l4_pager::Entry;
-use l4_text::{after_name, next_number, next_token};
+use l4_symbols::WordKind;
+use l4_text::{after_name, next_token};
 
 /// The reason why a line cannot be read.
 #[derive(Clone, Copy, Debug, PartialEq, Eq)]
@@ -63,7 +67,7 @@ const STEPS: &[u8] = b"steps";
 /// `N SPACE PAGER`
 #[inline(never)]
 fn thread<'a>(line: &[u8], call: &'a mut Call) -> Option<Request<'a>>
-    ensures { result ≡ asked (codes "thread") (tokens_of line.now) }
+    ensures { (size : APageSize) → result ≡ asked size (codes "thread") (tokens_of line.now) }
 {
     let (number, rest) = next_thread(line)?;
     let (space, rest) = next_space(rest)?;
@@ -77,7 +81,7 @@ fn thread<'a>(line: &[u8], call: &'a mut Call) -> Option<Request<'a>>
 /// `N PAGER`
 #[inline(never)]
 fn set_pager<'a>(line: &[u8], call: &'a mut Call) -> Option<Request<'a>>
-    ensures { result ≡ asked (codes "setpager") (tokens_of line.now) }
+    ensures { (size : APageSize) → result ≡ asked size (codes "setpager") (tokens_of line.now) }
 {
     let (number, rest) = next_thread(line)?;
     let (pager, rest) = next_pager(rest)?;
@@ -90,7 +94,7 @@ fn set_pager<'a>(line: &[u8], call: &'a mut Call) -> Option<Request<'a>>
 /// `N`
 #[inline(never)]
 fn delete(line: &[u8]) -> Option<Request<'static>>
-    ensures { result ≡ asked (codes "delete") (tokens_of line.now) }
+    ensures { (size : APageSize) → result ≡ asked size (codes "delete") (tokens_of line.now) }
 {
     let (number, rest) = next_thread(line)?;
     match next_token(rest) {
@@ -101,13 +105,13 @@ fn delete(line: &[u8]) -> Option<Request<'static>>
 
 /// `N FROM WINDOW`
 #[inline(always)]
-pub(crate) fn receive_parts(line: &[u8]) -> Option<(u32, Partner, u32)>
+pub(crate) fn receive_parts(line: &[u8], size: PageSize) -> Option<(u32, Partner, u32)>
     ensures { option_map (λ p. Enter p.0 (receive_call p.1 p.2)) result
-        ≡ asked (codes "recv") (tokens_of line.now) }
+        ≡ asked size (codes "recv") (tokens_of line.now) }
 {
     let (number, rest) = next_thread(line)?;
     let (from, rest) = next_partner(rest)?;
-    let (window, rest) = next_word(rest)?;
+    let (window, rest) = next_symbol(WordKind::Window, rest, size)?;
     match next_token(rest) {
         None => Some((number, from, window)),
         Some(_) => None,
@@ -117,7 +121,7 @@ pub(crate) fn receive_parts(line: &[u8]) -> Option<(u32, Partner, u32)>
 /// `N FIRST COUNT`
 #[inline(never)]
 fn show(line: &[u8]) -> Option<Request<'static>>
-    ensures { result ≡ asked (codes "show") (tokens_of line.now) }
+    ensures { (size : APageSize) → result ≡ asked size (codes "show") (tokens_of line.now) }
 {
     let (number, rest) = next_thread(line)?;
     let (first, rest) = next_word(rest)?;
@@ -131,7 +135,7 @@ fn show(line: &[u8]) -> Option<Request<'static>>
 /// `N PAGE`
 #[inline(never)]
 fn parent(line: &[u8]) -> Option<Request<'static>>
-    ensures { result ≡ asked (codes "parent") (tokens_of line.now) }
+    ensures { (size : APageSize) → result ≡ asked size (codes "parent") (tokens_of line.now) }
 {
     let (number, rest) = next_thread(line)?;
     let (page, rest) = next_word(rest)?;
@@ -141,48 +145,25 @@ fn parent(line: &[u8]) -> Option<Request<'static>>
     }
 }
 
-/// Reads the numbers up to the end of the line into `words`, at most as many as there are message registers. Returns None if one cannot be
-/// read, or there are more.
-fn read_words(line: &[u8], words: &mut ArrayVec<u32, MAX_WORDS>) -> Option<()>
-    ensures { option_map (λ _. words.new.items) result ≡ words_of (tokens_of line.now) }
-{
-    words.clear();
-    let mut rest = line;
-    for count in 0..MAX_WORDS {
-        match next_number(rest) {
-            None => {
-                return Some(());
-            }
-            Some((value, after)) => {
-                words.push(value?);
-                rest = after;
-            }
-        }
-    }
-    match next_token(rest) {
-        None => Some(()),
-        Some(_) => None,
-    }
-}
-
 /// `N TO WORD..`
 pub(crate) fn send_parts(
     line: &[u8],
+    size: PageSize,
     words: &mut ArrayVec<u32, MAX_WORDS>,
 ) -> Option<(u32, Partner)>
     ensures { option_map (λ p. Enter p.0 (send_call p.1 words.new.items)) result
-        ≡ asked (codes "send") (tokens_of line.now) }
+        ≡ asked size (codes "send") (tokens_of line.now) }
 {
     let (number, rest) = next_thread(line)?;
     let (to, rest) = next_partner(rest)?;
-    read_words(rest, words)?;
+    read_words(rest, size, words)?;
     Some((number, to))
 }
 
 /// `N TO SOURCE TARGET COUNT RIGHTS`
 #[inline(never)]
 fn delegate(line: &[u8]) -> Option<Request<'static>>
-    ensures { result ≡ asked (codes "delegate") (tokens_of line.now) }
+    ensures { (size : APageSize) → result ≡ asked size (codes "delegate") (tokens_of line.now) }
 {
     let (number, rest) = next_thread(line)?;
     let (to, rest) = next_partner(rest)?;
@@ -192,7 +173,7 @@ fn delegate(line: &[u8]) -> Option<Request<'static>>
 /// `N TO K SOURCE TARGET COUNT RIGHTS`
 #[inline(never)]
 fn part(line: &[u8]) -> Option<Request<'static>>
-    ensures { result ≡ asked (codes "part") (tokens_of line.now) }
+    ensures { (size : APageSize) → result ≡ asked size (codes "part") (tokens_of line.now) }
 {
     let (number, rest) = next_thread(line)?;
     let (to, rest) = next_partner(rest)?;
@@ -204,36 +185,37 @@ fn part(line: &[u8]) -> Option<Request<'static>>
 #[inline(always)]
 pub(crate) fn ipc_parts(
     line: &[u8],
+    size: PageSize,
     words: &mut ArrayVec<u32, MAX_WORDS>,
 ) -> Option<(u32, Partner, Partner, u32, u32)>
     ensures { option_map (λ p. Enter p.0 (ipc_call p.1 p.2 p.3 p.4 words.new.items)) result
-        ≡ asked (codes "ipc") (tokens_of line.now) }
+        ≡ asked size (codes "ipc") (tokens_of line.now) }
 {
     let (number, rest) = next_thread(line)?;
     let (to, rest) = next_partner(rest)?;
     let (from, rest) = next_partner(rest)?;
-    let (timeouts, rest) = next_word(rest)?;
-    let (window, rest) = next_word(rest)?;
-    read_words(rest, words)?;
+    let (timeouts, rest) = next_symbol(WordKind::Timeouts, rest, size)?;
+    let (window, rest) = next_symbol(WordKind::Window, rest, size)?;
+    read_words(rest, size, words)?;
     Some((number, to, from, timeouts, window))
 }
 
-/// `N CONTROL WORD..`
-fn unmap<'a>(line: &[u8], call: &'a mut Call) -> Option<Request<'a>>
-    ensures { result ≡ asked (codes "unmap") (tokens_of line.now) }
+/// `N CONTROL FPAGE..`
+fn unmap<'a>(line: &[u8], size: PageSize, call: &'a mut Call) -> Option<Request<'a>>
+    ensures { result ≡ asked size (codes "unmap") (tokens_of line.now) }
 {
     let (number, rest) = next_thread(line)?;
     let (control, rest) = next_word(rest)?;
     let mut words = ArrayVec::new();
-    read_words(rest, &mut words)?;
+    read_fpages(rest, size, &mut words)?;
     Some(Request::Enter(number, put_unmap(call, control, words)))
 }
 
 /// `N ADDRESS IP RIGHTS`
 #[inline(always)]
 pub(crate) fn fault_parts(line: &[u8]) -> Option<(u32, FaultCall)>
-    ensures { option_map (λ p. Enter p.0 (Faults p.1)) result
-        ≡ asked (codes "fault") (tokens_of line.now) }
+    ensures { (size : APageSize) → option_map (λ p. Enter p.0 (Faults p.1)) result
+        ≡ asked size (codes "fault") (tokens_of line.now) }
 {
     let (number, rest) = next_thread(line)?;
     let (address, rest) = next_word(rest)?;
@@ -250,7 +232,7 @@ pub(crate) fn fault_parts(line: &[u8]) -> Option<(u32, FaultCall)>
 /// `P FIRST SOURCE COUNT RIGHTS`
 #[inline(never)]
 fn add_region(line: &[u8]) -> Option<Request<'static>>
-    ensures { result ≡ asked (codes "region") (tokens_of line.now) }
+    ensures { (size : APageSize) → result ≡ asked size (codes "region") (tokens_of line.now) }
 {
     let (number, rest) = next_thread(line)?;
     let (first, rest) = next_word(rest)?;
@@ -269,7 +251,7 @@ fn add_region(line: &[u8]) -> Option<Request<'static>>
 /// `P`
 #[inline(never)]
 fn serve(line: &[u8]) -> Option<Request<'static>>
-    ensures { result ≡ asked (codes "serve") (tokens_of line.now) }
+    ensures { (size : APageSize) → result ≡ asked size (codes "serve") (tokens_of line.now) }
 {
     let (number, rest) = next_thread(line)?;
     match next_token(rest) {
@@ -281,7 +263,7 @@ fn serve(line: &[u8]) -> Option<Request<'static>>
 /// No tokens.
 #[inline(never)]
 fn steps(line: &[u8]) -> Option<Request<'static>>
-    ensures { result ≡ asked (codes "steps") (tokens_of line.now) }
+    ensures { (size : APageSize) → result ≡ asked size (codes "steps") (tokens_of line.now) }
 {
     match next_token(line) {
         None => Some(Request::TellSteps),
@@ -292,7 +274,8 @@ fn steps(line: &[u8]) -> Option<Request<'static>>
 /// Reads a command of pagers or of the history, from its name and its tokens.
 fn pager_command(name: &[u8], rest: &[u8]) -> Result<Request<'static>, ScriptFault>
     requires fault { bytes_eq name.now (codes "fault") ≡ false }
-    ensures { result ≡ command_in pager_commands name.now (tokens_of rest.now) }
+    ensures { (size : APageSize) → result
+        ≡ command_in (pager_commands size) name.now (tokens_of rest.now) }
 {
     if name == REGION {
         return add_region(rest).ok_or(ScriptFault::BadTokens);
@@ -313,13 +296,14 @@ fn pager_command(name: &[u8], rest: &[u8]) -> Result<Request<'static>, ScriptFau
 pub(crate) fn other_request<'a>(
     name: &[u8],
     rest: &[u8],
+    size: PageSize,
     call: &'a mut Call,
 ) -> Result<Request<'a>, ScriptFault>
     requires recv { bytes_eq name.now (codes "recv") ≡ false }
     requires send { bytes_eq name.now (codes "send") ≡ false }
     requires ipc { bytes_eq name.now (codes "ipc") ≡ false }
     requires fault { bytes_eq name.now (codes "fault") ≡ false }
-    ensures { result ≡ command_of (name.now ∷ tokens_of rest.now) }
+    ensures { result ≡ command_of size (name.now ∷ tokens_of rest.now) }
 {
     if name == THREAD {
         return thread(rest, call).ok_or(ScriptFault::BadTokens);
@@ -337,7 +321,7 @@ pub(crate) fn other_request<'a>(
         return part(rest).ok_or(ScriptFault::BadTokens);
     }
     if name == UNMAP {
-        return unmap(rest, call).ok_or(ScriptFault::BadTokens);
+        return unmap(rest, size, call).ok_or(ScriptFault::BadTokens);
     }
     if name == SHOW {
         return show(rest).ok_or(ScriptFault::BadTokens);

@@ -15,6 +15,7 @@ mod requests;
 mod running;
 mod serving;
 mod session;
+mod symbols;
 
 pub use by_lines::ScriptRun;
 pub use kinds::{TokenKind, is_of_kind};

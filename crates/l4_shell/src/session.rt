@@ -13,6 +13,7 @@ use crate::refusals::{call_code, memory_code, plan_code, region_code};
 use crate::requests::{ROOT, Request, delete_call, send_call};
 use crate::serving::tell_appended;
 use l4_answers::{Sink, refused_code};
+use l4_fpage::PageSize;
 use l4_ipc::{Call, Kernel, Refused};
 use l4_msg::Region;
 use l4_pager::{Entry, wait};
@@ -111,6 +112,14 @@ impl Session {
             act: wait(),
             appended: Appended::new(),
         }
+    }
+
+    /// Returns the kernel's page size.
+    #[inline(always)]
+    pub(crate) fn page_size(&self) -> PageSize
+        ensures { result ≡ self.now.kernel.machine.size }
+    {
+        self.kernel.kernel().page_size()
     }
 
     /// Returns the history.
@@ -264,7 +273,7 @@ impl Session {
         ensures { (told : List Report) × Delegates (session self.old.kernel self.old.servers) line thread to which region told (session self.new.kernel self.new.servers)
             × AddsAll S.has_told sink.old sink.new told }
     {
-        let size = self.kernel.kernel().page_size();
+        let size = self.page_size();
         match plan_words(&region, size, which) {
             Ok(words) => {
                 let call = send_call(to, words);

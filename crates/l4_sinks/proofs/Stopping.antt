@@ -1,20 +1,30 @@
 -- Where a line stops, and what that says of the commands.
-use Rattle.std.proofs.Common.{◌≡◌, ℕ, zero, suc, ◌+◌, Bool, true, false, ◌&&◌, cond, nat_le, List, [], ◌∷◌, ◌++◌, length, Option, Some, None, is_some, is_ok, Result, ok_or, codes, refl, sym, ap, subst, ◌∙◌, arith}
+use Rattle.std.proofs.Common.{◌≡◌, ℕ, zero, suc, ◌+◌, Bool, true, false, ◌&&◌, cond, nat_le, List, [], ◌∷◌, ◌++◌, length, Option, Some, None, is_some, is_ok, Result, Ok, Err, ok_or, codes, refl, sym, ap, subst, ◌∙◌, arith}
 use Rattle.std.proofs.lemmas.Bool.{false≢true}
 use Rattle.std.proofs.lemmas.Option.{same_Some}
 use mathlib.Core.List.{append_assoc}
 use Rattle.std.proofs.lemmas.Bool.Decides.{nat_tests}
 use Rattle.std.specs.Option.{option_and_then}
+use Rattle.std.specs.Result.{result_ok}
 use Rattle.l4_fpage.specs.Rights.{RightsSet}
+use Rattle.l4_fpage.specs.declared.sizes.PageSize.{PageSize}
 use Rattle.l4_msg.specs.declared.regions.Region.{Region as Delegated}
-use Rattle.l4_text.specs.Grammar.{numbers_of}
+use Rattle.l4_symbols.specs.Computed.{word_in}
+use Rattle.l4_symbols.specs.Rows.{Row, row_begun, row_added, all_added, row_words, message_words_in}
+use Rattle.l4_symbols.specs.Spelling.{◌>>=◌}
+use Rattle.l4_symbols.specs.declared.reasons.Reason.{Reason}
+use Rattle.l4_symbols.specs.declared.words.WordKind.{WordKind}
+use Rattle.l4_symbols.specs.declared.words.WordKind.TheVariants.{Fpage, Window, Timeouts}
 use Rattle.l4_text.specs.Numbers.{number_of, decimal_of}
 use Rattle.l4_shell.specs.declared.kinds.TokenKind.{TokenKind}
-use Rattle.l4_shell.specs.declared.kinds.TokenKind.TheVariants.{ThreadNumber, ThreadOrNew, ThreadOrNil, ThreadNilOrAny, Number, Rights}
-use Rattle.l4_shell.specs.Commands.{thread_of, nil_or_thread_of, partner_of, new_space_of, rights_of, words_of, ◌▹◌, no_more, all_by, last_rights_of, region_of, command_of, is_word}
+use Rattle.l4_shell.specs.declared.kinds.TokenKind.TheVariants.{ThreadNumber, ThreadOrNew, ThreadOrNil, ThreadNilOrAny, Number, Symbol, Rights}
+use Rattle.l4_shell.specs.Commands.{thread_of, nil_or_thread_of, partner_of, new_space_of, rights_of, symbol_of, each_fpage, fpages_of, words_of, ◌▹◌, no_more, all_by, last_rights_of, region_of, command_of, is_word}
 use Rattle.l4_shell.specs.Kinds.{is_of}
-use Rattle.l4_sinks.specs.declared.stops.Expected.TheVariants.{Token, NumberOrEnd, LineEnd}
-use Rattle.l4_sinks.specs.Stops.{Shape, Place, wrong, shape_of, pager_shape_of, words_stop, kinds_stop, shape_stop, stop_of, BeginsCommand, StopsThere, IsStop}
+use Rattle.l4_sinks.specs.declared.stops.Expected.{Expected}
+use Rattle.l4_sinks.specs.declared.stops.Expected.TheVariants.{TagOrEnd, WordOrEnd, FpageOrEnd, LineEnd}
+use Rattle.l4_sinks.specs.declared.stops.Rest.{Rest}
+use Rattle.l4_sinks.specs.declared.stops.Rest.TheVariants.{Nothing, Message, Fpages}
+use Rattle.l4_sinks.specs.Stops.{Shape, Place, wrong, shape_of, pager_shape_of, expected_for, expected_at, symbol_expected, end_stop, fpages_stop, row_or_stop, row_stop, message_stop, rest_stop, kinds_stop, shape_stop, stop_of, BeginsCommand, StopsThere, IsStop}
 
 -- READERS AND KINDS
 
@@ -23,187 +33,221 @@ abbrev ends : Option Place → Bool
 ends None = true
 ends (Some place) = false
 
--- a reader reads just what has tokens of these kinds, and then at most so many numbers
-record Agrees {A : Type 0} (asks : List (List ℕ) → Option A) (kinds : List TokenKind) (words : ℕ) : Type 0 where
-  pub agrees : (tokens : List (List ℕ)) (number : ℕ) → is_some (asks tokens) ≡ ends (kinds_stop number kinds words tokens)
+-- where pages have this size, a reader reads just what has tokens of these kinds, and then the rest
+record Agrees {A : Type 0} (size : PageSize) (asks : List (List ℕ) → Option A) (kinds : List TokenKind) (rest : Rest) : Type 0 where
+  pub agrees : (tokens : List (List ℕ)) (number : ℕ) → is_some (asks tokens) ≡ ends (kinds_stop size number kinds rest tokens)
 
-ends_there : {A : Type 0} (a : A) (tokens : List (List ℕ)) (number : ℕ) → is_some (no_more a tokens) ≡ ends (words_stop number 0 tokens)
+ends_there : {A : Type 0} (a : A) (tokens : List (List ℕ)) (number : ℕ) → is_some (no_more a tokens) ≡ ends (end_stop number tokens)
 ends_there a [] number = refl
 ends_there a (token ∷ tokens) number = refl
 
-agrees_end : {A : Type 0} (a : A) → Agrees (no_more a) [] 0
-agrees_end a = record { agrees = λ tokens number. ends_there a tokens number }
+agrees_end : {A : Type 0} (size : PageSize) (a : A) → Agrees size (no_more a) [] Nothing
+agrees_end size a = record { agrees = λ tokens number. ends_there a tokens number }
 
 one_read : {A B : Type 0} (o : Option A) (f : Bool) (tokens : List (List ℕ)) (asks : A → List (List ℕ) → Option B) (stop : Option Place) (other : Place) → is_some o ≡ f → ((a : A) → is_some (asks a tokens) ≡ ends stop)
     → is_some (option_and_then (λ (p : A × List (List ℕ)). asks p.0 p.1) (option_and_then (λ a. Some (a, tokens)) o)) ≡ ends (cond f stop (Some other))
 one_read None f tokens asks stop other same rest = ap (λ b. ends (cond b stop (Some other))) same
 one_read (Some a) f tokens asks stop other same rest = rest a ∙ ap (λ b. ends (cond b stop (Some other))) same
 
-step_there : {A B C : Type 0} (read : List ℕ → Option A) (rest : B → List (List ℕ) → Option C) (make : A → B) (kind : TokenKind) (kinds : List TokenKind) (words : ℕ) → ((token : List ℕ) → is_some (read token) ≡ is_of kind token)
-    → ((b : B) → Agrees (rest b) kinds words) → (tokens : List (List ℕ)) (number : ℕ) → is_some ((read ▹ rest) make tokens) ≡ ends (kinds_stop number (kind ∷ kinds) words tokens)
-step_there read rest make kind kinds words same agree [] number = refl
-step_there read rest make kind kinds words same agree (token ∷ tokens) number =
-    one_read (read token) (is_of kind token) tokens (λ a. rest (make a)) (kinds_stop (number + 1) kinds words tokens) (record { number = number; token = Some token; expected = Token kind }) (same token)
+step_there : {A B C : Type 0} (size : PageSize) (read : List ℕ → Option A) (rest : B → List (List ℕ) → Option C) (make : A → B) (kind : TokenKind) (kinds : List TokenKind) (last : Rest) → ((token : List ℕ) → is_some (read token) ≡ is_of size kind token)
+    → ((b : B) → Agrees size (rest b) kinds last) → (tokens : List (List ℕ)) (number : ℕ) → is_some ((read ▹ rest) make tokens) ≡ ends (kinds_stop size number (kind ∷ kinds) last tokens)
+step_there size read rest make kind kinds last same agree [] number = refl
+step_there size read rest make kind kinds last same agree (token ∷ tokens) number =
+    one_read (read token) (is_of size kind token) tokens (λ a. rest (make a)) (kinds_stop size (number + 1) kinds last tokens) (record { number = number; token = Some token; expected = expected_at size kind token }) (same token)
     (λ a. (agree (make a)).agrees tokens (number + 1))
 
-agrees_step : {A B C : Type 0} (read : List ℕ → Option A) (kind : TokenKind) → ((token : List ℕ) → is_some (read token) ≡ is_of kind token) → {rest : B → List (List ℕ) → Option C} {kinds : List TokenKind} {words : ℕ}
-    → ((b : B) → Agrees (rest b) kinds words) → (make : A → B) → Agrees ((read ▹ rest) make) (kind ∷ kinds) words
-agrees_step read kind same {rest} {kinds} {words} agree make = record { agrees = λ tokens number. step_there read rest make kind kinds words same agree tokens number }
+agrees_step : {A B C : Type 0} {size : PageSize} (read : List ℕ → Option A) (kind : TokenKind) → ((token : List ℕ) → is_some (read token) ≡ is_of size kind token) → {rest : B → List (List ℕ) → Option C} {kinds : List TokenKind} {last : Rest}
+    → ((b : B) → Agrees size (rest b) kinds last) → (make : A → B) → Agrees size ((read ▹ rest) make) (kind ∷ kinds) last
+agrees_step {size} read kind same {rest} {kinds} {last} agree make = record { agrees = λ tokens number. step_there size read rest make kind kinds last same agree tokens number }
 
 made : {A B : Type 0} (o : Option A) (f : A → B) → is_some (option_and_then (λ a. Some (f a)) o) ≡ is_some o
 made None f = refl
 made (Some a) f = refl
 
-agrees_all : {A B : Type 0} (read : List (List ℕ) → Option A) (make : A → B) (kinds : List TokenKind) (words : ℕ) → Agrees read kinds words → Agrees (all_by read make) kinds words
-agrees_all read make kinds words h = record { agrees = λ tokens number. made (read tokens) make ∙ h.agrees tokens number }
+agrees_all : {A B : Type 0} (size : PageSize) (read : List (List ℕ) → Option A) (make : A → B) (kinds : List TokenKind) (last : Rest) → Agrees size read kinds last → Agrees size (all_by read make) kinds last
+agrees_all size read make kinds last h = record { agrees = λ tokens number. made (read tokens) make ∙ h.agrees tokens number }
 
--- WORDS
+-- FPAGES
 
 and_false : (b : Bool) → (b && false) ≡ false
 and_false true = refl
 and_false false = refl
 
-one_word : (o : Option ℕ) (f le : Bool) (tokens : List (List ℕ)) (stop : Option Place) (other : Place) → is_some o ≡ f → (le && is_some (numbers_of tokens)) ≡ ends stop
-    → (le && is_some (option_and_then (λ n. option_and_then (λ ns. Some (n ∷ ns)) (numbers_of tokens)) o)) ≡ ends (cond f stop (Some other))
-one_word None f le tokens stop other same rest = and_false le ∙ ap (λ b. ends (cond b stop (Some other))) same
-one_word (Some n) f le tokens stop other same rest = ap (λ b. le && b) (made (numbers_of tokens) (λ ns. n ∷ ns)) ∙ rest ∙ ap (λ b. ends (cond b stop (Some other))) same
+one_fpage : (o : Option ℕ) (f le : Bool) (size : PageSize) (tokens : List (List ℕ)) (stop : Option Place) (other : Place) → is_some o ≡ f → (le && is_some (each_fpage size tokens)) ≡ ends stop
+    → (le && is_some (option_and_then (λ n. option_and_then (λ ns. Some (n ∷ ns)) (each_fpage size tokens)) o)) ≡ ends (cond f stop (Some other))
+one_fpage None f le size tokens stop other same rest = and_false le ∙ ap (λ b. ends (cond b stop (Some other))) same
+one_fpage (Some n) f le size tokens stop other same rest = ap (λ b. le && b) (made (each_fpage size tokens) (λ ns. n ∷ ns)) ∙ rest ∙ ap (λ b. ends (cond b stop (Some other))) same
 
-same_word : (token : List ℕ) → is_some (number_of token) ≡ is_of Number token
+same_symbol : (kind : WordKind) (size : PageSize) (token : List ℕ) → is_some (symbol_of kind size token) ≡ is_of size (Symbol kind) token
 unfolding is_of
-same_word token = refl
+same_symbol kind size token = refl
 
-counted : (most : ℕ) (tokens : List (List ℕ)) (number : ℕ) → (nat_le (length tokens) most && is_some (numbers_of tokens)) ≡ ends (words_stop number most tokens)
-counted most [] number =
+counted : (size : PageSize) (most : ℕ) (tokens : List (List ℕ)) (number : ℕ) → (nat_le (length tokens) most && is_some (each_fpage size tokens)) ≡ ends (fpages_stop size number most tokens)
+counted size most [] number =
     let t : nat_le 0 most ≡ true = grind (arith, nat_tests) in
     ap (λ b. b && true) t
-counted zero (token ∷ tokens) number =
+counted size zero (token ∷ tokens) number =
     let f : nat_le (length (token ∷ tokens)) 0 ≡ false = grind (arith, nat_tests) in
-    ap (λ b. b && is_some (numbers_of (token ∷ tokens))) f
-counted (suc most) (token ∷ tokens) number =
+    ap (λ b. b && is_some (each_fpage size (token ∷ tokens))) f
+counted size (suc most) (token ∷ tokens) number =
     let e : nat_le (length (token ∷ tokens)) (suc most) ≡ nat_le (length tokens) most = grind (arith, nat_tests) in
-    ap (λ b. b && is_some (numbers_of (token ∷ tokens))) e
-    ∙ one_word (number_of token) (is_of Number token) (nat_le (length tokens) most) tokens (words_stop (number + 1) most tokens) (record { number = number; token = Some token; expected = NumberOrEnd }) (same_word token) (counted most tokens (number + 1))
+    ap (λ b. b && is_some (each_fpage size (token ∷ tokens))) e
+    ∙ one_fpage (symbol_of Fpage size token) (is_of size (Symbol Fpage) token) (nat_le (length tokens) most) size tokens (fpages_stop size (number + 1) most tokens)
+    (record { number = number; token = Some token; expected = symbol_expected FpageOrEnd (word_in Fpage size token) }) (same_symbol Fpage size token) (counted size most tokens (number + 1))
 
 if_some : {A : Type 0} (b : Bool) (o : Option A) → is_some (cond b o None) ≡ (b && is_some o)
 if_some true o = refl
 if_some false o = refl
 
-agrees_words : {B : Type 0} (make : List ℕ → B) → Agrees (all_by words_of make) [] 64
-unfolding words_of
-agrees_words make =
-    record { agrees = λ tokens number. made (words_of tokens) make ∙ if_some (nat_le (length tokens) 64) (numbers_of tokens) ∙ counted 64 tokens number }
+agrees_fpages : {B : Type 0} {size : PageSize} (make : List ℕ → B) → Agrees size (all_by (fpages_of size) make) [] Fpages
+unfolding fpages_of
+agrees_fpages {size} make =
+    record { agrees = λ tokens number. made (fpages_of size tokens) make ∙ if_some (nat_le (length tokens) 64) (each_fpage size tokens) ∙ counted size 64 tokens number }
+
+-- MESSAGES
+
+-- a row has words with these tokens just where nothing stops
+row_ends : (size : PageSize) (tokens : List (List ℕ)) (row : Row) (number : ℕ) → is_some (result_ok (all_added size tokens row >>= λ r. Ok (row_words r))) ≡ ends (row_stop size number tokens row)
+row_ends size [] row number = refl
+row_ends size (token ∷ tokens) row number =
+    elim (row_added size token row) as (λ (r : Result Row Reason). is_some (result_ok ((r >>= λ next. all_added size tokens next) >>= λ x. Ok (row_words x))) ≡ ends (row_or_stop number token WordOrEnd r (λ next. row_stop size (number + 1) tokens next))) [
+      | Ok next ↦ row_ends size tokens next (number + 1)
+      | Err reason ↦ refl
+    ]
+
+message_ends : (size : PageSize) (tokens : List (List ℕ)) (number : ℕ) → is_some (words_of size tokens) ≡ ends (message_stop size number tokens)
+unfolding words_of message_words_in
+message_ends size [] number = refl
+message_ends size (token ∷ tokens) number =
+    elim (row_begun token) as (λ (r : Result Row Reason). is_some (result_ok (r >>= λ begun. all_added size tokens begun >>= λ row. Ok (row_words row))) ≡ ends (row_or_stop number token TagOrEnd r (λ row. row_stop size (number + 1) tokens row))) [
+      | Ok row ↦ row_ends size tokens row (number + 1)
+      | Err reason ↦ refl
+    ]
+
+agrees_message : {B : Type 0} {size : PageSize} (make : List ℕ → B) → Agrees size (all_by (words_of size) make) [] Message
+agrees_message {size} make = record { agrees = λ tokens number. made (words_of size tokens) make ∙ message_ends size tokens number }
 
 -- KINDS
 
-same_thread : (token : List ℕ) → is_some (thread_of token) ≡ is_of ThreadNumber token
+same_thread : (size : PageSize) (token : List ℕ) → is_some (thread_of token) ≡ is_of size ThreadNumber token
 unfolding is_of
-same_thread token = refl
+same_thread size token = refl
 
-same_space : (token : List ℕ) → is_some (new_space_of token) ≡ is_of ThreadOrNew token
+same_space : (size : PageSize) (token : List ℕ) → is_some (new_space_of token) ≡ is_of size ThreadOrNew token
 unfolding is_of
-same_space token = refl
+same_space size token = refl
 
-same_pager : (token : List ℕ) → is_some (nil_or_thread_of token) ≡ is_of ThreadOrNil token
+same_pager : (size : PageSize) (token : List ℕ) → is_some (nil_or_thread_of token) ≡ is_of size ThreadOrNil token
 unfolding is_of
-same_pager token = refl
+same_pager size token = refl
 
-same_partner : (token : List ℕ) → is_some (partner_of token) ≡ is_of ThreadNilOrAny token
+same_partner : (size : PageSize) (token : List ℕ) → is_some (partner_of token) ≡ is_of size ThreadNilOrAny token
 unfolding is_of
-same_partner token = refl
+same_partner size token = refl
 
-same_number : (token : List ℕ) → is_some (number_of token) ≡ is_of Number token
+same_number : (size : PageSize) (token : List ℕ) → is_some (number_of token) ≡ is_of size Number token
 unfolding is_of
-same_number token = refl
+same_number size token = refl
 
-same_rights : (token : List ℕ) → is_some (rights_of token) ≡ is_of Rights token
+same_rights : (size : PageSize) (token : List ℕ) → is_some (rights_of token) ≡ is_of size Rights token
 unfolding is_of
-same_rights token = refl
+same_rights size token = refl
 
 -- COMMANDS
 
-last_rights : Agrees last_rights_of (Rights ∷ []) 0
-last_rights = record { agrees = λ tokens number. (agrees_step rights_of Rights same_rights agrees_end (λ r. r)).agrees tokens number }
+last_rights : (size : PageSize) → Agrees size last_rights_of (Rights ∷ []) Nothing
+last_rights size = record { agrees = λ tokens number. (agrees_step rights_of Rights (same_rights size) (agrees_end size) (λ r. r)).agrees tokens number }
 
-by_rights : {B : Type 0} (make : RightsSet → B) → Agrees (all_by last_rights_of make) (Rights ∷ []) 0
-by_rights make = agrees_all last_rights_of make _ 0 last_rights
+by_rights : {B : Type 0} {size : PageSize} (make : RightsSet → B) → Agrees size (all_by last_rights_of make) (Rights ∷ []) Nothing
+by_rights {B} {size} make = agrees_all size last_rights_of make _ Nothing (last_rights size)
 
-by_thread : {B C : Type 0} {rest : B → List (List ℕ) → Option C} {kinds : List TokenKind} {words : ℕ} → ((b : B) → Agrees (rest b) kinds words) → (make : ℕ → B) → Agrees ((thread_of ▹ rest) make) (ThreadNumber ∷ kinds) words
-by_thread agree make = agrees_step thread_of ThreadNumber same_thread agree make
+by_thread : {B C : Type 0} {size : PageSize} {rest : B → List (List ℕ) → Option C} {kinds : List TokenKind} {last : Rest} → ((b : B) → Agrees size (rest b) kinds last) → (make : ℕ → B) → Agrees size ((thread_of ▹ rest) make) (ThreadNumber ∷ kinds) last
+by_thread {B} {C} {size} agree make = agrees_step thread_of ThreadNumber (same_thread size) agree make
 
-by_space : {B C : Type 0} {rest : B → List (List ℕ) → Option C} {kinds : List TokenKind} {words : ℕ} → ((b : B) → Agrees (rest b) kinds words) → (make : _ → B) → Agrees ((new_space_of ▹ rest) make) (ThreadOrNew ∷ kinds) words
-by_space agree make = agrees_step new_space_of ThreadOrNew same_space agree make
+by_space : {B C : Type 0} {size : PageSize} {rest : B → List (List ℕ) → Option C} {kinds : List TokenKind} {last : Rest} → ((b : B) → Agrees size (rest b) kinds last) → (make : _ → B) → Agrees size ((new_space_of ▹ rest) make) (ThreadOrNew ∷ kinds) last
+by_space {B} {C} {size} agree make = agrees_step new_space_of ThreadOrNew (same_space size) agree make
 
-by_pager : {B C : Type 0} {rest : B → List (List ℕ) → Option C} {kinds : List TokenKind} {words : ℕ} → ((b : B) → Agrees (rest b) kinds words) → (make : _ → B) → Agrees ((nil_or_thread_of ▹ rest) make) (ThreadOrNil ∷ kinds) words
-by_pager agree make = agrees_step nil_or_thread_of ThreadOrNil same_pager agree make
+by_pager : {B C : Type 0} {size : PageSize} {rest : B → List (List ℕ) → Option C} {kinds : List TokenKind} {last : Rest} → ((b : B) → Agrees size (rest b) kinds last) → (make : _ → B) → Agrees size ((nil_or_thread_of ▹ rest) make) (ThreadOrNil ∷ kinds) last
+by_pager {B} {C} {size} agree make = agrees_step nil_or_thread_of ThreadOrNil (same_pager size) agree make
 
-by_partner : {B C : Type 0} {rest : B → List (List ℕ) → Option C} {kinds : List TokenKind} {words : ℕ} → ((b : B) → Agrees (rest b) kinds words) → (make : _ → B) → Agrees ((partner_of ▹ rest) make) (ThreadNilOrAny ∷ kinds) words
-by_partner agree make = agrees_step partner_of ThreadNilOrAny same_partner agree make
+by_partner : {B C : Type 0} {size : PageSize} {rest : B → List (List ℕ) → Option C} {kinds : List TokenKind} {last : Rest} → ((b : B) → Agrees size (rest b) kinds last) → (make : _ → B) → Agrees size ((partner_of ▹ rest) make) (ThreadNilOrAny ∷ kinds) last
+by_partner {B} {C} {size} agree make = agrees_step partner_of ThreadNilOrAny (same_partner size) agree make
 
-by_number : {B C : Type 0} {rest : B → List (List ℕ) → Option C} {kinds : List TokenKind} {words : ℕ} → ((b : B) → Agrees (rest b) kinds words) → (make : ℕ → B) → Agrees ((number_of ▹ rest) make) (Number ∷ kinds) words
-by_number agree make = agrees_step number_of Number same_number agree make
+by_number : {B C : Type 0} {size : PageSize} {rest : B → List (List ℕ) → Option C} {kinds : List TokenKind} {last : Rest} → ((b : B) → Agrees size (rest b) kinds last) → (make : ℕ → B) → Agrees size ((number_of ▹ rest) make) (Number ∷ kinds) last
+by_number {B} {C} {size} agree make = agrees_step number_of Number (same_number size) agree make
+
+by_symbol : {B C : Type 0} {size : PageSize} (kind : WordKind) {rest : B → List (List ℕ) → Option C} {kinds : List TokenKind} {last : Rest} → ((b : B) → Agrees size (rest b) kinds last) → (make : ℕ → B)
+    → Agrees size ((symbol_of kind size ▹ rest) make) (Symbol kind ∷ kinds) last
+by_symbol {B} {C} {size} kind agree make = agrees_step (symbol_of kind size) (Symbol kind) (same_symbol kind size) agree make
 
 abbrev region_from : ℕ → ℕ → ℕ → RightsSet → Delegated
 region_from s t c r = record { source = s; target = t; count = c; rights = r }
 
-region_kinds : Agrees region_of (Number ∷ Number ∷ Number ∷ Rights ∷ []) 0
+region_kinds : (size : PageSize) → Agrees size region_of (Number ∷ Number ∷ Number ∷ Rights ∷ []) Nothing
 unfolding region_of
-region_kinds = record { agrees = λ tokens number. (by_number (by_number (by_number by_rights)) region_from).agrees tokens number }
+region_kinds size = record { agrees = λ tokens number. (by_number (by_number (by_number by_rights)) region_from).agrees tokens number }
 
-by_region : {B : Type 0} (make : Delegated → B) → Agrees (all_by region_of make) (Number ∷ Number ∷ Number ∷ Rights ∷ []) 0
-by_region make = agrees_all region_of make _ 0 region_kinds
+by_region : {B : Type 0} {size : PageSize} (make : Delegated → B) → Agrees size (all_by region_of make) (Number ∷ Number ∷ Number ∷ Rights ∷ []) Nothing
+by_region {B} {size} make = agrees_all size region_of make _ Nothing (region_kinds size)
 
 -- LINES
 
 -- a command reads just what its form lets through
-abbrev Reads : {A E : Type 0} → List ℕ → List (List ℕ) → Result A E → Option Shape → Type 0
-Reads name tokens asked shape = is_ok asked ≡ ends (shape_stop shape name tokens)
+abbrev Reads : {A E : Type 0} → PageSize → List ℕ → List (List ℕ) → Result A E → Option Shape → Type 0
+Reads size name tokens asked shape = is_ok asked ≡ ends (shape_stop size shape name tokens)
 
-choose : {A E : Type 0} (name : List ℕ) (tokens : List (List ℕ)) (b : Bool) (x y : Result A E) (f g : Option Shape) → Reads name tokens x f → Reads name tokens y g → Reads name tokens (cond b x y) (cond b f g)
-choose name tokens true x y f g p q = p
-choose name tokens false x y f g p q = q
+choose : {A E : Type 0} (size : PageSize) (name : List ℕ) (tokens : List (List ℕ)) (b : Bool) (x y : Result A E) (f g : Option Shape) → Reads size name tokens x f → Reads size name tokens y g → Reads size name tokens (cond b x y) (cond b f g)
+choose size name tokens true x y f g p q = p
+choose size name tokens false x y f g p q = q
 
 one : {A E : Type 0} (o : Option A) (fault : E) (stop : Option Place) → is_some o ≡ ends stop → is_ok (ok_or o fault) ≡ ends stop
 one None fault stop same = same
 one (Some a) fault stop same = same
 
-reads : (name : List ℕ) (tokens : List (List ℕ)) → is_ok (command_of (name ∷ tokens)) ≡ ends (shape_stop (shape_of name) name tokens)
+reads : (size : PageSize) (name : List ℕ) (tokens : List (List ℕ)) → is_ok (command_of size (name ∷ tokens)) ≡ ends (shape_stop size (shape_of name) name tokens)
 unfolding command_of
-reads name tokens =
-    choose name tokens (is_word (codes "thread") name) _ _ _ _ (one _ _ _ ((by_thread (by_space (by_pager agrees_end)) _).agrees tokens 2))
-    (choose name tokens (is_word (codes "setpager") name) _ _ _ _ (one _ _ _ ((by_thread (by_pager agrees_end) _).agrees tokens 2))
-    (choose name tokens (is_word (codes "delete") name) _ _ _ _ (one _ _ _ ((by_thread agrees_end _).agrees tokens 2))
-    (choose name tokens (is_word (codes "recv") name) _ _ _ _ (one _ _ _ ((by_thread (by_partner (by_number agrees_end)) _).agrees tokens 2))
-    (choose name tokens (is_word (codes "send") name) _ _ _ _ (one _ _ _ ((by_thread (by_partner agrees_words) _).agrees tokens 2))
-    (choose name tokens (is_word (codes "ipc") name) _ _ _ _ (one _ _ _ ((by_thread (by_partner (by_partner (by_number (by_number agrees_words)))) _).agrees tokens 2))
-    (choose name tokens (is_word (codes "delegate") name) _ _ _ _ (one _ _ _ ((by_thread (by_partner by_region) _).agrees tokens 2))
-    (choose name tokens (is_word (codes "part") name) _ _ _ _ (one _ _ _ ((by_thread (by_partner (by_number by_region)) _).agrees tokens 2))
-    (choose name tokens (is_word (codes "unmap") name) _ _ _ _ (one _ _ _ ((by_thread (by_number agrees_words) _).agrees tokens 2))
-    (choose name tokens (is_word (codes "show") name) _ _ _ _ (one _ _ _ ((by_thread (by_number (by_number agrees_end)) _).agrees tokens 2))
-    (choose name tokens (is_word (codes "parent") name) _ _ _ _ (one _ _ _ ((by_thread (by_number agrees_end) _).agrees tokens 2))
-    (choose name tokens (is_word (codes "fault") name) _ _ _ _ (one _ _ _ ((by_thread (by_number (by_number by_rights)) _).agrees tokens 2))
-    (choose name tokens (is_word (codes "region") name) _ _ _ _ (one _ _ _ ((by_thread (by_number (by_number (by_number by_rights))) _).agrees tokens 2))
-    (choose name tokens (is_word (codes "serve") name) _ _ _ _ (one _ _ _ ((by_thread agrees_end _).agrees tokens 2))
-    (choose name tokens (is_word (codes "steps") name) _ _ _ None (one _ _ _ ((agrees_end _).agrees tokens 2)) refl))))))))))))))
+reads size name tokens =
+    choose size name tokens (is_word (codes "thread") name) _ _ _ _ (one _ _ _ ((by_thread (by_space (by_pager (agrees_end size))) _).agrees tokens 2))
+    (choose size name tokens (is_word (codes "setpager") name) _ _ _ _ (one _ _ _ ((by_thread (by_pager (agrees_end size)) _).agrees tokens 2))
+    (choose size name tokens (is_word (codes "delete") name) _ _ _ _ (one _ _ _ ((by_thread (agrees_end size) _).agrees tokens 2))
+    (choose size name tokens (is_word (codes "recv") name) _ _ _ _ (one _ _ _ ((by_thread (by_partner (by_symbol Window (agrees_end size))) _).agrees tokens 2))
+    (choose size name tokens (is_word (codes "send") name) _ _ _ _ (one _ _ _ ((by_thread (by_partner agrees_message) _).agrees tokens 2))
+    (choose size name tokens (is_word (codes "ipc") name) _ _ _ _ (one _ _ _ ((by_thread (by_partner (by_partner (by_symbol Timeouts (by_symbol Window agrees_message)))) _).agrees tokens 2))
+    (choose size name tokens (is_word (codes "delegate") name) _ _ _ _ (one _ _ _ ((by_thread (by_partner by_region) _).agrees tokens 2))
+    (choose size name tokens (is_word (codes "part") name) _ _ _ _ (one _ _ _ ((by_thread (by_partner (by_number by_region)) _).agrees tokens 2))
+    (choose size name tokens (is_word (codes "unmap") name) _ _ _ _ (one _ _ _ ((by_thread (by_number agrees_fpages) _).agrees tokens 2))
+    (choose size name tokens (is_word (codes "show") name) _ _ _ _ (one _ _ _ ((by_thread (by_number (by_number (agrees_end size))) _).agrees tokens 2))
+    (choose size name tokens (is_word (codes "parent") name) _ _ _ _ (one _ _ _ ((by_thread (by_number (agrees_end size)) _).agrees tokens 2))
+    (choose size name tokens (is_word (codes "fault") name) _ _ _ _ (one _ _ _ ((by_thread (by_number (by_number by_rights)) _).agrees tokens 2))
+    (choose size name tokens (is_word (codes "region") name) _ _ _ _ (one _ _ _ ((by_thread (by_number (by_number (by_number by_rights))) _).agrees tokens 2))
+    (choose size name tokens (is_word (codes "serve") name) _ _ _ _ (one _ _ _ ((by_thread (agrees_end size) _).agrees tokens 2))
+    (choose size name tokens (is_word (codes "steps") name) _ _ _ None (one _ _ _ ((agrees_end size _).agrees tokens 2)) refl))))))))))))))
 
 -- a line is a command just where nothing stops
-command_ends : (tokens : List (List ℕ)) → is_ok (command_of tokens) ≡ ends (stop_of tokens)
+command_ends : (size : PageSize) (tokens : List (List ℕ)) → is_ok (command_of size tokens) ≡ ends (stop_of size tokens)
 unfolding command_of
-command_ends [] = refl
-command_ends (name ∷ tokens) = reads name tokens
+command_ends size [] = refl
+command_ends size (name ∷ tokens) = reads size name tokens
 
 -- WHAT GOES ON
 
 -- each of these kinds has a token that is right
-abbrev AreFit : List TokenKind → Type 0
-AreFit [] = Unit {0}
-AreFit (kind ∷ kinds) = ((token : List ℕ) × (is_of kind token ≡ true)) × AreFit kinds
+abbrev AreFit : PageSize → List TokenKind → Type 0
+AreFit size [] = Unit {0}
+AreFit size (kind ∷ kinds) = ((token : List ℕ) × (is_of size kind token ≡ true)) × AreFit size kinds
+
+-- the rest may be left out
+rest_free : (size : PageSize) (number : ℕ) (last : Rest) → ends (rest_stop size number last []) ≡ true
+rest_free size number Nothing = refl
+rest_free size number Message = refl
+rest_free size number Fpages = refl
 
 -- tokens that are right to the end
-fill : (kinds : List TokenKind) (number words : ℕ) → AreFit kinds → (more : List (List ℕ)) × (ends (kinds_stop number kinds words more) ≡ true)
-fill [] number words given = ([], refl)
-fill (kind ∷ kinds) number words given =
-    let rest = fill kinds (number + 1) words given.1 in
-    (given.0.0 ∷ rest.0, ap (λ b. ends (cond b (kinds_stop (number + 1) kinds words rest.0) (wrong number given.0.0 (Token kind)))) given.0.1 ∙ rest.1)
+fill : (size : PageSize) (kinds : List TokenKind) (number : ℕ) (last : Rest) → AreFit size kinds → (more : List (List ℕ)) × (ends (kinds_stop size number kinds last more) ≡ true)
+fill size [] number last given = ([], rest_free size number last)
+fill size (kind ∷ kinds) number last given =
+    let rest = fill size kinds (number + 1) last given.1 in
+    (given.0.0 ∷ rest.0, ap (λ b. ends (cond b (kinds_stop size (number + 1) kinds last rest.0) (wrong number given.0.0 (expected_at size kind given.0.0)))) given.0.1 ∙ rest.1)
 
 -- Of what a function says of tokens, it stops at this one, the first of which has this number: tokens may go on before it, and not with it.
 record StopsIn (S : List (List ℕ) → Option Place) (first : ℕ) (tokens : List (List ℕ)) (place : Place) (token : List ℕ) : Type 0 where
@@ -240,177 +284,227 @@ no_stop place is = false≢true (sym (ap ends is))
 
 -- THE STOP
 
-word_case : (b : Bool) (most first : ℕ) (token : List ℕ) (tokens : List (List ℕ)) (place : Place) → is_of Number token ≡ b
-    → cond b (words_stop (first + 1) most tokens) (Some (record { number = first; token = Some token; expected = NumberOrEnd })) ≡ Some place
-    → (words_stop (first + 1) most tokens ≡ Some place → IsAt place.token (words_stop (first + 1) most) (first + 1) tokens place)
-    → IsAt place.token (words_stop first (suc most)) first (token ∷ tokens) place
-word_case true most first token tokens place fit is rest =
-    later place.token (words_stop first (suc most)) (words_stop (first + 1) most) first token tokens place
-    (λ xs. ap (λ b. cond b (words_stop (first + 1) most xs) (Some (record { number = first; token = Some token; expected = NumberOrEnd }))) fit) (rest is)
-word_case false most first token tokens place fit is rest =
-    subst (λ (p : Place). IsAt p.token (words_stop first (suc most)) first (token ∷ tokens) p) (same_Some _ _ is)
-    (here (words_stop first (suc most)) first token tokens _ refl ([], refl) (λ more. ap (λ b. ends (cond b (words_stop (first + 1) most more) (Some (record { number = first; token = Some token; expected = NumberOrEnd })))) fit))
+-- a stop at the first token
+stop_here : (S : List (List ℕ) → Option Place) (first : ℕ) (token : List ℕ) (tokens : List (List ℕ)) (expected : Expected) (place : Place) → Some (record { number = first; token = Some token; expected = expected }) ≡ Some place
+    → (more : List (List ℕ)) × (ends (S more) ≡ true) → ((more : List (List ℕ)) → ends (S (token ∷ more)) ≡ false) → IsAt place.token S first (token ∷ tokens) place
+stop_here S first token tokens expected place is goes stops =
+    subst (λ (p : Place). IsAt p.token S first (token ∷ tokens) p) (same_Some _ _ is) (here S first token tokens _ refl goes stops)
 
-words_at : (most first : ℕ) (tokens : List (List ℕ)) (place : Place) → words_stop first most tokens ≡ Some place → IsAt place.token (words_stop first most) first tokens place
-words_at most first [] place is = absurd (no_stop place is)
-words_at zero first (token ∷ tokens) place is =
-    subst (λ (p : Place). IsAt p.token (words_stop first zero) first (token ∷ tokens) p) (same_Some _ _ is)
-    (here (words_stop first zero) first token tokens _ refl ([], refl) (λ more. refl))
-words_at (suc most) first (token ∷ tokens) place is =
-    word_case (is_of Number token) most first token tokens place refl is (λ h. words_at most (first + 1) tokens place h)
+end_at : (first : ℕ) (tokens : List (List ℕ)) (place : Place) → end_stop first tokens ≡ Some place → IsAt place.token (end_stop first) first tokens place
+end_at first [] place is = absurd (no_stop place is)
+end_at first (token ∷ tokens) place is = stop_here (end_stop first) first token tokens LineEnd place is ([], refl) (λ more. refl)
 
-kind_case : (b : Bool) (kind : TokenKind) (kinds : List TokenKind) (words first : ℕ) (token : List ℕ) (tokens : List (List ℕ)) (place : Place) → AreFit (kind ∷ kinds) → is_of kind token ≡ b
-    → cond b (kinds_stop (first + 1) kinds words tokens) (Some (record { number = first; token = Some token; expected = Token kind })) ≡ Some place
-    → (kinds_stop (first + 1) kinds words tokens ≡ Some place → IsAt place.token (kinds_stop (first + 1) kinds words) (first + 1) tokens place)
-    → IsAt place.token (kinds_stop first (kind ∷ kinds) words) first (token ∷ tokens) place
-kind_case true kind kinds words first token tokens place given fit is rest =
-    later place.token (kinds_stop first (kind ∷ kinds) words) (kinds_stop (first + 1) kinds words) first token tokens place
-    (λ xs. ap (λ b. cond b (kinds_stop (first + 1) kinds words xs) (Some (record { number = first; token = Some token; expected = Token kind }))) fit) (rest is)
-kind_case false kind kinds words first token tokens place given fit is rest =
-    subst (λ (p : Place). IsAt p.token (kinds_stop first (kind ∷ kinds) words) first (token ∷ tokens) p) (same_Some _ _ is)
-    (here (kinds_stop first (kind ∷ kinds) words) first token tokens _ refl (fill (kind ∷ kinds) first words given)
-    (λ more. ap (λ b. ends (cond b (kinds_stop (first + 1) kinds words more) (Some (record { number = first; token = Some token; expected = Token kind })))) fit))
+fpage_case : (b : Bool) (size : PageSize) (most first : ℕ) (token : List ℕ) (tokens : List (List ℕ)) (place : Place) → is_of size (Symbol Fpage) token ≡ b
+    → cond b (fpages_stop size (first + 1) most tokens) (wrong first token (symbol_expected FpageOrEnd (word_in Fpage size token))) ≡ Some place
+    → (fpages_stop size (first + 1) most tokens ≡ Some place → IsAt place.token (fpages_stop size (first + 1) most) (first + 1) tokens place)
+    → IsAt place.token (fpages_stop size first (suc most)) first (token ∷ tokens) place
+fpage_case true size most first token tokens place fit is rest =
+    later place.token (fpages_stop size first (suc most)) (fpages_stop size (first + 1) most) first token tokens place
+    (λ xs. ap (λ b. cond b (fpages_stop size (first + 1) most xs) (wrong first token (symbol_expected FpageOrEnd (word_in Fpage size token)))) fit) (rest is)
+fpage_case false size most first token tokens place fit is rest =
+    stop_here (fpages_stop size first (suc most)) first token tokens _ place is ([], refl)
+    (λ more. ap (λ b. ends (cond b (fpages_stop size (first + 1) most more) (wrong first token (symbol_expected FpageOrEnd (word_in Fpage size token))))) fit)
 
-kinds_at : (kinds : List TokenKind) (words first : ℕ) (tokens : List (List ℕ)) (place : Place) → AreFit kinds → kinds_stop first kinds words tokens ≡ Some place → IsAt place.token (kinds_stop first kinds words) first tokens place
-kinds_at [] words first tokens place given is = words_at words first tokens place is
-kinds_at (kind ∷ kinds) words first [] place given is =
+fpages_at : (size : PageSize) (most first : ℕ) (tokens : List (List ℕ)) (place : Place) → fpages_stop size first most tokens ≡ Some place → IsAt place.token (fpages_stop size first most) first tokens place
+fpages_at size most first [] place is = absurd (no_stop place is)
+fpages_at size zero first (token ∷ tokens) place is = stop_here (fpages_stop size first zero) first token tokens LineEnd place is ([], refl) (λ more. refl)
+fpages_at size (suc most) first (token ∷ tokens) place is =
+    fpage_case (is_of size (Symbol Fpage) token) size most first token tokens place refl is (λ h. fpages_at size most (first + 1) tokens place h)
+
+row_case : (r : Result Row Reason) (size : PageSize) (otherwise : Expected) (S : List (List ℕ) → Option Place) (first : ℕ) (token : List ℕ) (tokens : List (List ℕ)) (place : Place)
+    → ((xs : List (List ℕ)) → S (token ∷ xs) ≡ row_or_stop first token otherwise r (λ next. row_stop size (first + 1) xs next))
+    → ends (S []) ≡ true → row_or_stop first token otherwise r (λ next. row_stop size (first + 1) tokens next) ≡ Some place
+    → ((next : Row) → row_stop size (first + 1) tokens next ≡ Some place → IsAt place.token (λ xs. row_stop size (first + 1) xs next) (first + 1) tokens place)
+    → IsAt place.token S first (token ∷ tokens) place
+row_case (Ok next) size otherwise S first token tokens place same free is rest = later place.token S (λ xs. row_stop size (first + 1) xs next) first token tokens place same (rest next is)
+row_case (Err reason) size otherwise S first token tokens place same free is rest =
+    stop_here S first token tokens _ place is ([], free) (λ more. ap ends (same more))
+
+row_at : (size : PageSize) (first : ℕ) (tokens : List (List ℕ)) (row : Row) (place : Place) → row_stop size first tokens row ≡ Some place → IsAt place.token (λ xs. row_stop size first xs row) first tokens place
+row_at size first [] row place is = absurd (no_stop place is)
+row_at size first (token ∷ tokens) row place is =
+    row_case (row_added size token row) size WordOrEnd (λ xs. row_stop size first xs row) first token tokens place (λ xs. refl) refl is (λ next h. row_at size (first + 1) tokens next place h)
+
+message_at : (size : PageSize) (first : ℕ) (tokens : List (List ℕ)) (place : Place) → message_stop size first tokens ≡ Some place → IsAt place.token (message_stop size first) first tokens place
+message_at size first [] place is = absurd (no_stop place is)
+message_at size first (token ∷ tokens) place is =
+    row_case (row_begun token) size TagOrEnd (message_stop size first) first token tokens place (λ xs. refl) refl is (λ next h. row_at size (first + 1) tokens next place h)
+
+rest_at : (size : PageSize) (last : Rest) (first : ℕ) (tokens : List (List ℕ)) (place : Place) → rest_stop size first last tokens ≡ Some place → IsAt place.token (rest_stop size first last) first tokens place
+rest_at size Nothing first tokens place is = end_at first tokens place is
+rest_at size Message first tokens place is = message_at size first tokens place is
+rest_at size Fpages first tokens place is = fpages_at size 64 first tokens place is
+
+kind_case : (b : Bool) (size : PageSize) (kind : TokenKind) (kinds : List TokenKind) (last : Rest) (first : ℕ) (token : List ℕ) (tokens : List (List ℕ)) (place : Place) → AreFit size (kind ∷ kinds) → is_of size kind token ≡ b
+    → cond b (kinds_stop size (first + 1) kinds last tokens) (wrong first token (expected_at size kind token)) ≡ Some place
+    → (kinds_stop size (first + 1) kinds last tokens ≡ Some place → IsAt place.token (kinds_stop size (first + 1) kinds last) (first + 1) tokens place)
+    → IsAt place.token (kinds_stop size first (kind ∷ kinds) last) first (token ∷ tokens) place
+kind_case true size kind kinds last first token tokens place given fit is rest =
+    later place.token (kinds_stop size first (kind ∷ kinds) last) (kinds_stop size (first + 1) kinds last) first token tokens place
+    (λ xs. ap (λ b. cond b (kinds_stop size (first + 1) kinds last xs) (wrong first token (expected_at size kind token))) fit) (rest is)
+kind_case false size kind kinds last first token tokens place given fit is rest =
+    stop_here (kinds_stop size first (kind ∷ kinds) last) first token tokens _ place is (fill size (kind ∷ kinds) first last given)
+    (λ more. ap (λ b. ends (cond b (kinds_stop size (first + 1) kinds last more) (wrong first token (expected_at size kind token)))) fit)
+
+kinds_at : (size : PageSize) (kinds : List TokenKind) (last : Rest) (first : ℕ) (tokens : List (List ℕ)) (place : Place) → AreFit size kinds → kinds_stop size first kinds last tokens ≡ Some place → IsAt place.token (kinds_stop size first kinds last) first tokens place
+kinds_at size [] last first tokens place given is = rest_at size last first tokens place is
+kinds_at size (kind ∷ kinds) last first [] place given is =
     let n : first ≡ first + length {A = List ℕ} [] = omega arith in
-    subst (λ (p : Place). IsAt p.token (kinds_stop first (kind ∷ kinds) words) first [] p) (same_Some _ _ is) (n, fill (kind ∷ kinds) first words given)
-kinds_at (kind ∷ kinds) words first (token ∷ tokens) place given is =
-    kind_case (is_of kind token) kind kinds words first token tokens place given refl is (λ h. kinds_at kinds words (first + 1) tokens place given.1 h)
+    subst (λ (p : Place). IsAt p.token (kinds_stop size first (kind ∷ kinds) last) first [] p) (same_Some _ _ is) (n, fill size (kind ∷ kinds) first last given)
+kinds_at size (kind ∷ kinds) last first (token ∷ tokens) place given is =
+    kind_case (is_of size kind token) size kind kinds last first token tokens place given refl is (λ h. kinds_at size kinds last (first + 1) tokens place given.1 h)
 
 -- THE FORMS
 
-abbrev Fit : TokenKind → Type 0
-Fit kind = (token : List ℕ) × (is_of kind token ≡ true)
+abbrev Fit : PageSize → TokenKind → Type 0
+Fit size kind = (token : List ℕ) × (is_of size kind token ≡ true)
 
-fit_thread : Fit ThreadNumber
+fit_thread : (size : PageSize) → Fit size ThreadNumber
 unfolding is_of thread_of number_of decimal_of
-fit_thread = (codes "1", refl)
+fit_thread size = (codes "1", refl)
 
-fit_new : Fit ThreadOrNew
+fit_new : (size : PageSize) → Fit size ThreadOrNew
 unfolding is_of new_space_of
-fit_new = (codes "new", refl)
+fit_new size = (codes "new", refl)
 
-fit_nil : Fit ThreadOrNil
+fit_nil : (size : PageSize) → Fit size ThreadOrNil
 unfolding is_of nil_or_thread_of
-fit_nil = (codes "nil", refl)
+fit_nil size = (codes "nil", refl)
 
-fit_any : Fit ThreadNilOrAny
+fit_any : (size : PageSize) → Fit size ThreadNilOrAny
 unfolding is_of partner_of
-fit_any = (codes "any", refl)
+fit_any size = (codes "any", refl)
 
-fit_number : Fit Number
+fit_number : (size : PageSize) → Fit size Number
 unfolding is_of number_of decimal_of
-fit_number = (codes "0", refl)
+fit_number size = (codes "0", refl)
 
-fit_rights : Fit Rights
+fit_rights : (size : PageSize) → Fit size Rights
 unfolding is_of rights_of
-fit_rights = (codes "rwx", refl)
+fit_rights size = (codes "rwx", refl)
 
-abbrev IsFit : Option Shape → Type 0
-IsFit None = Unit {0}
-IsFit (Some shape) = AreFit shape.kinds
+-- a number fits wherever a symbolic token does
+fit_symbol : (kind : WordKind) (size : PageSize) → Fit size (Symbol kind)
+unfolding is_of symbol_of number_of decimal_of
+fit_symbol kind size = (codes "0", refl)
 
-fit_choose : (b : Bool) (f g : Option Shape) → IsFit f → IsFit g → IsFit (cond b f g)
-fit_choose true f g p q = p
-fit_choose false f g p q = q
+abbrev IsFit : PageSize → Option Shape → Type 0
+IsFit size None = Unit {0}
+IsFit size (Some shape) = AreFit size shape.kinds
 
-pager_fit : (name : List ℕ) → IsFit (pager_shape_of name)
-pager_fit name =
-    fit_choose (is_word (codes "fault") name) _ _ (fit_thread, (fit_number, (fit_number, (fit_rights, tt))))
-    (fit_choose (is_word (codes "region") name) _ _ (fit_thread, (fit_number, (fit_number, (fit_number, (fit_rights, tt)))))
-    (fit_choose (is_word (codes "serve") name) _ _ (fit_thread, tt)
-    (fit_choose (is_word (codes "steps") name) _ None tt tt)))
+fit_choose : (size : PageSize) (b : Bool) (f g : Option Shape) → IsFit size f → IsFit size g → IsFit size (cond b f g)
+fit_choose size true f g p q = p
+fit_choose size false f g p q = q
 
-all_fit : (name : List ℕ) → IsFit (shape_of name)
-all_fit name =
-    fit_choose (is_word (codes "thread") name) _ _ (fit_thread, (fit_new, (fit_nil, tt)))
-    (fit_choose (is_word (codes "setpager") name) _ _ (fit_thread, (fit_nil, tt))
-    (fit_choose (is_word (codes "delete") name) _ _ (fit_thread, tt)
-    (fit_choose (is_word (codes "recv") name) _ _ (fit_thread, (fit_any, (fit_number, tt)))
-    (fit_choose (is_word (codes "send") name) _ _ (fit_thread, (fit_any, tt))
-    (fit_choose (is_word (codes "ipc") name) _ _ (fit_thread, (fit_any, (fit_any, (fit_number, (fit_number, tt)))))
-    (fit_choose (is_word (codes "delegate") name) _ _ (fit_thread, (fit_any, (fit_number, (fit_number, (fit_number, (fit_rights, tt))))))
-    (fit_choose (is_word (codes "part") name) _ _ (fit_thread, (fit_any, (fit_number, (fit_number, (fit_number, (fit_number, (fit_rights, tt)))))))
-    (fit_choose (is_word (codes "unmap") name) _ _ (fit_thread, (fit_number, tt))
-    (fit_choose (is_word (codes "show") name) _ _ (fit_thread, (fit_number, (fit_number, tt)))
-    (fit_choose (is_word (codes "parent") name) _ _ (fit_thread, (fit_number, tt))
-    (pager_fit name)))))))))))
+pager_fit : (size : PageSize) (name : List ℕ) → IsFit size (pager_shape_of name)
+pager_fit size name =
+    fit_choose size (is_word (codes "fault") name) _ _ (fit_thread size, (fit_number size, (fit_number size, (fit_rights size, tt))))
+    (fit_choose size (is_word (codes "region") name) _ _ (fit_thread size, (fit_number size, (fit_number size, (fit_number size, (fit_rights size, tt)))))
+    (fit_choose size (is_word (codes "serve") name) _ _ (fit_thread size, tt)
+    (fit_choose size (is_word (codes "steps") name) _ None tt tt)))
+
+all_fit : (size : PageSize) (name : List ℕ) → IsFit size (shape_of name)
+all_fit size name =
+    fit_choose size (is_word (codes "thread") name) _ _ (fit_thread size, (fit_new size, (fit_nil size, tt)))
+    (fit_choose size (is_word (codes "setpager") name) _ _ (fit_thread size, (fit_nil size, tt))
+    (fit_choose size (is_word (codes "delete") name) _ _ (fit_thread size, tt)
+    (fit_choose size (is_word (codes "recv") name) _ _ (fit_thread size, (fit_any size, (fit_symbol Window size, tt)))
+    (fit_choose size (is_word (codes "send") name) _ _ (fit_thread size, (fit_any size, tt))
+    (fit_choose size (is_word (codes "ipc") name) _ _ (fit_thread size, (fit_any size, (fit_any size, (fit_symbol Timeouts size, (fit_symbol Window size, tt)))))
+    (fit_choose size (is_word (codes "delegate") name) _ _ (fit_thread size, (fit_any size, (fit_number size, (fit_number size, (fit_number size, (fit_rights size, tt))))))
+    (fit_choose size (is_word (codes "part") name) _ _ (fit_thread size, (fit_any size, (fit_number size, (fit_number size, (fit_number size, (fit_number size, (fit_rights size, tt)))))))
+    (fit_choose size (is_word (codes "unmap") name) _ _ (fit_thread size, (fit_number size, tt))
+    (fit_choose size (is_word (codes "show") name) _ _ (fit_thread size, (fit_number size, (fit_number size, tt)))
+    (fit_choose size (is_word (codes "parent") name) _ _ (fit_thread size, (fit_number size, tt))
+    (pager_fit size name)))))))))))
 
 -- LINES
 
-begins : (tokens more : List (List ℕ)) → is_ok (command_of (tokens ++ more)) ≡ true → BeginsCommand tokens
-begins tokens more is = (more, is)
+begins : (size : PageSize) (tokens more : List (List ℕ)) → is_ok (command_of size (tokens ++ more)) ≡ true → BeginsCommand size tokens
+begins size tokens more is = (more, is)
 
-begins_nothing : BeginsCommand []
+begins_nothing : (size : PageSize) → BeginsCommand size []
 unfolding command_of
-begins_nothing = (codes "steps" ∷ [], refl)
+begins_nothing size = (codes "steps" ∷ [], refl)
 
-not_begun : (tokens : List (List ℕ)) → ((more : List (List ℕ)) → is_ok (command_of (tokens ++ more)) ≡ false) → BeginsCommand tokens → ⊥
-not_begun tokens never b = false≢true (sym (never b.0) ∙ b.1)
+not_begun : (size : PageSize) (tokens : List (List ℕ)) → ((more : List (List ℕ)) → is_ok (command_of size (tokens ++ more)) ≡ false) → BeginsCommand size tokens → ⊥
+not_begun size tokens never b = false≢true (sym (never b.0) ∙ b.1)
 
-stops_there : (o : Option (List ℕ)) (S : List (List ℕ) → Option Place) (name : List ℕ) (tokens : List (List ℕ)) (place : Place) → ((xs : List (List ℕ)) → is_ok (command_of (name ∷ xs)) ≡ ends (S xs)) → S tokens ≡ Some place
-    → IsAt o S 2 tokens place → StopsThere (name ∷ tokens) place o
-stops_there None S name tokens place same is at = (
+stops_there : (size : PageSize) (o : Option (List ℕ)) (S : List (List ℕ) → Option Place) (name : List ℕ) (tokens : List (List ℕ)) (place : Place) → ((xs : List (List ℕ)) → is_ok (command_of size (name ∷ xs)) ≡ ends (S xs)) → S tokens ≡ Some place
+    → IsAt o S 2 tokens place → StopsThere size (name ∷ tokens) place o
+stops_there size None S name tokens place same is at = (
   omega (arith, at.0),
-  begins (name ∷ tokens) at.1.0 (same (tokens ++ at.1.0) ∙ at.1.1),
+  begins size (name ∷ tokens) at.1.0 (same (tokens ++ at.1.0) ∙ at.1.1),
   λ h. false≢true (sym (same tokens ∙ ap ends is) ∙ h),
 )
-stops_there (Some token) S name tokens place same is at = (
+stops_there size (Some token) S name tokens place same is at = (
   name ∷ at.before,
   at.after,
   ap (λ xs. name ∷ xs) at.parts,
   omega (arith, at.number_is),
-  begins (name ∷ at.before) at.goes_on.0 (same (at.before ++ at.goes_on.0) ∙ at.goes_on.1),
-  not_begun ((name ∷ at.before) ++ token ∷ [])
-      (λ more. ap (λ xs. is_ok (command_of (name ∷ xs))) (append_assoc at.before (token ∷ []) more) ∙ same (at.before ++ token ∷ more) ∙ at.stops more),
+  begins size (name ∷ at.before) at.goes_on.0 (same (at.before ++ at.goes_on.0) ∙ at.goes_on.1),
+  not_begun size ((name ∷ at.before) ++ token ∷ [])
+      (λ more. ap (λ xs. is_ok (command_of size (name ∷ xs))) (append_assoc at.before (token ∷ []) more) ∙ same (at.before ++ token ∷ more) ∙ at.stops more),
 )
 
-shape_at : (o : Option Shape) (name : List ℕ) (tokens : List (List ℕ)) (place : Place) → shape_of name ≡ o → IsFit o → shape_stop o name tokens ≡ Some place → StopsThere (name ∷ tokens) place place.token
-shape_at None name tokens place form fit is =
-    subst (λ (p : Place). StopsThere (name ∷ tokens) p p.token) (same_Some _ _ is)
-    ([], tokens, refl, refl, begins_nothing, not_begun (name ∷ []) (λ more. reads name more ∙ ap (λ f. ends (shape_stop f name more)) form))
-shape_at (Some shape) name tokens place form fit is =
-    stops_there place.token (kinds_stop 2 shape.kinds shape.words) name tokens place (λ xs. reads name xs ∙ ap (λ f. ends (shape_stop f name xs)) form) is
-    (kinds_at shape.kinds shape.words 2 tokens place fit is)
+shape_at : (size : PageSize) (o : Option Shape) (name : List ℕ) (tokens : List (List ℕ)) (place : Place) → shape_of name ≡ o → IsFit size o → shape_stop size o name tokens ≡ Some place → StopsThere size (name ∷ tokens) place place.token
+shape_at size None name tokens place form fit is =
+    subst (λ (p : Place). StopsThere size (name ∷ tokens) p p.token) (same_Some _ _ is)
+    ([], tokens, refl, refl, begins_nothing size, not_begun size (name ∷ []) (λ more. reads size name more ∙ ap (λ f. ends (shape_stop size f name more)) form))
+shape_at size (Some shape) name tokens place form fit is =
+    stops_there size place.token (kinds_stop size 2 shape.kinds shape.rest) name tokens place (λ xs. reads size name xs ∙ ap (λ f. ends (shape_stop size f name xs)) form) is
+    (kinds_at size shape.kinds shape.rest 2 tokens place fit is)
 
-stop_case : (tokens : List (List ℕ)) (o : Option Place) → stop_of tokens ≡ o → IsStop tokens o
+stop_case : (size : PageSize) (tokens : List (List ℕ)) (o : Option Place) → stop_of size tokens ≡ o → IsStop size tokens o
 unfolding command_of
-stop_case tokens None is = command_ends tokens ∙ ap ends is
-stop_case [] (Some place) is =
-    subst (λ (p : Place). StopsThere [] p p.token) (same_Some _ _ is) (refl, begins_nothing, λ h. false≢true h)
-stop_case (name ∷ tokens) (Some place) is = shape_at (shape_of name) name tokens place refl (all_fit name) is
+stop_case size tokens None is = command_ends size tokens ∙ ap ends is
+stop_case size [] (Some place) is =
+    subst (λ (p : Place). StopsThere size [] p p.token) (same_Some _ _ is) (refl, begins_nothing size, λ h. false≢true h)
+stop_case size (name ∷ tokens) (Some place) is = shape_at size (shape_of name) name tokens place refl (all_fit size name) is
 
 -- A line's stop is where no command goes on.
-pub stop_right : (tokens : List (List ℕ)) (o : Option Place) → o ≡ stop_of tokens → IsStop tokens o
-stop_right tokens o is = stop_case tokens o (sym is)
+pub stop_right : (size : PageSize) (tokens : List (List ℕ)) (o : Option Place) → o ≡ stop_of size tokens → IsStop size tokens o
+stop_right size tokens o is = stop_case size tokens o (sym is)
 
 -- THE LOOPS
 
--- a number more than there may be
-pub words_over : (first words : ℕ) (line rest tokens : List (List ℕ)) (token : List ℕ) (at left number : ℕ) → words_stop first words line ≡ words_stop at left rest → rest ≡ token ∷ tokens → left ≡ 0 → at ≡ number
-    → Some (record { number = number; token = Some token; expected = LineEnd }) ≡ words_stop first words line
-words_over first words line rest tokens token at left number is more none there =
+-- an fpage more than there may be
+pub fpages_over : (size : PageSize) (first most : ℕ) (line rest : List (List ℕ)) (at left number : ℕ) → fpages_stop size first most line ≡ fpages_stop size at left rest → left ≡ 0 → at ≡ number
+    → end_stop number rest ≡ fpages_stop size first most line
+fpages_over size first most line [] at left number is none there = sym is
+fpages_over size first most line (token ∷ tokens) at left number is none there =
+    sym (is ∙ ap (λ m. fpages_stop size at m (token ∷ tokens)) none ∙ ap (λ (n : ℕ). wrong n token LineEnd) there)
+
+-- a token that is no fpage
+pub fpages_wrong : (size : PageSize) (first most : ℕ) (line rest tokens : List (List ℕ)) (token : List ℕ) (at left more number : ℕ) → fpages_stop size first most line ≡ fpages_stop size at left rest → rest ≡ token ∷ tokens → left ≡ suc more
+    → at ≡ number → is_of size (Symbol Fpage) token ≡ false → wrong number token (symbol_expected FpageOrEnd (word_in Fpage size token)) ≡ fpages_stop size first most line
+fpages_wrong size first most line rest tokens token at left more number is parts some there not =
     sym (
-    is ∙ ap (words_stop at left) more ∙ ap (λ m. words_stop at m (token ∷ tokens)) none
-    ∙ ap (λ (n : ℕ). wrong n token LineEnd) there
+    is ∙ ap (fpages_stop size at left) parts ∙ ap (λ m. fpages_stop size at m (token ∷ tokens)) some
+    ∙ ap (λ b. cond b (fpages_stop size (at + 1) more tokens) (wrong at token (symbol_expected FpageOrEnd (word_in Fpage size token)))) not
+    ∙ ap (λ (n : ℕ). wrong n token (symbol_expected FpageOrEnd (word_in Fpage size token))) there
     )
 
--- a token that is no number
-pub words_wrong : (first words : ℕ) (line rest tokens : List (List ℕ)) (token : List ℕ) (at left more number : ℕ) → words_stop first words line ≡ words_stop at left rest → rest ≡ token ∷ tokens → left ≡ suc more
-    → at ≡ number → is_of Number token ≡ false → Some (record { number = number; token = Some token; expected = NumberOrEnd }) ≡ words_stop first words line
-words_wrong first words line rest tokens token at left more number is parts some there not =
-    sym (
-    is ∙ ap (words_stop at left) parts ∙ ap (λ m. words_stop at m (token ∷ tokens)) some
-    ∙ ap (λ b. cond b (words_stop (at + 1) more tokens) (wrong at token NumberOrEnd)) not
-    ∙ ap (λ (n : ℕ). wrong n token NumberOrEnd) there
-    )
+-- an fpage
+pub fpages_next : (size : PageSize) (first most : ℕ) (line rest tokens : List (List ℕ)) (token : List ℕ) (at left more next : ℕ) → fpages_stop size first most line ≡ fpages_stop size at left rest → rest ≡ token ∷ tokens → left ≡ suc more
+    → at + 1 ≡ next → is_of size (Symbol Fpage) token ≡ true → fpages_stop size first most line ≡ fpages_stop size next more tokens
+fpages_next size first most line rest tokens token at left more next is parts some there fit =
+    is ∙ ap (fpages_stop size at left) parts ∙ ap (λ m. fpages_stop size at m (token ∷ tokens)) some
+    ∙ ap (λ b. cond b (fpages_stop size (at + 1) more tokens) (wrong at token (symbol_expected FpageOrEnd (word_in Fpage size token)))) fit
+    ∙ ap (λ (n : ℕ). fpages_stop size n more tokens) there
 
--- a number
-pub words_next : (first words : ℕ) (line rest tokens : List (List ℕ)) (token : List ℕ) (at left more next : ℕ) → words_stop first words line ≡ words_stop at left rest → rest ≡ token ∷ tokens → left ≡ suc more
-    → at + 1 ≡ next → is_of Number token ≡ true → words_stop first words line ≡ words_stop next more tokens
-words_next first words line rest tokens token at left more next is parts some there fit =
-    is ∙ ap (words_stop at left) parts ∙ ap (λ m. words_stop at m (token ∷ tokens)) some
-    ∙ ap (λ b. cond b (words_stop (at + 1) more tokens) (wrong at token NumberOrEnd)) fit
-    ∙ ap (λ (n : ℕ). words_stop n more tokens) there
+-- a token of a message
+pub row_next : (size : PageSize) (first number : ℕ) (begun row next : Row) (line rest tokens : List (List ℕ)) (token : List ℕ) → row_stop size first line begun ≡ row_stop size number rest row → rest ≡ token ∷ tokens
+    → row_added size token row ≡ Ok next → row_stop size first line begun ≡ row_stop size (number + 1) tokens next
+row_next size first number begun row next line rest tokens token is parts added =
+    is ∙ ap (λ ts. row_stop size number ts row) parts ∙ ap (λ (r : Result Row Reason). row_or_stop number token WordOrEnd r (λ x. row_stop size (number + 1) tokens x)) added
+
+-- a token that no message has there
+pub row_wrong : (size : PageSize) (first number : ℕ) (begun row : Row) (reason : Reason) (line rest tokens : List (List ℕ)) (token : List ℕ) → row_stop size first line begun ≡ row_stop size number rest row → rest ≡ token ∷ tokens
+    → row_added size token row ≡ Err reason → wrong number token (expected_for WordOrEnd reason) ≡ row_stop size first line begun
+row_wrong size first number begun row reason line rest tokens token is parts fails =
+    sym (is ∙ ap (λ ts. row_stop size number ts row) parts ∙ ap (λ (r : Result Row Reason). row_or_stop number token WordOrEnd r (λ x. row_stop size (number + 1) tokens x)) fails)
+
+-- the end of a message
+pub row_over : (size : PageSize) (first number : ℕ) (begun row : Row) (line rest : List (List ℕ)) → row_stop size first line begun ≡ row_stop size number rest row → rest ≡ [] → None ≡ row_stop size first line begun
+row_over size first number begun row line rest is none = sym (is ∙ ap (λ ts. row_stop size number ts row) none)

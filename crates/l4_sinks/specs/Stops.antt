@@ -1,19 +1,27 @@
 -- The token at which a line stops being a command, and what would be right there (this profile's own).
-use Rattle.std.specs.Prelude.{◌≡◌, ℕ, zero, suc, ◌+◌, List, [], ◌∷◌, ◌++◌, length, Option, Some, None, IsOk, option_map, if◌then◌else◌, codes}
+use Rattle.std.specs.Prelude.{◌≡◌, ℕ, zero, suc, ◌+◌, List, [], ◌∷◌, ◌++◌, length, Option, Some, None, Result, Ok, Err, IsOk, option_map, if◌then◌else◌, codes}
+use Rattle.l4_fpage.specs.declared.sizes.PageSize.{PageSize}
 use Rattle.l4_msg.specs.Sizes.{max_words}
+use Rattle.l4_symbols.specs.Computed.{word_in}
+use Rattle.l4_symbols.specs.Rows.{Row, row_begun, row_added}
+use Rattle.l4_symbols.specs.declared.reasons.Reason.{Reason}
+use Rattle.l4_symbols.specs.declared.reasons.Reason.TheVariants.{NoTag, Unknown, Window as NoWindow, Fpage as NoFpage, Timeouts as NoTimeouts}
+use Rattle.l4_symbols.specs.declared.words.WordKind.TheVariants.{Fpage, Window, Timeouts}
 use Rattle.l4_shell.specs.declared.kinds.TokenKind.{TokenKind}
-use Rattle.l4_shell.specs.declared.kinds.TokenKind.TheVariants.{ThreadNumber, ThreadOrNew, ThreadOrNil, ThreadNilOrAny, Number, Rights}
+use Rattle.l4_shell.specs.declared.kinds.TokenKind.TheVariants.{ThreadNumber, ThreadOrNew, ThreadOrNil, ThreadNilOrAny, Number, Symbol, Rights}
 use Rattle.l4_shell.specs.Commands.{is_word, command_of}
 use Rattle.l4_shell.specs.Kinds.{is_of}
 use Rattle.l4_sinks.specs.declared.stops.Expected.{Expected}
-use Rattle.l4_sinks.specs.declared.stops.Expected.TheVariants.{CommandName, Token, NumberOrEnd, LineEnd}
+use Rattle.l4_sinks.specs.declared.stops.Expected.TheVariants.{CommandName, Token, Because, TagOrEnd, WordOrEnd, FpageOrEnd, LineEnd}
 use Rattle.l4_sinks.specs.declared.stops.Form.{Form}
+use Rattle.l4_sinks.specs.declared.stops.Rest.{Rest}
+use Rattle.l4_sinks.specs.declared.stops.Rest.TheVariants.{Nothing, Message, Fpages}
 use Rattle.l4_sinks.specs.declared.stops.Stop.{Stop}
 
--- the tokens behind a command's name: these in turn, and then at most so many numbers
+-- the tokens behind a command's name: these in turn, and then the rest
 pub record Shape : Type 0 where
   pub kinds : List TokenKind
-  pub words : ℕ
+  pub rest : Rest
 
 -- a line stops at the token of this number, from 1, or ends before it; what would be right there
 pub record Place : Type 0 where
@@ -23,11 +31,11 @@ pub record Place : Type 0 where
 
 -- THE FORM OF EACH COMMAND
 
-abbrev pub just : List TokenKind → Option Shape
-just kinds = Some (record { kinds = kinds; words = 0 })
+abbrev pub with_rest : List TokenKind → Rest → Option Shape
+with_rest kinds rest = Some (record { kinds = kinds; rest = rest })
 
-abbrev pub with_words : List TokenKind → Option Shape
-with_words kinds = Some (record { kinds = kinds; words = max_words })
+abbrev pub just : List TokenKind → Option Shape
+just kinds = with_rest kinds Nothing
 
 abbrev pub pager_shape_of : List ℕ → Option Shape
 pager_shape_of name =
@@ -43,12 +51,12 @@ shape_of name =
     if is_word (codes "thread") name then just (ThreadNumber ∷ ThreadOrNew ∷ ThreadOrNil ∷ [])
     else (if is_word (codes "setpager") name then just (ThreadNumber ∷ ThreadOrNil ∷ [])
     else (if is_word (codes "delete") name then just (ThreadNumber ∷ [])
-    else (if is_word (codes "recv") name then just (ThreadNumber ∷ ThreadNilOrAny ∷ Number ∷ [])
-    else (if is_word (codes "send") name then with_words (ThreadNumber ∷ ThreadNilOrAny ∷ [])
-    else (if is_word (codes "ipc") name then with_words (ThreadNumber ∷ ThreadNilOrAny ∷ ThreadNilOrAny ∷ Number ∷ Number ∷ [])
+    else (if is_word (codes "recv") name then just (ThreadNumber ∷ ThreadNilOrAny ∷ Symbol Window ∷ [])
+    else (if is_word (codes "send") name then with_rest (ThreadNumber ∷ ThreadNilOrAny ∷ []) Message
+    else (if is_word (codes "ipc") name then with_rest (ThreadNumber ∷ ThreadNilOrAny ∷ ThreadNilOrAny ∷ Symbol Timeouts ∷ Symbol Window ∷ []) Message
     else (if is_word (codes "delegate") name then just (ThreadNumber ∷ ThreadNilOrAny ∷ Number ∷ Number ∷ Number ∷ Rights ∷ [])
     else (if is_word (codes "part") name then just (ThreadNumber ∷ ThreadNilOrAny ∷ Number ∷ Number ∷ Number ∷ Number ∷ Rights ∷ [])
-    else (if is_word (codes "unmap") name then with_words (ThreadNumber ∷ Number ∷ [])
+    else (if is_word (codes "unmap") name then with_rest (ThreadNumber ∷ Number ∷ []) Fpages
     else (if is_word (codes "show") name then just (ThreadNumber ∷ Number ∷ Number ∷ [])
     else (if is_word (codes "parent") name then just (ThreadNumber ∷ Number ∷ [])
     else pager_shape_of name))))))))))
@@ -61,49 +69,96 @@ wrong number token expected = Some (record { number = number; token = Some token
 abbrev pub missing : ℕ → Expected → Option Place
 missing number expected = Some (record { number = number; token = None; expected = expected })
 
--- at most so many numbers, the first of which is the token of this number; None where that is right to the end
-abbrev pub words_stop : ℕ → ℕ → List (List ℕ) → Option Place
-words_stop number most [] = None
-words_stop number zero (token ∷ tokens) = wrong number token LineEnd
-words_stop number (suc most) (token ∷ tokens) = if is_of Number token then words_stop (number + 1) most tokens else wrong number token NumberOrEnd
+-- what would be right in place of a token that is refused for this reason: what else stands there if the token has another form, and otherwise
+-- what the reason says
+abbrev pub expected_for : Expected → Reason → Expected
+expected_for otherwise NoTag = otherwise
+expected_for otherwise Unknown = otherwise
+expected_for otherwise NoWindow = otherwise
+expected_for otherwise NoFpage = otherwise
+expected_for otherwise NoTimeouts = otherwise
+expected_for otherwise reason = Because reason
 
--- tokens of these kinds, and then so many numbers
-abbrev pub kinds_stop : ℕ → List TokenKind → ℕ → List (List ℕ) → Option Place
-kinds_stop number [] most tokens = words_stop number most tokens
-kinds_stop number (kind ∷ kinds) most [] = missing number (Token kind)
-kinds_stop number (kind ∷ kinds) most (token ∷ tokens) = if is_of kind token then kinds_stop (number + 1) kinds most tokens else wrong number token (Token kind)
+abbrev pub symbol_expected : Expected → Result ℕ Reason → Expected
+symbol_expected otherwise (Ok word) = otherwise
+symbol_expected otherwise (Err reason) = expected_for otherwise reason
 
-abbrev pub shape_stop : Option Shape → List ℕ → List (List ℕ) → Option Place
-shape_stop None name tokens = wrong 1 name CommandName
-shape_stop (Some shape) name tokens = kinds_stop 2 shape.kinds shape.words tokens
+-- what would be right in place of a token that is not of this kind
+abbrev pub expected_at : PageSize → TokenKind → List ℕ → Expected
+expected_at size (Symbol word) token = symbol_expected (Token (Symbol word)) (word_in word size token)
+expected_at size kind token = Token kind
 
--- the first token that is not right, or the first that is missing; None where the tokens are a command
-abbrev pub stop_of : List (List ℕ) → Option Place
-stop_of [] = missing 1 CommandName
-stop_of (name ∷ tokens) = shape_stop (shape_of name) name tokens
+-- no more tokens
+abbrev pub end_stop : ℕ → List (List ℕ) → Option Place
+end_stop number [] = None
+end_stop number (token ∷ tokens) = wrong number token LineEnd
+
+-- at most so many fpages, the first of which is the token of this number; None where that is right to the end
+abbrev pub fpages_stop : PageSize → ℕ → ℕ → List (List ℕ) → Option Place
+fpages_stop size number most [] = None
+fpages_stop size number zero (token ∷ tokens) = wrong number token LineEnd
+fpages_stop size number (suc most) (token ∷ tokens) =
+    if is_of size (Symbol Fpage) token then fpages_stop size (number + 1) most tokens
+    else wrong number token (symbol_expected FpageOrEnd (word_in Fpage size token))
+
+-- behind a token of this number: what follows it, or that it is wrong
+abbrev pub row_or_stop : ℕ → List ℕ → Expected → Result Row Reason → (Row → Option Place) → Option Place
+row_or_stop number token otherwise (Ok row) later = later row
+row_or_stop number token otherwise (Err reason) later = wrong number token (expected_for otherwise reason)
+
+-- the tokens of a message behind those of a row
+abbrev pub row_stop : PageSize → ℕ → List (List ℕ) → Row → Option Place
+row_stop size number [] row = None
+row_stop size number (token ∷ tokens) row = row_or_stop number token WordOrEnd (row_added size token row) (λ next. row_stop size (number + 1) tokens next)
+
+-- the tokens of a message, or none
+abbrev pub message_stop : PageSize → ℕ → List (List ℕ) → Option Place
+message_stop size number [] = None
+message_stop size number (token ∷ tokens) = row_or_stop number token TagOrEnd (row_begun token) (λ row. row_stop size (number + 1) tokens row)
+
+abbrev pub rest_stop : PageSize → ℕ → Rest → List (List ℕ) → Option Place
+rest_stop size number Nothing tokens = end_stop number tokens
+rest_stop size number Message tokens = message_stop size number tokens
+rest_stop size number Fpages tokens = fpages_stop size number max_words tokens
+
+-- tokens of these kinds, and then the rest
+abbrev pub kinds_stop : PageSize → ℕ → List TokenKind → Rest → List (List ℕ) → Option Place
+kinds_stop size number [] rest tokens = rest_stop size number rest tokens
+kinds_stop size number (kind ∷ kinds) rest [] = missing number (Token kind)
+kinds_stop size number (kind ∷ kinds) rest (token ∷ tokens) =
+    if is_of size kind token then kinds_stop size (number + 1) kinds rest tokens else wrong number token (expected_at size kind token)
+
+abbrev pub shape_stop : PageSize → Option Shape → List ℕ → List (List ℕ) → Option Place
+shape_stop size None name tokens = wrong 1 name CommandName
+shape_stop size (Some shape) name tokens = kinds_stop size 2 shape.kinds shape.rest tokens
+
+-- the first token that is not right where pages have this size, or the first that is missing; None where the tokens are a command
+abbrev pub stop_of : PageSize → List (List ℕ) → Option Place
+stop_of size [] = missing 1 CommandName
+stop_of size (name ∷ tokens) = shape_stop size (shape_of name) name tokens
 
 -- WHAT THIS SAYS OF THE LANGUAGE
 
 -- these tokens are a command, or begin one
-abbrev pub BeginsCommand : List (List ℕ) → Type 0
-BeginsCommand tokens = (more : List (List ℕ)) × IsOk (command_of (tokens ++ more))
+abbrev pub BeginsCommand : PageSize → List (List ℕ) → Type 0
+BeginsCommand size tokens = (more : List (List ℕ)) × IsOk (command_of size (tokens ++ more))
 
 -- the tokens before the stop begin a command, and with the token there they begin none
-abbrev pub StopsThere : List (List ℕ) → Place → Option (List ℕ) → Type 0
-StopsThere tokens place None = (place.number ≡ length tokens + 1) × BeginsCommand tokens × (¬ IsOk (command_of tokens))
-StopsThere tokens place (Some token) =
+abbrev pub StopsThere : PageSize → List (List ℕ) → Place → Option (List ℕ) → Type 0
+StopsThere size tokens place None = (place.number ≡ length tokens + 1) × BeginsCommand size tokens × (¬ IsOk (command_of size tokens))
+StopsThere size tokens place (Some token) =
     (before : List (List ℕ)) × (after : List (List ℕ)) × (tokens ≡ before ++ token ∷ after) × (place.number ≡ length before + 1)
-    × BeginsCommand before × (BeginsCommand (before ++ token ∷ []) → ⊥)
+    × BeginsCommand size before × (BeginsCommand size (before ++ token ∷ []) → ⊥)
 
 -- A LINE'S STOP: none of a command; of any other line the one token, or the end, that no command has there
-abbrev pub IsStop : List (List ℕ) → Option Place → Type 0
-IsStop tokens None = IsOk (command_of tokens)
-IsStop tokens (Some place) = StopsThere tokens place place.token
+abbrev pub IsStop : PageSize → List (List ℕ) → Option Place → Type 0
+IsStop size tokens None = IsOk (command_of size tokens)
+IsStop size tokens (Some place) = StopsThere size tokens place place.token
 
 -- AS VALUES OF THE CODE
 
 abbrev pub shape_in : Form → Shape
-shape_in form = record { kinds = form.kinds.now; words = form.words }
+shape_in form = record { kinds = form.kinds.now; rest = form.rest }
 
 abbrev pub place_in : Stop → Place
 place_in stop = record { number = stop.number; token = option_map (λ t. t.now) stop.token; expected = stop.expected }

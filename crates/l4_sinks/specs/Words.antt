@@ -1,5 +1,6 @@
 -- What answers mean, each in a sentence (this profile's own).
 use Rattle.std.specs.Prelude.{ℕ, ◌==◌, List, [], ◌∷◌, ◌++◌, length, Option, None, Some, if◌then◌else◌, codes, decimal, bytes_eq}
+use Rattle.l4_fpage.specs.declared.sizes.PageSize.{PageSize}
 use Rattle.l4_ipc.specs.declared.steps.Outcome.{Outcome}
 use Rattle.l4_ipc.specs.declared.steps.Outcome.TheVariants.{Started, Done, NoWindow, Entangled, NoMemory, Expired}
 use Rattle.l4_mapdb.specs.declared.Mapping.{Mapping}
@@ -10,12 +11,14 @@ use Rattle.l4_threads.specs.declared.Reply.TheVariants.{Ipc, Hit, Answered, Faul
 use Rattle.l4_answers.specs.Refusals.{Refusal}
 use Rattle.l4_answers.specs.Reports.{Report, RefusedLine, UnreadLine, RefusedAct, Transferred, TimedOut, Waits, Ended, Page, Shown, Parent, AddedRegion, StepCount}
 use Rattle.l4_refusals.specs.Texts.{texts, text_in, spelled}
-use Rattle.l4_reasons.specs.Reasons.{line_says, token_says, missing_says}
+use Rattle.l4_reasons.specs.Reasons.{line_says, token_says, symbol_says, missing_says}
+use Rattle.l4_symbols.specs.Reasons.{reason_text}
+use Rattle.l4_symbols.specs.declared.words.WordKind.TheVariants.{Fpage, Window, Timeouts}
 use Rattle.l4_text.specs.Tokens.{tokens_of}
 use Rattle.l4_shell.specs.declared.kinds.TokenKind.{TokenKind}
-use Rattle.l4_shell.specs.declared.kinds.TokenKind.TheVariants.{ThreadNumber, ThreadOrNew, ThreadOrNil, ThreadNilOrAny, Number, Rights}
+use Rattle.l4_shell.specs.declared.kinds.TokenKind.TheVariants.{ThreadNumber, ThreadOrNew, ThreadOrNil, ThreadNilOrAny, Number, Symbol, Rights}
 use Rattle.l4_sinks.specs.declared.stops.Expected.{Expected}
-use Rattle.l4_sinks.specs.declared.stops.Expected.TheVariants.{CommandName, Token, NumberOrEnd, LineEnd}
+use Rattle.l4_sinks.specs.declared.stops.Expected.TheVariants.{CommandName, Token, Because, TagOrEnd, WordOrEnd, FpageOrEnd, LineEnd}
 use Rattle.l4_sinks.specs.Stops.{Place as Stopped, stop_of}
 
 unfoldable pub transfer_says : Outcome → List ℕ
@@ -116,19 +119,30 @@ kind_says ThreadOrNew = codes "a thread number or \"new\""
 kind_says ThreadOrNil = codes "a thread number or \"nil\""
 kind_says ThreadNilOrAny = codes "a thread number, \"nil\" or \"any\""
 kind_says Number = codes "a number from 0 to 0xffffffff"
+kind_says (Symbol Window) = codes "a number, \"all\", \"none\" or pages, as \"32+4\""
+kind_says (Symbol Timeouts) = codes "a number, \"never\", \"zero\" or two of these, as \"zero,never\""
+kind_says (Symbol Fpage) = codes "a number or an fpage, as \"16+4:rwx\""
 kind_says Rights = codes "rights, as \"rwx\" or \"r--\""
 
 -- what is right at a place of a line
 unfoldable pub expected_says : Expected → List ℕ
 expected_says CommandName = codes "a command"
 expected_says (Token kind) = kind_says kind
-expected_says NumberOrEnd = codes "a number from 0 to 0xffffffff or the end of the line"
+expected_says (Because reason) = reason_text reason
+expected_says TagOrEnd = codes "a number from 0 to 0xffffffff, a tag, as \"tag:7\", or the end of the line"
+expected_says WordOrEnd = codes "a number from 0 to 0xffffffff, an item, as \"map:16+4>32:rwx\", or the end of the line"
+expected_says FpageOrEnd = codes "a number from 0 to 0xffffffff, an fpage, as \"16+4:rwx\", or the end of the line"
 expected_says LineEnd = codes "the end of the line"
 
+-- a token that is not right: its number, and what would be right
+abbrev pub wrong_says : ℕ → ℕ → List ℕ → Expected → List ℕ
+wrong_says line number token (Because reason) = symbol_says line number token (reason_text reason)
+wrong_says line number token expected = token_says line number token (expected_says expected)
+
 -- a token that is not right, or that is missing: its number, and what would be right
-abbrev pub stop_says : ℕ → ℕ → Option (List ℕ) → List ℕ → List ℕ
-stop_says line number None expected = missing_says line number expected
-stop_says line number (Some token) expected = token_says line number token expected
+abbrev pub stop_says : ℕ → ℕ → Option (List ℕ) → Expected → List ℕ
+stop_says line number None expected = missing_says line number (expected_says expected)
+stop_says line number (Some token) expected = wrong_says line number token expected
 
 -- why a line is refused
 unfoldable pub line_refusal_says : ℕ → Refusal → List ℕ
@@ -137,16 +151,16 @@ line_refusal_says line refusal = line_says line ++ refusal_says refusal
 -- where a line stops being a command, or else why it is refused
 abbrev pub stopped_says : ℕ → Refusal → Option Stopped → List ℕ
 stopped_says line refusal None = line_refusal_says line refusal
-stopped_says line refusal (Some place) = stop_says line place.number place.token (expected_says place.expected)
+stopped_says line refusal (Some place) = stop_says line place.number place.token place.expected
 
 -- why a line can't be read; of a line that is cut or too long there are no bytes
-abbrev pub unread_says : ℕ → Refusal → List ℕ → List ℕ
-unread_says line refusal bytes = if length bytes == 0 then line_refusal_says line refusal else stopped_says line refusal (stop_of (tokens_of bytes))
+abbrev pub unread_says : PageSize → ℕ → Refusal → List ℕ → List ℕ
+unread_says size line refusal bytes = if length bytes == 0 then line_refusal_says line refusal else stopped_says line refusal (stop_of size (tokens_of bytes))
 
 -- WHAT AN ANSWER MEANS, but for a message that was received
 abbrev pub says : Report → List ℕ
 says (RefusedLine line refusal) = line_refusal_says line refusal
-says (UnreadLine line refusal bytes) = unread_says line refusal bytes
+says (UnreadLine size line refusal bytes) = unread_says size line refusal bytes
 says (RefusedAct thread refusal) = refusal_says refusal
 says (Transferred sender receiver outcome) = transfer_says outcome
 says (TimedOut thread) = expired_says

@@ -3,12 +3,13 @@ ghost use Rattle.std.specs.Prelude.{◌≡◌, ◌≤◌, ◌+◌, ◌++◌, len
 ghost use Rattle.l4_reasons.specs.Sizes.{reason_bytes};
 ghost use Rattle.l4_text.specs.Tokens.{tokens_of};
 ghost use Rattle.l4_sinks.specs.Stops.{stop_of, place_in};
-ghost use Rattle.l4_sinks.specs.Words.{number_says, refusal_says, line_refusal_says, stop_says, expected_says, stopped_says, unread_says};
+ghost use Rattle.l4_sinks.specs.Words.{number_says, refusal_says, line_refusal_says, wrong_says, stop_says, stopped_says, unread_says};
 
 use crate::sentences::{code_says, expected_says, number_name};
-use crate::stops::{Stop, stop_of};
+use crate::stops::{Expected, Stop, stop_of};
 use l4_answers::Code;
-use l4_reasons::{Reason, line_reason, missing_reason, token_reason};
+use l4_fpage::PageSize;
+use l4_reasons::{Reason, line_reason, missing_reason, symbol_reason, token_reason};
 
 /// Adds the meaning of the number that a code carries.
 #[tactic(auto, unfolding(crate::specs::Words::number_says))]
@@ -54,35 +55,44 @@ pub(crate) fn refusal_reason(line: u64, code: &Code) -> Reason
     reason
 }
 
+/// What is wrong with a token of a line.
+fn wrong_reason(line: u64, number: u64, token: &[u8], expected: Expected) -> Reason
+    ensures { result ≡ wrong_says line number token.now expected }
+{
+    match expected {
+        Expected::Because(reason) => symbol_reason(line, number, token, reason.text()),
+        _ => token_reason(line, number, token, expected_says(expected)),
+    }
+}
+
 /// Which token of a line is wrong.
 fn stop_reason(line: u64, stop: Stop<'_>) -> Reason
     ensures { result
         ≡ stop_says line (place_in stop.entry).number (place_in stop.entry).token
-        (expected_says stop.entry.expected) }
+        stop.entry.expected }
 {
-    let expected = expected_says(stop.expected);
     match stop.token {
-        None => missing_reason(line, stop.number, expected),
-        Some(token) => token_reason(line, stop.number, token, expected),
+        None => missing_reason(line, stop.number, expected_says(stop.expected)),
+        Some(token) => wrong_reason(line, stop.number, token, stop.expected),
     }
 }
 
 /// Where a line stops being a command, or else why it is refused.
-fn stopped_reason(line: u64, code: &Code, bytes: &[u8]) -> Reason
-    ensures { result ≡ stopped_says line code.now (stop_of (tokens_of bytes.now)) }
+fn stopped_reason(line: u64, code: &Code, bytes: &[u8], size: PageSize) -> Reason
+    ensures { result ≡ stopped_says line code.now (stop_of size (tokens_of bytes.now)) }
 {
-    match stop_of(bytes) {
+    match stop_of(bytes, size) {
         None => refusal_reason(line, code),
         Some(stop) => stop_reason(line, stop),
     }
 }
 
-/// Why a line cannot be read. No bytes are passed if it is cut or too long.
-pub(crate) fn unread_reason(line: u64, code: &Code, bytes: &[u8]) -> Reason
-    ensures { result ≡ unread_says line code.now bytes.now }
+/// Why a line cannot be read, where pages have this size. No bytes are passed if it is cut or too long.
+pub(crate) fn unread_reason(line: u64, code: &Code, bytes: &[u8], size: PageSize) -> Reason
+    ensures { result ≡ unread_says size line code.now bytes.now }
 {
     if bytes.is_empty() {
         return refusal_reason(line, code);
     }
-    stopped_reason(line, code, bytes)
+    stopped_reason(line, code, bytes, size)
 }

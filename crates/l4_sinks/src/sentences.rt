@@ -7,6 +7,7 @@ use l4_ipc::Outcome;
 use l4_mapdb::{Mapping, Place};
 use l4_refusals::{number_of, text_of};
 use l4_shell::TokenKind;
+use l4_symbols::WordKind;
 use l4_threads::Reply;
 
 /// What happened to a transfer.
@@ -195,6 +196,13 @@ fn kind_says(kind: TokenKind) -> &'static [u8]
         TokenKind::ThreadOrNil => b"a thread number or \"nil\"",
         TokenKind::ThreadNilOrAny => b"a thread number, \"nil\" or \"any\"",
         TokenKind::Number => b"a number from 0 to 0xffffffff",
+        TokenKind::Symbol(WordKind::Window) => {
+            b"a number, \"all\", \"none\" or pages, as \"32+4\""
+        }
+        TokenKind::Symbol(WordKind::Timeouts) => {
+            b"a number, \"never\", \"zero\" or two of these, as \"zero,never\""
+        }
+        TokenKind::Symbol(WordKind::Fpage) => b"a number or an fpage, as \"16+4:rwx\"",
         TokenKind::Rights => b"rights, as \"rwx\" or \"r--\"",
     }
 }
@@ -208,7 +216,16 @@ pub(crate) fn expected_says(expected: Expected) -> &'static [u8]
     match expected {
         Expected::CommandName => b"a command",
         Expected::Token(kind) => kind_says(kind),
-        Expected::NumberOrEnd => b"a number from 0 to 0xffffffff or the end of the line",
+        Expected::Because(reason) => reason.text(),
+        Expected::TagOrEnd => {
+            b"a number from 0 to 0xffffffff, a tag, as \"tag:7\", or the end of the line"
+        }
+        Expected::WordOrEnd => {
+            b"a number from 0 to 0xffffffff, an item, as \"map:16+4>32:rwx\", or the end of the line"
+        }
+        Expected::FpageOrEnd => {
+            b"a number from 0 to 0xffffffff, an fpage, as \"16+4:rwx\", or the end of the line"
+        }
         Expected::LineEnd => b"the end of the line",
     }
 }

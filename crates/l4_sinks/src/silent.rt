@@ -5,6 +5,7 @@ ghost use Rattle.l4_sinks.specs.Words.{line_refusal_says, unread_says};
 
 use crate::reasons::{refusal_reason, unread_reason};
 use l4_answers::{Code, Sink};
+use l4_fpage::PageSize;
 use l4_ipc::Outcome;
 use l4_mapdb::Mapping;
 use l4_reasons::Reason;
@@ -42,11 +43,11 @@ impl Silent {
     /// Keeps why a line cannot be read. It is a function of its own, so that its reason is built only in a strict run.
     #[cold]
     #[inline(never)]
-    fn keep_unread(&mut self, line: u64, code: &Code, bytes: &[u8])
+    fn keep_unread(&mut self, line: u64, code: &Code, bytes: &[u8], size: PageSize)
         ensures strict { self.new.strict ≡ self.old.strict }
-        ensures refused { self.new.refused ≡ Some (unread_says line code.now bytes.now) }
+        ensures refused { self.new.refused ≡ Some (unread_says size line code.now bytes.now) }
     {
-        self.refused = Some(unread_reason(line, code, bytes));
+        self.refused = Some(unread_reason(line, code, bytes, size));
     }
 
     /// Keeps why a line is refused.
@@ -73,9 +74,9 @@ impl Sink for Silent {
         }
     }
 
-    fn unread_line(&mut self, line: u64, code: &Code, bytes: &[u8]) {
+    fn unread_line(&mut self, line: u64, code: &Code, bytes: &[u8], size: PageSize) {
         if self.strict {
-            self.keep_unread(line, code, bytes);
+            self.keep_unread(line, code, bytes, size);
         }
     }
 

@@ -1,11 +1,16 @@
 //! The token at which a line stops being a command.
 ghost use Rattle.std.specs.Prelude.{◌≡◌, ◌≤◌, ◌+◌, length, option_map, IfSome};
+ghost use Rattle.l4_msg.specs.Sizes.{max_words};
+ghost use Rattle.l4_symbols.specs.Computed.{word_in};
+ghost use Rattle.l4_symbols.specs.Rows.{row_in};
 ghost use Rattle.l4_text.specs.Tokens.{tokens_of};
-ghost use Rattle.l4_sinks.specs.Stops.{just, with_words, pager_shape_of, shape_of, shape_in, words_stop, kinds_stop, stop_of, place_in, IsStop};
+ghost use Rattle.l4_sinks.specs.Stops.{with_rest, pager_shape_of, shape_of, shape_in, expected_for, expected_at, symbol_expected, end_stop, fpages_stop, row_stop, message_stop, rest_stop, kinds_stop, stop_of, place_in, IsStop};
 
 use crate::sentences::is;
+use l4_fpage::PageSize;
 use l4_msg::MAX_WORDS;
 use l4_shell::{TokenKind, is_of_kind};
+use l4_symbols::{MessageTokens, Reason, WordKind, word_of};
 use l4_text::next_token;
 
 /// What is right at a place of a line.
@@ -15,17 +20,34 @@ pub enum Expected {
     CommandName,
     /// A token of this kind.
     Token(TokenKind),
-    /// A number, or the end of the line.
-    NumberOrEnd,
+    /// What this reason says: the token is almost right.
+    Because(Reason),
+    /// A number, a tag, or the end of the line.
+    TagOrEnd,
+    /// A number, an item, or the end of the line.
+    WordOrEnd,
+    /// A number, an fpage, or the end of the line.
+    FpageOrEnd,
     /// The end of the line.
     LineEnd,
 }
 
-/// The tokens behind a command's name: these in turn, and then at most this many numbers.
+/// What may follow the tokens that a command always has.
+#[derive(Clone, Copy)]
+pub(crate) enum Rest {
+    /// Nothing.
+    Nothing,
+    /// The tokens of a message.
+    Message,
+    /// Fpages.
+    Fpages,
+}
+
+/// The tokens behind a command's name: these in turn, and then the rest.
 #[derive(Clone, Copy)]
 pub(crate) struct Form {
     kinds: &'static [TokenKind],
-    words: usize,
+    rest: Rest,
 }
 
 const THREAD_KINDS: &[TokenKind] = &[
@@ -41,7 +63,7 @@ const ONE_THREAD: &[TokenKind] = &[TokenKind::ThreadNumber];
 const RECV_KINDS: &[TokenKind] = &[
     TokenKind::ThreadNumber,
     TokenKind::ThreadNilOrAny,
-    TokenKind::Number,
+    TokenKind::Symbol(WordKind::Window),
 ];
 
 const SEND_KINDS: &[TokenKind] = &[TokenKind::ThreadNumber, TokenKind::ThreadNilOrAny];
@@ -50,8 +72,8 @@ const IPC_KINDS: &[TokenKind] = &[
     TokenKind::ThreadNumber,
     TokenKind::ThreadNilOrAny,
     TokenKind::ThreadNilOrAny,
-    TokenKind::Number,
-    TokenKind::Number,
+    TokenKind::Symbol(WordKind::Timeouts),
+    TokenKind::Symbol(WordKind::Window),
 ];
 
 const DELEGATE_KINDS: &[TokenKind] = &[
@@ -107,43 +129,31 @@ pub struct Stop<'a> {
     pub expected: Expected,
 }
 
-/// The tokens of a command that takes none but these.
-fn just(kinds: &'static [TokenKind]) -> Option<Form>
+/// The tokens of a command: these, and then the rest.
+fn of_kinds(kinds: &'static [TokenKind], rest: Rest) -> Option<Form>
     requires { length kinds.now ≤ 10 }
-    ensures form { option_map shape_in result ≡ just kinds.now }
-    ensures few { IfSome result (λ f. length f.kinds.now + f.words ≤ 100) }
+    ensures form { option_map shape_in result ≡ with_rest kinds.now rest }
+    ensures few { IfSome result (λ f. length f.kinds.now ≤ 10) }
 {
-    Some(Form { kinds, words: 0 })
-}
-
-/// The tokens of a command that takes message words behind these.
-fn with_words(kinds: &'static [TokenKind]) -> Option<Form>
-    requires { length kinds.now ≤ 10 }
-    ensures form { option_map shape_in result ≡ with_words kinds.now }
-    ensures few { IfSome result (λ f. length f.kinds.now + f.words ≤ 100) }
-{
-    Some(Form {
-        kinds,
-        words: MAX_WORDS,
-    })
+    Some(Form { kinds, rest })
 }
 
 /// The tokens of a command of pagers or of the history.
 fn pager_form(name: &[u8]) -> Option<Form>
     ensures form { option_map shape_in result ≡ pager_shape_of name.now }
-    ensures few { IfSome result (λ f. length f.kinds.now + f.words ≤ 100) }
+    ensures few { IfSome result (λ f. length f.kinds.now ≤ 10) }
 {
     if is(name, b"fault") {
-        return just(FAULT_KINDS);
+        return of_kinds(FAULT_KINDS, Rest::Nothing);
     }
     if is(name, b"region") {
-        return just(REGION_KINDS);
+        return of_kinds(REGION_KINDS, Rest::Nothing);
     }
     if is(name, b"serve") {
-        return just(ONE_THREAD);
+        return of_kinds(ONE_THREAD, Rest::Nothing);
     }
     if is(name, b"steps") {
-        return just(&[]);
+        return of_kinds(&[], Rest::Nothing);
     }
     None
 }
@@ -151,77 +161,176 @@ fn pager_form(name: &[u8]) -> Option<Form>
 /// The tokens of the command of this name, if there is such a command.
 fn form_of(name: &[u8]) -> Option<Form>
     ensures form { option_map shape_in result ≡ shape_of name.now }
-    ensures few { IfSome result (λ f. length f.kinds.now + f.words ≤ 100) }
+    ensures few { IfSome result (λ f. length f.kinds.now ≤ 10) }
 {
     if is(name, b"thread") {
-        return just(THREAD_KINDS);
+        return of_kinds(THREAD_KINDS, Rest::Nothing);
     }
     if is(name, b"setpager") {
-        return just(SETPAGER_KINDS);
+        return of_kinds(SETPAGER_KINDS, Rest::Nothing);
     }
     if is(name, b"delete") {
-        return just(ONE_THREAD);
+        return of_kinds(ONE_THREAD, Rest::Nothing);
     }
     if is(name, b"recv") {
-        return just(RECV_KINDS);
+        return of_kinds(RECV_KINDS, Rest::Nothing);
     }
     if is(name, b"send") {
-        return with_words(SEND_KINDS);
+        return of_kinds(SEND_KINDS, Rest::Message);
     }
     if is(name, b"ipc") {
-        return with_words(IPC_KINDS);
+        return of_kinds(IPC_KINDS, Rest::Message);
     }
     if is(name, b"delegate") {
-        return just(DELEGATE_KINDS);
+        return of_kinds(DELEGATE_KINDS, Rest::Nothing);
     }
     if is(name, b"part") {
-        return just(PART_KINDS);
+        return of_kinds(PART_KINDS, Rest::Nothing);
     }
     if is(name, b"unmap") {
-        return with_words(UNMAP_KINDS);
+        return of_kinds(UNMAP_KINDS, Rest::Fpages);
     }
     if is(name, b"show") {
-        return just(SHOW_KINDS);
+        return of_kinds(SHOW_KINDS, Rest::Nothing);
     }
     if is(name, b"parent") {
-        return just(UNMAP_KINDS);
+        return of_kinds(UNMAP_KINDS, Rest::Nothing);
     }
     pager_form(name)
 }
 
-/// Where a text stops that has at most this many numbers and no more. Its first token has this number.
-fn words_stop(first: u64, words: usize, line: &[u8]) -> Option<Stop<'_>>
-    requires { first + words ≤ 200 }
-    ensures { option_map place_in result ≡ words_stop first words (tokens_of line.now) }
+/// What would be right in place of a token that is refused for this reason. If the token has another form, that is `otherwise`.
+fn expected_for(otherwise: Expected, reason: Reason) -> Expected
+    ensures { result ≡ expected_for otherwise reason }
 {
-    let mut rest = line;
-    for count in 0..words {
-        let Some((token, after)) = next_token(rest) else {
-            return None;
-        };
-        if !is_of_kind(TokenKind::Number, token) {
-            return Some(Stop {
-                number: first + count as u64,
-                token: Some(token),
-                expected: Expected::NumberOrEnd,
-            });
-        }
-        rest = after;
+    match reason {
+        Reason::NoTag => otherwise,
+        Reason::Unknown => otherwise,
+        Reason::Window => otherwise,
+        Reason::Fpage => otherwise,
+        Reason::Timeouts => otherwise,
+        _ => Expected::Because(reason),
     }
-    let Some((token, _)) = next_token(rest) else {
+}
+
+/// What would be right in place of a token that names no word of this kind.
+fn symbol_expected(otherwise: Expected, kind: WordKind, token: &[u8], size: PageSize) -> Expected
+    ensures { result ≡ symbol_expected otherwise (word_in kind size token.now) }
+{
+    match word_of(kind, token, size) {
+        Ok(_) => otherwise,
+        Err(reason) => expected_for(otherwise, reason),
+    }
+}
+
+/// What would be right in place of a token that is not of this kind.
+fn expected_at(kind: TokenKind, token: &[u8], size: PageSize) -> Expected
+    ensures { result ≡ expected_at size kind token.now }
+{
+    match kind {
+        TokenKind::Symbol(word) => symbol_expected(Expected::Token(kind), word, token, size),
+        _ => Expected::Token(kind),
+    }
+}
+
+/// Where a text stops that has no more tokens. Its first token has this number.
+fn end_stop(number: u64, line: &[u8]) -> Option<Stop<'_>>
+    ensures { option_map place_in result ≡ end_stop number (tokens_of line.now) }
+{
+    let Some((token, _)) = next_token(line) else {
         return None;
     };
     Some(Stop {
-        number: first + words as u64,
+        number,
         token: Some(token),
         expected: Expected::LineEnd,
     })
 }
 
-/// Where a text stops that has tokens of these kinds and then at most this many numbers. Its first token is the line's second.
-fn kinds_stop<'a>(kinds: &[TokenKind], words: usize, line: &'a [u8]) -> Option<Stop<'a>>
-    requires { length kinds.now + words ≤ 100 }
-    ensures { option_map place_in result ≡ kinds_stop 2 kinds.now words (tokens_of line.now) }
+/// Where a text stops that has fpages, at most as many as there are message registers, and no more. Its first token has this number.
+fn fpages_stop(first: u64, line: &[u8], size: PageSize) -> Option<Stop<'_>>
+    requires { first ≤ 100 }
+    ensures { option_map place_in result ≡ fpages_stop size first max_words (tokens_of line.now) }
+{
+    let mut rest = line;
+    for count in 0..MAX_WORDS {
+        let Some((token, after)) = next_token(rest) else {
+            return None;
+        };
+        if !is_of_kind(TokenKind::Symbol(WordKind::Fpage), token, size) {
+            return Some(Stop {
+                number: first + count as u64,
+                token: Some(token),
+                expected: symbol_expected(Expected::FpageOrEnd, WordKind::Fpage, token, size),
+            });
+        }
+        rest = after;
+    }
+    end_stop(first + MAX_WORDS as u64, rest)
+}
+
+/// Where a text stops that has the tokens of a message behind those that were read, and no more. Its first token has this number.
+fn row_stop<'a>(first: u64, begun: MessageTokens, line: &'a [u8]) -> Option<Stop<'a>>
+    requires { first ≤ 100 }
+    ensures { option_map place_in result
+        ≡ row_stop begun.message.size first (tokens_of line.now) (row_in begun) }
+{
+    let mut message = begun;
+    let mut rest = line;
+    let mut place = first;
+    while let Some((token, after)) = next_token(rest) {
+        if let Err(reason) = message.add(token) {
+            return Some(Stop {
+                number: place,
+                token: Some(token),
+                expected: expected_for(Expected::WordOrEnd, reason),
+            });
+        }
+        rest = after;
+        place += 1;
+    }
+    None
+}
+
+/// Where a text stops that has the tokens of a message and no more. Its first token has this number.
+fn message_stop(first: u64, line: &[u8], size: PageSize) -> Option<Stop<'_>>
+    requires { first ≤ 50 }
+    ensures { option_map place_in result ≡ message_stop size first (tokens_of line.now) }
+{
+    let Some((token, rest)) = next_token(line) else {
+        return None;
+    };
+    match MessageTokens::begin(token, size) {
+        Ok(message) => row_stop(first + 1, message, rest),
+        Err(reason) => Some(Stop {
+            number: first,
+            token: Some(token),
+            expected: expected_for(Expected::TagOrEnd, reason),
+        }),
+    }
+}
+
+/// Where a text stops that is the rest of a command. Its first token has this number.
+fn rest_stop(number: u64, rest: Rest, line: &[u8], size: PageSize) -> Option<Stop<'_>>
+    requires { number ≤ 50 }
+    ensures { option_map place_in result ≡ rest_stop size number rest (tokens_of line.now) }
+{
+    match rest {
+        Rest::Nothing => end_stop(number, line),
+        Rest::Message => message_stop(number, line, size),
+        Rest::Fpages => fpages_stop(number, line, size),
+    }
+}
+
+/// Where a text stops that has tokens of these kinds and then the rest. Its first token is the line's second.
+fn kinds_stop<'a>(
+    kinds: &[TokenKind],
+    last: Rest,
+    line: &'a [u8],
+    size: PageSize,
+) -> Option<Stop<'a>>
+    requires { length kinds.now ≤ 10 }
+    ensures { option_map place_in result ≡ kinds_stop size 2 kinds.now last (tokens_of line.now) }
 {
     let mut rest = line;
     let mut number = 2u64;
@@ -233,22 +342,22 @@ fn kinds_stop<'a>(kinds: &[TokenKind], words: usize, line: &'a [u8]) -> Option<S
                 expected: Expected::Token(*kind),
             });
         };
-        if !is_of_kind(*kind, token) {
+        if !is_of_kind(*kind, token, size) {
             return Some(Stop {
                 number,
                 token: Some(token),
-                expected: Expected::Token(*kind),
+                expected: expected_at(*kind, token, size),
             });
         }
         rest = after;
         number += 1;
     }
-    words_stop(number, words, rest)
+    rest_stop(number, last, rest, size)
 }
 
 /// Where a line stops, by one token after another.
-fn first_stop(line: &[u8]) -> Option<Stop<'_>>
-    ensures { option_map place_in result ≡ stop_of (tokens_of line.now) }
+fn first_stop(line: &[u8], size: PageSize) -> Option<Stop<'_>>
+    ensures { option_map place_in result ≡ stop_of size (tokens_of line.now) }
 {
     let Some((name, rest)) = next_token(line) else {
         return Some(Stop {
@@ -263,15 +372,15 @@ fn first_stop(line: &[u8]) -> Option<Stop<'_>>
             token: Some(name),
             expected: Expected::CommandName,
         }),
-        Some(form) => kinds_stop(form.kinds, form.words, rest),
+        Some(form) => kinds_stop(form.kinds, form.rest, rest, size),
     }
 }
 
-/// Returns the token at which a line stops being a command: those before it begin a command, and with it they begin none. Returns None for a
-/// command.
-pub fn stop_of(line: &[u8]) -> Option<Stop<'_>>
-    ensures value { option_map place_in result ≡ stop_of (tokens_of line.now) }
-    ensures right { IsStop (tokens_of line.now) (option_map place_in result) }
+/// Returns the token at which a line stops being a command, where pages have this size: those before it begin a command, and with it they begin
+/// none. Returns None for a command.
+pub fn stop_of(line: &[u8], size: PageSize) -> Option<Stop<'_>>
+    ensures value { option_map place_in result ≡ stop_of size (tokens_of line.now) }
+    ensures right { IsStop size (tokens_of line.now) (option_map place_in result) }
 {
-    first_stop(line)
+    first_stop(line, size)
 }

@@ -303,10 +303,10 @@ impl<W: Write> Sink for Teller<W> {
     }
 
     #[inline(never)]
-    fn unread_line(&mut self, line: u64, code: &Code, bytes: &[u8]) {
+    fn unread_line(&mut self, line: u64, code: &Code, bytes: &[u8], size: PageSize) {
         put_refused_line(line, code, &mut self.out, &mut self.writer);
         if self.wants_reasons() {
-            self.take_reason(unread_reason(line, code, bytes));
+            self.take_reason(unread_reason(line, code, bytes, size));
         }
     }
 

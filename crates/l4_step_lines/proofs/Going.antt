@@ -1,5 +1,5 @@
 -- The lines of a list, answered one by one.
-use Rattle.std.proofs.Common.{◌≡◌, ℕ, ◌+◌, ◌==◌, ◌<◌, ◌≤◌, Bool, true, false, cond, nat_lt, List, [], ◌∷◌, ◌++◌, length, length-append, take, filter, Option, Some, None, option_map, ok_or, Result, Ok, Err, ◌||◌, sym, ap, subst, ◌∙◌, refl, arith, length-take}
+use Rattle.std.proofs.Common.{◌≡◌, ℕ, ◌+◌, ◌<◌, ◌≤◌, Bool, true, false, cond, nat_lt, List, [], ◌∷◌, ◌++◌, length, take, Option, Some, None, option_map, ok_or, Result, Ok, Err, sym, ap, subst, ◌∙◌, refl, arith}
 use Rattle.std.specs.Io.KnownBytes.{Consumes, Appends}
 use Rattle.std.proofs.lemmas.List.{append-nil, take_all}
 use Rattle.std.proofs.lemmas.Bool.Decides.{nat_tests}
@@ -7,16 +7,16 @@ use mathlib.Core.List.{append_assoc}
 use Rattle.l4_fpage.specs.declared.sizes.PageSize.{PageSize}
 use Rattle.l4_ipc.specs.Machine.{Machine, IsBoot}
 use Rattle.l4_text.specs.Grammar.{TextLine, lines_of, is_silent}
-use Rattle.l4_text.specs.Lines.{kept_of, TakesLine, TakesRest, GivesLine, left_of}
+use Rattle.l4_text.specs.Lines.{kept_of, TakesLine, GivesLine}
 use Rattle.l4_text.specs.Streams.{WentOut, HasTold, Tells}
 use Rattle.l4_text.specs.Tokens.{tokens_of}
 use Rattle.l4_text.specs.declared.lines.Ending.{Ending}
 use Rattle.l4_text.specs.declared.lines.Ending.TheVariants.{Whole, Long as TooLong, Cut as IsCut}
 use Rattle.l4_text.specs.declared.faults.RunFault.{RunFault}
 use Rattle.l4_text.specs.declared.faults.RunFault.TheVariants.{Read, Write, Memory}
-use Rattle.l4_text.proofs.Grammar.{lines_more, cut_line, none_whole}
-use Rattle.l4_text.proofs.LineSteps.{consumes_more, consumes_same, empty_list}
+use Rattle.l4_text.proofs.Grammar.{cut_line, none_whole}
 use Rattle.l4_text.proofs.Telling.{nothing_told, tells_none, tells_more, tells_is}
+use Rattle.l4_answers.proofs.Taking.{Taken, taken_none, taken_more, taken_parts, taken_with, rest_is, line_of_more, nothing_kept, something_kept}
 use Rattle.l4_step_lines.specs.declared.requests.Request.{Request}
 use Rattle.l4_step_lines.specs.declared.running.Fault.{Fault}
 use Rattle.l4_step_lines.specs.declared.running.Fault.TheVariants.{Stopped, Cut, Long, Unread}
@@ -64,33 +64,19 @@ asked_long number bytes kept is long =
 
 -- the lines that were answered so far, before the one of this number
 pub record Answered (m : Machine) (old new : Option (List ℕ)) (now : List ℕ × ℕ) (number : ℕ) (last : Machine) (written out : Option (List ℕ)) (before after : List ℕ × Bool) : Type 0 where
-  pub read : List ℕ
-  pub done : List ℕ
-  pub from : Consumes old new read
-  pub same : read ≡ done ++ now.0
   pub lines : List TextLine
-  pub front : (more : List ℕ) → lines_of (done ++ more) ≡ lines ++ lines_of more
-  pub number_is : number ≡ 1 + length lines
+  pub taken : Taken old new now number lines
   pub text : List ℕ
   pub answers : AnswersLines m 1 lines text last
   pub tells : Tells written out before after text
-  pub bound : left_of now + number ≤ 68736253953
-  pub few : now.1 ≤ 16777216
 
 pub answered_none : (m : Machine) (a w : Option (List ℕ)) (now : List ℕ × ℕ) (s : List ℕ × Bool) → now ≡ ([], 0) → Answered m a a now 1 m w w s s
 answered_none m a w now s is = record {
-  read = [];
-  done = [];
-  «from» = consumes_same a;
-  same = sym (ap (λ x. x.0) is);
   lines = [];
-  front = λ more. refl;
-  number_is = refl;
+  taken = taken_none a now is;
   text = [];
   answers = (refl, refl);
   tells = tells_none w s;
-  bound = omega (arith, ap left_of is);
-  few = omega (arith, ap (λ x. x.1) is);
 }
 
 -- one whole line more
@@ -101,50 +87,34 @@ answered_more : (m last next : Machine) (old mid new : Option (List ℕ)) (now a
 answered_more m last next old mid new now after kept number written out out' before s t a l short is =
     let line : TextLine = record { bytes = l.bytes; whole = true } in
     record {
-      read = a.read ++ l.takes.read;
-      done = a.done ++ (l.bytes ++ (10 ∷ []));
-      «from» = consumes_more old mid new a.read l.takes.read a.from l.takes.from;
-      same = ap (λ x. x ++ l.takes.read) a.same ∙ append_assoc a.done now.0 l.takes.read ∙ ap (λ x. a.done ++ x) l.takes.same ∙ sym (append_assoc a.done (l.bytes ++ (10 ∷ [])) after.0);
       lines = a.lines ++ line ∷ [];
-      front = λ more.
-          ap lines_of (append_assoc a.done (l.bytes ++ (10 ∷ [])) more ∙ ap (λ x. a.done ++ x) (append_assoc l.bytes (10 ∷ []) more))
-          ∙ a.front (l.bytes ++ (10 ∷ more)) ∙ ap (λ x. a.lines ++ x) (lines_more l.bytes more l.plain) ∙ sym (append_assoc a.lines (line ∷ []) (lines_of more));
-      number_is = omega (arith, a.number_is, length-append a.lines (line ∷ []));
+      taken = taken_more old mid new now after kept number a.lines a.taken l;
       text = a.text ++ is.0;
       answers = answers_more m last next 1 a.lines a.text line is.0 a.answers
-          (subst (λ (n : ℕ). AnswersAsked last (asked_of n line) is.0 next) a.number_is (subst (λ (q : Result (Option Request) Fault). AnswersAsked last q is.0 next) (asked_whole number l.bytes kept l.kept_is short) is.1));
+          (subst (λ (n : ℕ). AnswersAsked last (asked_of n line) is.0 next) a.taken.number_is (subst (λ (q : Result (Option Request) Fault). AnswersAsked last q is.0 next) (asked_whole number l.bytes kept l.kept_is short) is.1));
       tells = tells_more written out out' before s t _ _ a.tells is.2;
-      bound = omega (arith, a.bound, l.shorter);
-      few = l.few;
     }
 
 -- what was held back went out
 pub answered_sent : (m last : Machine) (old new : Option (List ℕ)) (now : List ℕ × ℕ) (number : ℕ) (written out out' : Option (List ℕ)) (before s t : List ℕ × Bool)
     → Answered m old new now number last written out before s → Tells out out' s t [] → Answered m old new now number last written out' before t
 answered_sent m last old new now number written out out' before s t a sent = record {
-  read = a.read;
-  done = a.done;
-  «from» = a.from;
-  same = a.same;
   lines = a.lines;
-  front = a.front;
-  number_is = a.number_is;
+  taken = a.taken;
   text = a.text;
   answers = a.answers;
   tells = tells_is written out' before t (a.text ++ []) a.text (append-nil a.text) (tells_more written out out' before s t a.text [] a.tells sent);
-  bound = a.bound;
-  few = a.few;
 }
 
 -- the lines so far, as lines of what was read
 pub first_of : (m last : Machine) (old new : Option (List ℕ)) (now : List ℕ × ℕ) (number : ℕ) (written out : Option (List ℕ)) (before after : List ℕ × Bool)
     → Answered m old new now number last written out before after → TellsFirst m last old new written out before after
 first_of m last old new now number written out before after a = record {
-  read = a.read;
-  «from» = a.from;
+  read = a.taken.read;
+  «from» = a.taken.from;
   lines = a.lines;
   later = lines_of now.0;
-  parts = ap lines_of a.same ∙ a.front now.0;
+  parts = taken_parts old new now number a.lines a.taken;
   text = a.text;
   answers = a.answers;
   tells = a.tells;
@@ -153,20 +123,18 @@ first_of m last old new now number written out before after a = record {
 -- the lines so far, where more was read and none of it taken into them
 first_with : (m last : Machine) (old mid new : Option (List ℕ)) (now after : List ℕ × ℕ) (number : ℕ) (written out : Option (List ℕ)) (before s : List ℕ × Bool) (read taken : List ℕ) (later : List TextLine)
     → Answered m old mid now number last written out before s → Consumes mid new read → now.0 ++ read ≡ taken → lines_of taken ≡ later → TellsFirst m last old new written out before s
-first_with m last old mid new now after number written out before s read taken later a more same is = record {
-  read = a.read ++ read;
-  «from» = consumes_more old mid new a.read read a.from more;
-  lines = a.lines;
-  later = later;
-  parts = ap lines_of (ap (λ x. x ++ read) a.same ∙ append_assoc a.done now.0 read ∙ ap (λ x. a.done ++ x) same) ∙ a.front taken ∙ ap (λ ls. a.lines ++ ls) is;
-  text = a.text;
-  answers = a.answers;
-  tells = a.tells;
-}
-
--- what is left at the end
-pub rest_is : (mid new : Option (List ℕ)) (now after : List ℕ × ℕ) (kept : List ℕ × Bool) (l : TakesRest mid new now after kept) → now.0 ++ l.takes.read ≡ l.bytes
-rest_is mid new now after kept l = l.takes.same ∙ ap (λ x. l.bytes ++ x) l.empty ∙ append-nil l.bytes
+first_with m last old mid new now after number written out before s read taken later a more same is =
+    let w = taken_with old mid new now number a.lines read taken a.taken more same in
+    record {
+      read = a.taken.read ++ read;
+      «from» = w.0;
+      lines = a.lines;
+      later = later;
+      parts = w.1 ∙ ap (λ ls. a.lines ++ ls) is;
+      text = a.text;
+      answers = a.answers;
+      tells = a.tells;
+    }
 
 -- reading failed
 pub answered_read : (m last : Machine) (old mid new : Option (List ℕ)) (now after : List ℕ × ℕ) (kept : List ℕ × Bool) (number : ℕ) (written out : Option (List ℕ)) (before s : List ℕ × Bool)
@@ -175,13 +143,6 @@ unfolding first_with
 answered_read m last old mid new now after kept number written out before s e a gives =
     let l = gives.0 in
     (first_with m last old mid new now after number written out before s l.takes.read l.bytes (lines_of l.bytes) a l.takes.from (rest_is mid new now after kept l) refl, none_whole l.bytes l.plain)
-
--- where nothing is kept of a line there is nothing of it
-pub nothing_kept : (bytes : List ℕ) → take 4096 bytes ≡ [] → bytes ≡ []
-nothing_kept bytes h = empty_list bytes (omega (arith, ap length h, length-take 4096 bytes))
-
-pub something_kept : (bytes : List ℕ) → 0 < length (take 4096 bytes) → 0 < length bytes
-something_kept bytes h = omega (arith, h, length-take 4096 bytes)
 
 -- at the end no line is left
 pub answered_end : (m last : Machine) (old mid new : Option (List ℕ)) (now after : List ℕ × ℕ) (kept : List ℕ × Bool) (number : ℕ) (written out : Option (List ℕ)) (before s : List ℕ × Bool)
@@ -228,10 +189,6 @@ ends_list (Cut n) m last old new written out before after named t ends = (t, end
 ends_list (Long n) m last old new written out before after named t ends = (t, ends)
 ends_list (Unread n reason) m last old new written out before after named t ends = (t, ends)
 
--- the line that ended it, with what came behind it
-pub line_of_more : (mid new : Option (List ℕ)) (now after : List ℕ × ℕ) (kept : List ℕ × Bool) (l : TakesLine mid new now after kept) → lines_of ((l.bytes ++ 10 ∷ []) ++ after.0) ≡ record { bytes = l.bytes; whole = true } ∷ lines_of after.0
-line_of_more mid new now after kept l = ap lines_of (append_assoc l.bytes (10 ∷ []) after.0) ∙ lines_more l.bytes after.0 l.plain
-
 -- the line that is last in what was read ends the list, as it asks for this
 ended_at : (ending : Ending) (number : ℕ) (bytes : List ℕ) (fault : Fault) → asked_at number ending bytes ≡ Err fault → Names (Err fault)
 ended_at ending number bytes fault is = subst (λ (q : Result (Option Request) Fault). Names q) is (names_at number ending bytes)
@@ -249,7 +206,7 @@ answered_stop Whole m last next old mid new now after kept number written out ou
     subst (λ (x : Machine). TellsList m x old new written out' before t (Err fault)) (sym told.1)
     (ends_list fault m last old new written out' before t (ended_at Whole number bytes fault told.0)
     (first_with m last old mid new now after number written out' before t l.takes.read ((l.bytes ++ 10 ∷ []) ++ after.0) (line ∷ lines_of after.0) b l.takes.from l.takes.same (line_of_more mid new now after kept l))
-    (ap (λ n. asked_of n line) (sym a.number_is) ∙ sym (asked_whole number l.bytes kept l.kept_is g.1) ∙ ap (asked_at number Whole) (sym same) ∙ told.0))
+    (ap (λ n. asked_of n line) (sym a.taken.number_is) ∙ sym (asked_whole number l.bytes kept l.kept_is g.1) ∙ ap (asked_at number Whole) (sym same) ∙ told.0))
 answered_stop TooLong m last next old mid new now after kept number written out out' before s t r bytes fault a gives is same told =
     let g = subst (λ (o : Option Ending). GivesLine mid new now after kept (Ok o)) is gives in
     let l = g.0 in
@@ -258,7 +215,7 @@ answered_stop TooLong m last next old mid new now after kept number written out 
     subst (λ (x : Machine). TellsList m x old new written out' before t (Err fault)) (sym told.1)
     (ends_list fault m last old new written out' before t (ended_at TooLong number bytes fault told.0)
     (first_with m last old mid new now after number written out' before t l.takes.read ((l.bytes ++ 10 ∷ []) ++ after.0) (line ∷ lines_of after.0) b l.takes.from l.takes.same (line_of_more mid new now after kept l))
-    (ap (λ n. asked_of n line) (sym a.number_is) ∙ sym (asked_long number l.bytes kept l.kept_is g.1) ∙ told.0))
+    (ap (λ n. asked_of n line) (sym a.taken.number_is) ∙ sym (asked_long number l.bytes kept l.kept_is g.1) ∙ told.0))
 answered_stop IsCut m last next old mid new now after kept number written out out' before s t r bytes fault a gives is same told =
     let g = subst (λ (o : Option Ending). GivesLine mid new now after kept (Ok o)) is gives in
     let l = g.0 in
@@ -268,7 +225,7 @@ answered_stop IsCut m last next old mid new now after kept number written out ou
     subst (λ (x : Machine). TellsList m x old new written out' before t (Err fault)) (sym told.1)
     (ends_list fault m last old new written out' before t (ended_at IsCut number bytes fault told.0)
     (first_with m last old mid new now after number written out' before t l.takes.read l.bytes (line ∷ []) b l.takes.from (rest_is mid new now after kept l) (cut_line l.bytes l.plain (something_kept l.bytes some)))
-    (ap (λ n. asked_of n line) (sym a.number_is) ∙ told.0))
+    (ap (λ n. asked_of n line) (sym a.taken.number_is) ∙ told.0))
 
 -- THE RUN
 

@@ -1,15 +1,14 @@
 -- The lines of a judged list, one by one.
-use Rattle.std.proofs.Common.{◌≡◌, ℕ, ◌+◌, ◌<◌, ◌≤◌, ◌⊎◌, inl, inr, nat_lt, Bool, true, false, cond, List, [], ◌∷◌, ◌++◌, length, take, Option, Some, None, Result, Ok, Err, ◌||◌, not, sym, ap, subst, ◌∙◌, refl, arith}
+use Rattle.std.proofs.Common.{◌≡◌, ℕ, ◌+◌, ◌<◌, ◌≤◌, ◌⊎◌, inl, inr, Bool, true, false, cond, List, [], ◌∷◌, ◌++◌, length, take, Option, Some, None, Result, Ok, Err, ◌||◌, not, sym, ap, subst, ◌∙◌, refl, arith}
 use Rattle.std.specs.Io.KnownBytes.{Consumes, Appends}
-use Rattle.std.proofs.lemmas.List.{append-nil, take_all}
-use Rattle.std.proofs.lemmas.Bool.Decides.{nat_tests}
+use Rattle.std.proofs.lemmas.List.{append-nil}
 use mathlib.Core.List.{append_assoc}
 use Rattle.l4_fpage.specs.declared.sizes.PageSize.{PageSize}
 use Rattle.l4_ipc.specs.Machine.{Machine, IsBoot}
-use Rattle.l4_text.specs.Lines.{kept_of, TakesLine, GivesLine}
+use Rattle.l4_text.specs.Lines.{TakesLine, GivesLine}
 use Rattle.l4_text.specs.Streams.{WentOut, HasTold, Tells}
 use Rattle.l4_text.specs.declared.lines.Ending.{Ending}
-use Rattle.l4_text.specs.declared.lines.Ending.TheVariants.{Whole, Long as TooLong}
+use Rattle.l4_text.specs.declared.lines.Ending.TheVariants.{Whole}
 use Rattle.l4_text.specs.declared.faults.RunFault.{RunFault}
 use Rattle.l4_text.specs.declared.faults.RunFault.TheVariants.{Read, Write, Memory}
 use Rattle.l4_text.proofs.Telling.{all_out, some_out, tells_none, tells_more, tells_is}
@@ -26,8 +25,7 @@ use Rattle.l4_step_lines.specs.Lists.{asked_at}
 use Rattle.l4_step_lines.specs.Judging.{said_in, has_said, is_unknown, lacks, lack_of, after_answer, difference, with_answer, IsExpected, answer_count, step_count, is_short, short_text, verdict, stops, JudgesAnswer, JudgesAsked, JudgesSaid, JudgesAt, JudgesLines, IsStart, JudgesFirst, EndsAt, EndsJudging, Concludes, Judges}
 use Rattle.l4_step_lines.specs.Inside.Judged.{MatchesAnswer, TellsRequest, TellsJudged, EndsBy, TellsEnd, JudgesSome, TellsLines}
 use Rattle.l4_text.proofs.Grammar.{cut_line, none_whole}
-use Rattle.l4_step_lines.proofs.Going.{line_of_more, rest_is, nothing_kept, something_kept}
-use Rattle.l4_step_lines.proofs.Taking.{Taken, taken_none, taken_more, taken_parts, taken_with}
+use Rattle.l4_answers.proofs.Taking.{Taken, taken_none, taken_more, taken_parts, taken_with, rest_is, line_of_more, ending_whole, ending_long, nothing_kept, something_kept}
 
 -- ONE LINE
 
@@ -114,16 +112,6 @@ judges_more all m between n old mid new number (first ∷ lines) text line last 
       judges_more all are.3 between n are.4 mid new (number + 1) lines are.2 line last are.6 on (subst (λ (i : ℕ). JudgesAt between mid i (ending_of line) line.bytes last n new) k is),
       ap (λ t. t ++ last) are.7 ∙ append_assoc are.1 are.2 last,
     )
-
--- what is kept of a whole line is the line
-ending_whole : (bytes : List ℕ) (kept : List ℕ × Bool) → kept ≡ kept_of bytes → kept.1 ≡ false → (ending_of (record { bytes = bytes; whole = true }) ≡ Whole) × (kept.0 ≡ bytes)
-ending_whole bytes kept is short =
-    let f : nat_lt 4096 (length bytes) ≡ false = sym (ap (λ k. k.1) is) ∙ short in
-    let le : length bytes ≤ 4096 = grind (arith, nat_tests) in
-    (ap (λ v. cond v TooLong Whole) f, ap (λ k. k.0) is ∙ take_all 4096 bytes le)
-
-ending_long : (bytes : List ℕ) (kept : List ℕ × Bool) → kept ≡ kept_of bytes → kept.1 ≡ true → ending_of (record { bytes = bytes; whole = true }) ≡ TooLong
-ending_long bytes kept is long = ap (λ v. cond v TooLong Whole) (sym (ap (λ k. k.1) is) ∙ long)
 
 -- HOW MANY WERE COUNTED
 

@@ -6,5 +6,4 @@ mod Listing
 mod Pieces
 mod ReadBack
 mod Stopping
-mod Taking
 mod WatchedLines

@@ -1,10 +1,11 @@
 -- The lines of an answer, compared one by one.
-use Rattle.std.proofs.Common.{◌≡◌, ℕ, suc, ◌+◌, ◌-◌, ◌==◌, ◌≤◌, ◌<◌, Bool, true, false, not, cond, List, [], ◌∷◌, length, take, drop, map, Option, Some, None, sym, ap, subst, ◌∙◌, refl, arith}
+use Rattle.std.proofs.Common.{◌≡◌, ℕ, suc, ◌+◌, ◌-◌, ◌==◌, ◌≤◌, ◌<◌, Bool, true, false, not, cond, List, [], ◌∷◌, length, take, drop, map, Option, Some, sym, ap, subst, ◌∙◌, refl, arith}
 use Rattle.std.proofs.lemmas.List.{length-drop}
 use Rattle.std.proofs.lemmas.Bool.Decides.{nat_tests}
-use Rattle.std.specs.List.{position_or_len, prefix_len}
+use Rattle.std.specs.List.{position_or_len}
 use Rattle.l4_text.specs.Grammar.{TextLine, in_front, lines_of}
-use Rattle.l4_step_lines.specs.Judging.{first_line, later_lines, has_said}
+use Rattle.l4_answers.specs.Lines.{first_line, later_lines}
+use Rattle.l4_step_lines.specs.Judging.{has_said}
 use Rattle.l4_step_lines.specs.Watching.{said_lines, differs_from, difference_at}
 
 abbrev with_front : ℕ → List (List ℕ) → List (List ℕ)

@@ -1,6 +1,5 @@
 -- What is told of a list of steps with another kernel's answers (this profile's own).
-use Rattle.std.specs.Prelude.{ℕ, ◌≡◌, ◌+◌, ◌==◌, ◌||◌, ◌&&◌, ◌⊎◌, not, Bool, true, false, List, [], ◌∷◌, ◌++◌, length, take, drop, filter, codes, decimal, Option, Some, None, MatchOption, Result, Ok, Err, if◌then◌else◌}
-use Rattle.std.specs.List.{position_or_len}
+use Rattle.std.specs.Prelude.{ℕ, ◌≡◌, ◌+◌, ◌==◌, ◌||◌, ◌&&◌, ◌⊎◌, not, Bool, true, false, List, [], ◌∷◌, ◌++◌, length, filter, codes, decimal, Option, Some, None, MatchOption, Result, Ok, Err, if◌then◌else◌}
 use Rattle.std.specs.Str.{bytes_eq}
 use Rattle.std.specs.Io.KnownBytes.{Consumes, Appends, IsAtEnd}
 use Rattle.l4_answers.specs.Replies.{newline}
@@ -8,6 +7,7 @@ use Rattle.l4_fpage.specs.declared.sizes.PageSize.{PageSize}
 use Rattle.l4_ipc.specs.declared.steps.Step.{Step}
 use Rattle.l4_ipc.specs.Machine.{Machine, IsBoot}
 use Rattle.l4_ipc.specs.Steps.{IsNext, IsIdle}
+use Rattle.l4_answers.specs.Lines.{first_line, later_lines}
 use Rattle.l4_text.specs.Streams.{WentOut}
 use Rattle.l4_text.specs.declared.lines.Ending.{Ending}
 use Rattle.l4_text.specs.declared.lines.Ending.TheVariants.{Whole}
@@ -36,14 +36,6 @@ abbrev pub is_unknown : List ℕ → Bool
 is_unknown said = bytes_eq said (codes "?")
 
 -- WHAT IS EXPECTED BELOW A STEP OR QUESTION
-
--- the first line of a text
-abbrev pub first_line : List ℕ → List ℕ
-first_line text = take (position_or_len (λ byte. byte == 10) text) text
-
--- the lines behind it
-abbrev pub later_lines : List ℕ → List ℕ
-later_lines text = drop (position_or_len (λ byte. byte == 10) text + 1) text
 
 -- an answer is the first line that is due, or stands for it
 abbrev pub has_said : List ℕ → List ℕ → Bool

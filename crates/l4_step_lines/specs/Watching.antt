@@ -11,7 +11,8 @@ use Rattle.l4_step_lines.specs.declared.watching.Unjudged.TheVariants.{Unread, M
 use Rattle.l4_text.specs.Grammar.{lines_of}
 use Rattle.l4_step_lines.specs.Lists.{Answers}
 use Rattle.l4_step_lines.specs.Requests.{request_of}
-use Rattle.l4_step_lines.specs.Judging.{first_line, later_lines, has_said}
+use Rattle.l4_answers.specs.Lines.{first_line, later_lines}
+use Rattle.l4_step_lines.specs.Judging.{has_said}
 
 -- the lines of an answer, of which the last need not end with a newline
 abbrev pub said_lines : List ℕ → List (List ℕ)

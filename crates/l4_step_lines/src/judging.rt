@@ -7,11 +7,12 @@ ghost use Rattle.l4_step_lines.specs.Judging.{said_in, answer_count, after_answe
 ghost use Rattle.l4_step_lines.specs.Inside.Judged.{MatchesAnswer, TellsRequest, TellsJudged, TellsEnd, TellsLines, EndsBy};
 
 use crate::answers::next_text;
-use crate::expected::{DueLines, Expected, is_unknown};
+use crate::expected::{Expected, has_said, is_unknown};
 use crate::requests::{Request, read_request};
 use crate::running::Fault;
 use crate::session::{answer, is_silent};
 use crate::stops::unread_reason;
+use l4_answers::AnswerLines;
 use l4_ipc::{Kernel, PageSize};
 use l4_text::{Ending, LineReader, Output, RunFault, Text};
 use std::alloc::Global;
@@ -134,7 +135,7 @@ fn compare<W: Write>(
     ensures told { Tells (W.contents writer.old) (W.contents writer.new) out.old out.new
         (if has_said expected.now.due said.now then [] else difference expected.now number said.now) }
 {
-    if expected.due.has_said(said) {
+    if has_said(&expected.due, said) {
         return true;
     }
     put_difference(expected, number, said, out, writer);
@@ -249,7 +250,7 @@ fn expect(alloc: Global, kernel: &mut Kernel, request: Request, line: &[u8]) -> 
     let text = answered(alloc, kernel, request)?;
     Some(Expected {
         line,
-        due: DueLines::new(text),
+        due: AnswerLines::new(text),
         next: kernel.enabled(),
         last: None,
     })

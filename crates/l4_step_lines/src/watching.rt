@@ -1,11 +1,12 @@
 //! Another kernel's answer to one step or query.
 ghost use Rattle.std.specs.Prelude.{◌≡◌, ◌==◌, length, Some, None, MatchOption, if◌then◌else◌};
-ghost use Rattle.l4_step_lines.specs.Judging.{first_line};
+ghost use Rattle.l4_answers.specs.Lines.{first_line};
 ghost use Rattle.l4_step_lines.specs.Watching.{said_lines, difference_at, JudgesStep};
 
-use crate::expected::{DueLines, first_line, later_lines};
+use crate::expected::has_said;
 use crate::judging::{answered, copied};
 use crate::requests::read_request;
+use l4_answers::{AnswerLines, first_line, later_lines};
 use l4_ipc::{Kernel, Step};
 use std::alloc::Global;
 use thiserror::Error;
@@ -40,7 +41,7 @@ pub enum Unjudged {
 }
 
 /// The place behind the last line of an answer, if there are further lines that are due.
-fn lack_at(due: &DueLines, place: usize) -> Option<usize>
+fn lack_at(due: &AnswerLines, place: usize) -> Option<usize>
     ensures { result ≡ (if length due.now == 0 then None else Some place) }
 {
     if due.is_empty() { None } else { Some(place) }
@@ -48,7 +49,7 @@ fn lack_at(due: &DueLines, place: usize) -> Option<usize>
 
 /// Compares the lines of an answer with the lines that are due, up to the first difference. Returns its place, and leaves the lines that are
 /// due there.
-fn first_difference(due: &mut DueLines, answer: &[u8]) -> Option<usize>
+fn first_difference(due: &mut AnswerLines, answer: &[u8]) -> Option<usize>
     ensures { MatchOption result (difference_at due.old (said_lines answer.now) ≡ None)
         (λ place. difference_at due.old (said_lines answer.now) ≡ Some (place, first_line due.new)) }
 {
@@ -60,7 +61,7 @@ fn first_difference(due: &mut DueLines, answer: &[u8]) -> Option<usize>
         if rest.is_empty() {
             return lack_at(due, place);
         }
-        if !due.has_said(first_line(rest)) {
+        if !has_said(due, first_line(rest)) {
             return Some(place);
         }
         due.go_on();
@@ -89,7 +90,7 @@ pub fn judge_step(
         return Err(Unjudged::Memory);
     };
     let next = kernel.enabled();
-    let mut due = DueLines::new(text);
+    let mut due = AnswerLines::new(text);
     let Some(place) = first_difference(&mut due, answer) else {
         return Ok(Judgement {
             difference: None,

@@ -1,6 +1,6 @@
 -- The exit status of l4_steps, by how its list ended (this profile's own).
 use Rattle.std.specs.Prelude.{ℕ, Result, Ok, Err}
-use Rattle.l4_options.specs.Statuses.{run_status}
+use Rattle.l4_programs.specs.Statuses.{run_status}
 use Rattle.l4_step_lines.specs.declared.running.Fault.{Fault}
 use Rattle.l4_step_lines.specs.declared.running.Fault.TheVariants.{Stopped}
 

@@ -8,9 +8,9 @@ ghost use Rattle.std.specs.Prelude.{◌≡◌};
 ghost use Rattle.l4_steps.specs.Statuses.{list_status};
 
 use l4_fpage::PageSize;
-use l4_options::{
-    NOT_UNDERSTOOD, StepOptions, WatchedReader, WatchedWriter, cause, command_words, misread, show,
-    status_of, step_options, stopped,
+use l4_options::{StepOptions, misread, step_options};
+use l4_programs::{
+    NOT_UNDERSTOOD, WatchedReader, WatchedWriter, cause, command_words, show, status_of, stopped,
 };
 use l4_step_lines::{Fault, run};
 use std::io;

@@ -1,4 +1,7 @@
+pub mod Computed
 pub mod Cuts
 pub mod Examples
 pub mod Named
+pub mod Present
 pub mod Reread
+pub mod MessageRows

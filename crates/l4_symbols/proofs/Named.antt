@@ -68,7 +68,7 @@ no_log count lt none k e =
     ]
 
 -- a block of a space has no more pages than the largest space
-log_within : (size : PageSize) (log : ℕ) → 2 ^ log ≤ space_pages size → log ≤ most_log
+pub log_within : (size : PageSize) (log : ℕ) → 2 ^ log ≤ space_pages size → log ≤ most_log
 log_within size log h = omega (arith, log_low size log h, space_log_small size)
 
 -- pages that end in the space and are no block have a first page that is not aligned

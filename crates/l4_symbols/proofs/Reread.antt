@@ -26,7 +26,7 @@ use Rattle.l4_symbols.specs.declared.spelling.WindowParts.TheVariants.{All, Noth
 use Rattle.l4_symbols.proofs.Named.{one_fpage, names_pages}
 
 -- what is read is read as one value
-one_reading : {A : Type 0} (read : Result A Reason) (a b : A) → read ≡ Ok a → read ≡ Ok b → a ≡ b
+pub one_reading : {A : Type 0} (read : Result A Reason) (a b : A) → read ≡ Ok a → read ≡ Ok b → a ≡ b
 one_reading read a b x y = cc
 
 -- a token names one fpage

@@ -58,3 +58,13 @@ AddRefused size token m reason =
     ((word : ℕ) × (number_of token ≡ Some word) × WordRefused m reason)
     ⊎ (((item : Item) × (number_of token ≡ None) × NamesItem size token item × ItemFull m reason)
     ⊎ ((number_of token ≡ None) × ItemRefused size token reason))
+
+-- THE MESSAGE WITH THESE TOKENS behind its own, one after another
+abbrev pub AddsEach : PageSize → List (List ℕ) → Message → Message → Type 0
+AddsEach size [] before after = before ≡ after
+AddsEach size (token ∷ tokens) before after = (next : Message) × Adds size token before next × AddsEach size tokens next after
+
+-- THE MESSAGE OF TOKENS: of a tag and the tokens behind it
+abbrev pub IsMessageOf : PageSize → List (List ℕ) → Message → Type 0
+IsMessageOf size [] message = ⊥
+IsMessageOf size (tag ∷ tokens) message = (begun : Message) × Begins tag begun × AddsEach size tokens begun message

@@ -1,8 +1,11 @@
 //! Items in symbolic tokens.
-ghost use Rattle.std.specs.Prelude.{◌≡◌, ◌%◌, IfOk, IfErr};
+ghost use Rattle.std.specs.Prelude.{◌≡◌, ◌%◌, false, IfOk, IfErr};
+ghost use Rattle.std.specs.Result.{result_map_both};
 ghost use Rattle.l4_msg.specs.Moves.{base_of};
 ghost use Rattle.l4_msg.specs.Sizes.{base_unit};
+ghost use Rattle.l4_msg.specs.Words.{item_words};
 ghost use Rattle.l4_msg.specs.declared.items.Item.{Item as AnItem};
+ghost use Rattle.l4_symbols.specs.Computed.{parts_words, item_words_in};
 ghost use Rattle.l4_symbols.specs.Items.{IsItemOf, NamesItem, PartsFail, ItemRefused};
 
 use crate::pages::fpage_of;
@@ -16,6 +19,8 @@ fn item_of(parts: &ItemParts, size: PageSize) -> Result<Item, Reason>
     ensures ok { IfOk result (IsItemOf size parts.now) }
     ensures whole { IfOk result (λ item. base_of item % base_unit ≡ 0) }
     ensures err { IfErr result (PartsFail size parts.now) }
+    ensures value { result_map_both (λ item. item_words item false) (λ reason. reason) result
+        ≡ parts_words size parts.now }
 {
     let fpage = match fpage_of(&parts.pages, size, parts.rights) {
         Ok(fpage) => fpage,
@@ -41,6 +46,8 @@ pub fn item(token: &[u8], size: PageSize) -> Result<Item, Reason>
     ensures ok { IfOk result (NamesItem size token.now) }
     ensures whole { IfOk result (λ item. base_of item % base_unit ≡ 0) }
     ensures err { IfErr result (ItemRefused size token.now) }
+    ensures value { result_map_both (λ item. item_words item false) (λ reason. reason) result
+        ≡ item_words_in size token.now }
     ensures only { (item : AnItem) → NamesItem size token.now item → result ≡ Ok item }
 {
     let parts = match item_in(token) {

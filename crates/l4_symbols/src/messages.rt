@@ -1,9 +1,10 @@
 //! Messages in symbolic tokens.
-ghost use Rattle.std.specs.Prelude.{◌≡◌, ◌+◌, ◌*◌, ◌%◌, ◌≤◌, ◌<◌, [], ◌∷◌, ◌++◌, IfOk, IfErr, OnOk, OnErr};
+ghost use Rattle.std.specs.Prelude.{◌≡◌, ◌+◌, ◌*◌, ◌%◌, ◌≤◌, ◌<◌, false, [], ◌∷◌, ◌++◌, IfOk, IfErr, OnOk, OnErr};
 ghost use Rattle.std.specs.List.{All};
 ghost use Rattle.arrayvec.specs.ArrayVec.{array_vec_len};
 ghost use Rattle.l4_msg.specs.Moves.{base_of};
 ghost use Rattle.l4_msg.specs.Sizes.{max_untyped, base_unit};
+ghost use Rattle.l4_msg.specs.Words.{item_words};
 
 use crate::items::item;
 use crate::reasons::Reason;
@@ -33,7 +34,24 @@ fn push_to<T: Copy, const COUNT: usize>(list: &mut ArrayVec<T, COUNT>, element: 
 impl SymbolicMessage {
     ghost use Rattle.l4_msg.specs.Messages.{MessageReads, message_words};
     ghost use Rattle.l4_symbols.specs.Messages.{Begins, Adds, AddsWord, AddsItem, AddRefused, WordRefused, ItemFull};
+    ghost use Rattle.l4_symbols.specs.Rows.{RowTag, Leaves, row_added, row_of, item_added, word_added};
     ghost use Rattle.l4_symbols.specs.Spelling.{label_in};
+
+    /// Begins a message with this label, after whose tag nothing follows yet.
+    pub(crate) fn labelled(label: u16, size: PageSize) -> SymbolicMessage
+        ensures size { result.size ≡ size }
+        ensures label { result.message.label ≡ label }
+        ensures empty { (result.message.untyped.items ≡ []) × (result.message.items.items ≡ []) }
+    {
+        SymbolicMessage {
+            size,
+            message: Message {
+                label,
+                untyped: ArrayVec::new(),
+                items: ArrayVec::new(),
+            },
+        }
+    }
 
     /// Begins a message with its tag, `tag:LABEL`. LABEL is a number below 65,536.
     ///
@@ -43,14 +61,7 @@ impl SymbolicMessage {
         ensures err { IfErr result (λ reason. label_in token.now ≡ Err reason) }
     {
         match label_in(token) {
-            Ok(label) => Ok(SymbolicMessage {
-                size,
-                message: Message {
-                    label,
-                    untyped: ArrayVec::new(),
-                    items: ArrayVec::new(),
-                },
-            }),
+            Ok(label) => Ok(SymbolicMessage::labelled(label, size)),
             Err(reason) => Err(reason),
         }
     }
@@ -60,7 +71,11 @@ impl SymbolicMessage {
         ensures ok { OnOk result
             ((self.new.size ≡ self.old.size) × AddsWord word self.old.message self.new.message) }
         ensures err { IfErr result (WordRefused self.old.message) }
+        ensures row { (tag : RowTag)
+            → Leaves result (word_added word (row_of tag self.old.message))
+            (row_of tag self.new.message) }
         ensures same { OnErr result (self.new ≡ self.old) }
+        ensures label { self.new.message.label ≡ self.old.message.label }
     {
         if !self.message.items.is_empty() {
             return Err(Reason::Behind);
@@ -78,7 +93,11 @@ impl SymbolicMessage {
         ensures ok { OnOk result
             ((self.new.size ≡ self.old.size) × AddsItem item self.old.message self.new.message) }
         ensures err { IfErr result (ItemFull self.old.message) }
+        ensures row { (tag : RowTag)
+            → Leaves result (item_added (item_words item false) (row_of tag self.old.message))
+            (row_of tag self.new.message) }
         ensures same { OnErr result (self.new ≡ self.old) }
+        ensures label { self.new.message.label ≡ self.old.message.label }
     {
         if self.message.untyped.len() + 2 * self.message.items.len() + 2 > MAX_UNTYPED {
             return Err(Reason::Full);
@@ -96,7 +115,11 @@ impl SymbolicMessage {
             ((self.new.size ≡ self.old.size)
             × Adds self.old.size token.now self.old.message self.new.message) }
         ensures err { IfErr result (AddRefused self.old.size token.now self.old.message) }
+        ensures row { (tag : RowTag)
+            → Leaves result (row_added self.old.size token.now (row_of tag self.old.message))
+            (row_of tag self.new.message) }
         ensures same { OnErr result (self.new ≡ self.old) }
+        ensures label { self.new.message.label ≡ self.old.message.label }
     {
         if let Some(word) = number(token) {
             return self.add_word(word);

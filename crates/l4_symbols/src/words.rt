@@ -1,6 +1,9 @@
 //! Words in symbolic tokens: receive windows, fpages and timeouts.
 ghost use Rattle.std.specs.Prelude.{◌≡◌, ℕ, ◌+◌, ◌*◌, IfOk, IfErr};
+ghost use Rattle.std.specs.Result.{result_map_both};
+ghost use Rattle.l4_fpage.specs.Fpages.{fpage_word};
 ghost use Rattle.l4_ipc.specs.Constructors.{timeout_bits};
+ghost use Rattle.l4_symbols.specs.Computed.{fpage_word_in, window_word_of, window_word_in, word_in};
 ghost use Rattle.l4_symbols.specs.Words.{FpageWord, FpageRefused, IsWindowOf, NamesWord, WindowFails, WindowWord, WindowRefused, WordRefused, timeouts_word};
 
 use crate::pages::fpage_of;
@@ -27,6 +30,7 @@ pub enum WordKind {
 fn fpage_word(token: &[u8], size: PageSize) -> Result<u32, Reason>
     ensures ok { IfOk result (FpageWord size token.now) }
     ensures err { IfErr result (FpageRefused size token.now) }
+    ensures value { result ≡ fpage_word_in size token.now }
     ensures only { (word : ℕ) → FpageWord size token.now word → result ≡ Ok word }
 {
     let parts = match fpage_in(token) {
@@ -43,6 +47,8 @@ fn fpage_word(token: &[u8], size: PageSize) -> Result<u32, Reason>
 fn window_of(parts: WindowParts, size: PageSize) -> Result<Fpage, Reason>
     ensures ok { IfOk result (IsWindowOf size parts) }
     ensures err { IfErr result (WindowFails size parts) }
+    ensures value { result_map_both fpage_word (λ reason. reason) result
+        ≡ window_word_of size parts }
 {
     match parts {
         WindowParts::All => Ok(Fpage::Complete(Rights::of_bits(0))),
@@ -58,6 +64,7 @@ fn window_of(parts: WindowParts, size: PageSize) -> Result<Fpage, Reason>
 fn window_word(token: &[u8], size: PageSize) -> Result<u32, Reason>
     ensures ok { IfOk result (WindowWord size token.now) }
     ensures err { IfErr result (WindowRefused size token.now) }
+    ensures value { result ≡ window_word_in size token.now }
     ensures only { (word : ℕ) → WindowWord size token.now word → result ≡ Ok word }
 {
     let parts = match window_in(token) {
@@ -98,6 +105,7 @@ fn timeouts_word(token: &[u8]) -> Result<u32, Reason>
 pub fn word_of(kind: WordKind, token: &[u8], size: PageSize) -> Result<u32, Reason>
     ensures ok { IfOk result (NamesWord kind size token.now) }
     ensures err { IfErr result (WordRefused kind size token.now) }
+    ensures value { result ≡ word_in kind size token.now }
     ensures only { (word : ℕ) → NamesWord kind size token.now word → result ≡ Ok word }
 {
     match kind {

@@ -3,6 +3,7 @@ messages, long queues, deletions under waiting partners, served faults and deleg
 
 A maker looks at the model, so most of what it makes can be done; some of it can't, and some can't even be read.
 """
+import symbols
 from machine import ROOT_SPACE, Sending
 from words import ANY_THREAD
 
@@ -423,6 +424,40 @@ class ScriptMaker(Maker):
     """Makes scripts."""
 
     PLANS = {"chain": 2, "tree": 1, "grants": 2, "family": 3, "ranges": 2, "queue": 0.2, "serve": 2, "pagers": 4, "regions": 0.3, "spaces": 1}
+
+    def line(self):
+        """Returns the next line, often with symbolic tokens in place of words, and now and then with a damaged token."""
+        line = super().line()
+        tokens = line.split()
+        if self.random.random() < 0.5 or not all(map(symbols.is_number, tokens[4 if tokens[:1] == ["ipc"] else 3 :])):
+            return line
+        spelled = self.spelled(tokens)
+        if len(spelled) > 3 and self.random.random() < 0.02:
+            place = self.random.randrange(3, len(spelled))
+            spelled[place] = self.damaged(spelled[place])
+        return " ".join(spelled)
+
+    def spelled(self, tokens):
+        """The tokens of a line, with symbolic tokens where these have the same words."""
+        command = tokens[0] if tokens else ""
+        words = [int(token, 0) for token in tokens[4 if command == "ipc" else 3 :]]
+        labelled = self.random.random() < 0.8
+        if command == "recv" and words:
+            return tokens[:3] + [symbols.window_text(words[0], self.page_log)]
+        if command == "send":
+            return tokens[:3] + symbols.message_tokens(words, self.page_log, labelled)
+        if command == "unmap":
+            return tokens[:3] + [symbols.fpage_text(word, self.page_log) for word in words]
+        if command == "ipc" and len(words) > 1:
+            texts = [symbols.timeouts_text(words[0]), symbols.window_text(words[1], self.page_log)]
+            return tokens[:4] + texts + symbols.message_tokens(words[2:], self.page_log, labelled)
+        return tokens
+
+    def damaged(self, token):
+        """The token with one of its characters left out, doubled or replaced."""
+        place = self.random.randrange(len(token))
+        middle = self.random.choice(["", token[place] * 2, *"rwx-+>:,0179"])
+        return token[:place] + middle + token[place + 1 :] or "x"
 
     def any_line(self):
         random = self.random

@@ -1,4 +1,5 @@
 """The answers to a script, line by line: the commands, the served threads, sigma0's table and the tables of regions."""
+import symbols
 from machine import SIGMA0_ID, Machine
 from steps import RIGHTS
 from words import ANY_THREAD, ERROR_TAG, FULL_RIGHTS, NIL_THREAD, PAGE_LOG, SPACE_LOG, WORDS, Refused, read_fpage, write_fpage
@@ -112,8 +113,9 @@ class BadTokens(Exception):
 class Tokens:
     """The tokens of a line after its command, taken one by one."""
 
-    def __init__(self, tokens):
+    def __init__(self, tokens, page_log):
         self.left = list(tokens)
+        self.page_log = page_log
 
     def take(self):
         if not self.left:
@@ -151,10 +153,26 @@ class Tokens:
             raise BadTokens
         return found[0]
 
+    def symbol(self, read, *tokens):
+        """What `read` makes of these tokens."""
+        try:
+            return read(*tokens)
+        except symbols.Misspelled:
+            raise BadTokens from None
+
+    def window(self):
+        return self.symbol(symbols.window, self.take(), self.page_log)
+
+    def timeouts(self):
+        return self.symbol(symbols.timeouts, self.take())
+
     def words(self):
+        return tuple(self.symbol(symbols.words, self.left, self.page_log))
+
+    def fpages(self):
         if len(self.left) > WORDS:
             raise BadTokens
-        return tuple(self.number() for _ in list(self.left))
+        return tuple(self.symbol(symbols.fpage, token, self.page_log) for token in self.left)
 
     def end(self):
         if self.left:
@@ -199,7 +217,7 @@ class Shell:
         command = getattr(self, "do_" + tokens[0], None) if tokens[0] in COMMANDS else None
         if command is None:
             raise Refused("S1")
-        command(Tokens(tokens[1:]))
+        command(Tokens(tokens[1:], self.machine.page_log))
 
     # commands
 
@@ -211,7 +229,7 @@ class Shell:
         self.enter(ROOT, ("create", ident(number), space, pager))
 
     def do_recv(self, tokens):
-        number, partner, window = tokens.thread(), tokens.who(), tokens.number()
+        number, partner, window = tokens.thread(), tokens.who(), tokens.window()
         tokens.end()
         self.enter(number, ("ipc", NIL_THREAD, partner, 0, window, ()))
 
@@ -220,12 +238,12 @@ class Shell:
         self.enter(number, ("ipc", to, NIL_THREAD, 0, 0, words))
 
     def do_ipc(self, tokens):
-        number, to, partner, timeouts, window = tokens.thread(), tokens.who(), tokens.who(), tokens.number(), tokens.number()
+        number, to, partner, timeouts, window = tokens.thread(), tokens.who(), tokens.who(), tokens.timeouts(), tokens.window()
         self.enter(number, ("ipc", to, partner, timeouts, window, tokens.words()))
 
     def do_unmap(self, tokens):
         number, control = tokens.thread(), tokens.number()
-        self.enter(number, ("unmap", control, tokens.words()))
+        self.enter(number, ("unmap", control, tokens.fpages()))
 
     def do_setpager(self, tokens):
         number, pager = tokens.thread(), tokens.pager()

@@ -1,8 +1,9 @@
 -- What parts of a test do with one line.
-use Rattle.std.specs.Prelude.{ℕ, ◌≡◌, ◌+◌, ◌==◌, ◌⊎◌, Bool, true, false, List, [], ◌++◌, length, drop, filter, Option, Some, None, Result, Ok, Err}
-use Rattle.std.specs.List.{All, position_or_len}
+use Rattle.std.specs.Prelude.{ℕ, ◌≡◌, ◌+◌, ◌==◌, ◌⊎◌, Bool, true, false, List, [], ◌++◌, length, filter, Option, Some, None, Result, Ok, Err}
+use Rattle.std.specs.List.{All}
 use Rattle.std.specs.Io.KnownBytes.{Consumes, IsAtEnd}
 use Rattle.l4_answers.specs.Reports.{Report}
+use Rattle.l4_answers.specs.Lines.{first_line, later_lines, is_next}
 use Rattle.l4_text.specs.Grammar.{TextLine, lines_of, is_silent, ending_of}
 use Rattle.l4_shell.specs.Requests.{asked_at}
 use Rattle.l4_shell.specs.Sessions.{Session, AnswersLine}
@@ -18,11 +19,7 @@ use Rattle.l4_expectations.specs.declared.outcomes.Passed.{Passed}
 use Rattle.l4_expectations.specs.declared.testing.Tested.{Tested}
 use Rattle.l4_expectations.specs.Expectations.{is_marked, expected_in, is_rest, expected_by, expected_below, AreAsExpected}
 use Rattle.l4_expectations.specs.declared.outcomes.Fault.TheVariants.{NoLine, AfterRest}
-use Rattle.l4_expectations.specs.Tests.{AgreesSoFar, Differ, FailsAt, FailsNext, IsWrong, is_ended, is_surplus, has_surplus, is_next, first_line}
-
--- the lines of a text behind the first one
-abbrev pub later_lines : List ℕ → List ℕ
-later_lines text = drop (position_or_len (λ byte. byte == 10) text + 1) text
+use Rattle.l4_expectations.specs.Tests.{AgreesSoFar, Differ, FailsAt, FailsNext, IsWrong, is_ended, is_surplus, has_surplus}
 
 -- an answer was the next one, or stood for all, and was taken
 abbrev pub Takes : Due → List ℕ → Due → Bool → Type 0
@@ -54,7 +51,7 @@ Closes due (Err failure) = SurplusReported due failure
 
 -- the line of this number was answered, and this is the text of its answers
 abbrev pub Answered : Session → ℕ → List ℕ → List ℕ → Session → Type 0
-Answered m number line text n = (told : List Report) × AnswersLine m number (asked_at Whole line) told n × AreAnswerTexts None told text
+Answered m number line text n = (told : List Report) × AnswersLine m number (asked_at m.machine.size Whole line) told n × AreAnswerTexts None told text
 
 -- an expected answer was compared, and agrees
 pub record Compared (old : Tested) (answer : List ℕ) (new : Tested) : Type 0 where

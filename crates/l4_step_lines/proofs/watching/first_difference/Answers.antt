@@ -1,5 +1,6 @@
-use Rattle.std.proofs.Common.{◌≡◌, ℕ, ◌+◌, ◌≤◌, true, false, List, length, sym, ap, ◌∙◌, arith}
-use Rattle.l4_step_lines.specs.Judging.{first_line, later_lines, has_said}
+use Rattle.std.proofs.Common.{◌≡◌, true, false, length, sym, ap, ◌∙◌, arith}
+use Rattle.l4_answers.specs.Lines.{first_line}
+use Rattle.l4_step_lines.specs.Judging.{has_said}
 use Rattle.l4_step_lines.proofs.WatchedLines.{is_some_text, differs_start, differs_here, rest_next}
 use Rattle.l4_step_lines.proofs.watching.first_difference.Goals as goal
 

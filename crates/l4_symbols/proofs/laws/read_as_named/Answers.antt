@@ -1,5 +1,6 @@
 use Rattle.l4_symbols.proofs.Named.{read_is_named, names_pages}
 use Rattle.l4_symbols.proofs.Reread.{fpage_read, window_read, window_pages, timeouts_kept}
+use Rattle.l4_symbols.proofs.Present.{word_named, message_named}
 use Rattle.l4_symbols.proofs.laws.read_as_named.Goals as goal
 
 pub returns-clause-item : goal.returns-clause-item
@@ -19,3 +20,9 @@ returns-clause-inside c = window_pages
 
 pub returns-clause-timeouts : goal.returns-clause-timeouts
 returns-clause-timeouts c = timeouts_kept
+
+pub returns-clause-computed : goal.returns-clause-computed
+returns-clause-computed c = word_named
+
+pub returns-clause-words : goal.returns-clause-words
+returns-clause-words c = message_named

@@ -8,8 +8,8 @@ use Rattle.l4_shell.proofs.answering.Script.answer_line.Goals as goal
 
 pub returns-in-Long : goal.returns-in-Long
 returns-in-Long g c =
-    refuses_line g.S.Sink.has_told (session c.args.self.now.session.kernel c.args.self.now.session.servers) _ [] LineTooLong _ _ _ _ (sym (ap (λ (e : Ending). asked_at e c.args.bytes.now) c.in-Long.is)) c.script_code.ensures c.unread_line.ensures
+    refuses_line g.S.Sink.has_told (session c.args.self.now.session.kernel c.args.self.now.session.servers) _ [] LineTooLong _ _ _ _ _ (sym (ap (λ (e : Ending). asked_at c.args.self.now.session.kernel.machine.size e c.args.bytes.now) c.in-Long.is)) c.script_code.ensures c.page_size.ensures c.unread_line.ensures
 
 pub returns-in-Cut : goal.returns-in-Cut
 returns-in-Cut g c =
-    refuses_line g.S.Sink.has_told (session c.args.self.now.session.kernel c.args.self.now.session.servers) _ [] CutLine _ _ _ _ (sym (ap (λ (e : Ending). asked_at e c.args.bytes.now) c.in-Cut.is)) c.script_code-in-Cut.ensures c.unread_line-in-Cut.ensures
+    refuses_line g.S.Sink.has_told (session c.args.self.now.session.kernel c.args.self.now.session.servers) _ [] CutLine _ _ _ _ _ (sym (ap (λ (e : Ending). asked_at c.args.self.now.session.kernel.machine.size e c.args.bytes.now) c.in-Cut.is)) c.script_code-in-Cut.ensures c.page_size-in-Cut.ensures c.unread_line-in-Cut.ensures

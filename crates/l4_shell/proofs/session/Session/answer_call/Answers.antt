@@ -6,8 +6,8 @@ use Rattle.l4_shell.proofs.session.Session.answer_call.Goals as goal
 
 pub returns-in-None : goal.returns-in-None
 returns-in-None g c = λ request is.
-    no_call g.S.Sink.has_told (session c.args.self.now.kernel c.args.self.now.servers) _ c.args.bytes.now request _ _ _
-    (subst (λ (o : Option ℕ). option_map (λ n. Enter n c.args.call.now) o ≡ request) c.in-None.is is) c.script_code.ensures c.unread_line.ensures
+    no_call g.S.Sink.has_told (session c.args.self.now.kernel c.args.self.now.servers) _ c.args.bytes.now request _ _ _ _
+    (subst (λ (o : Option ℕ). option_map (λ n. Enter n c.args.call.now) o ≡ request) c.in-None.is is) c.script_code.ensures c.page_size.ensures c.unread_line.ensures
 
 pub returns-in-Some : goal.returns-in-Some
 returns-in-Some g c = λ request is.

@@ -1,0 +1,12 @@
+//! What programs share: the words of a command line, standard streams that remember their last error, and exit statuses with the message
+//! on standard error.
+#![tactic(auto)]
+
+mod endings;
+mod streams;
+
+pub use endings::{
+    NO_MEMORY, NOT_UNDERSTOOD, command_words, not_opened, show, status_of, stopped,
+    warn_of_cut_line,
+};
+pub use streams::{WatchedReader, WatchedWriter, cause};

@@ -1,0 +1,11 @@
+use Rattle.std.proofs.Common.{rules}
+use Rattle.l4_shell.proofs.commands.pager_command.Goals as goal
+
+pub returns-then-eq : goal.returns-then-eq
+returns-then-eq c = λ size. let e = c.add_region.ensures size in search rules
+
+pub returns-then-eq-2 : goal.returns-then-eq-2
+returns-then-eq-2 c = λ size. let e = c.serve.ensures size in search rules
+
+pub returns-then-eq-3 : goal.returns-then-eq-3
+returns-then-eq-3 c = λ size. let e = c.steps.ensures size in search rules

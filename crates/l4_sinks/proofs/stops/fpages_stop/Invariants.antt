@@ -1,0 +1,8 @@
+use Rattle.std.proofs.Common.{◌≡◌, ◌+◌, ◌-◌}
+use Rattle.l4_text.specs.Tokens.{tokens_of}
+use Rattle.l4_sinks.specs.Stops.{fpages_stop}
+use Rattle.l4_sinks.proofs.stops.fpages_stop.Given as goal
+
+abbrev pub invariant-loop-count : goal.invariant-loop-count
+invariant-loop-count l =
+    fpages_stop l.size l.first 64 (tokens_of l.line) ≡ fpages_stop l.size (l.first + l.count) (64 - l.count) (tokens_of l.rest)
