@@ -11,3 +11,4 @@ pub mod Back
 pub mod RoundTrip
 pub mod Appending
 pub mod Gates
+pub mod HandedOut

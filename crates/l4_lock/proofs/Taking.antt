@@ -1,5 +1,5 @@
 -- A reply is taken from the lock, and a call is entered: what the lock keeps.
-use Rattle.std.proofs.Common.{◌≡◌, ◌≢◌, ℕ, ◌+◌, ◌<◌, ◌≤◌, ◌⊎◌, inl, inr, Bool, true, false, List, [], ◌∷◌, ◌++◌, length, Option, Some, None, Err, IfSome, IfNone, MatchOption, IsTrue, slice_get, slice_set, Contains, refl, sym, ap, ◌∙◌, subst, arith}
+use Rattle.std.proofs.Common.{◌≡◌, ◌≢◌, ℕ, ◌+◌, ◌<◌, ◌≤◌, ◌⊎◌, inl, inr, Bool, false, List, [], ◌∷◌, ◌++◌, length, Option, Some, None, Err, IfSome, IfNone, MatchOption, IsTrue, slice_get, slice_set, Contains, refl, sym, ap, ◌∙◌, subst, arith}
 use Rattle.std.specs.Option.{option_map, option_map_or, option_and_then}
 use Rattle.std.proofs.lemmas.Bool.{false≢true}
 use Rattle.std.proofs.lemmas.Bool.Decides.{leb_tells}
@@ -16,45 +16,50 @@ use Rattle.l4_record.specs.declared.entries.Entry.{Entry}
 use Rattle.l4_lock.specs.declared.entries.Receipt.{Receipt}
 use Rattle.l4_lock.specs.declared.entries.Ended.{Ended}
 use Rattle.l4_lock.specs.declared.entries.Pending.{Pending}
-use Rattle.l4_lock.specs.declared.refusals.Entered.{Entered}
-use Rattle.l4_lock.specs.declared.refusals.Entered.TheVariants.{Done as HasEnded, Waiting as IsWaiting}
 use Rattle.l4_lock.specs.declared.refusals.LockRefusal.{LockRefusal}
 use Rattle.l4_lock.specs.declared.refusals.LockRefusal.TheVariants.{NoMemory, Kernel as ByKernel}
 use Rattle.l4_lock.specs.Receipts.{Proves}
 use Rattle.l4_record.specs.Recording.{Recording, IsKept as IsRecorded}
+use Rattle.l4_record.specs.Segments.{kept_count}
 use Rattle.l4_lock.specs.Books.{SeatState, seat_state, Book, book_at, reply_waits, has_ended, plain, receipts_at, numbers, IsOnce, receipt_of, HasNotEnded, IsPending, IsRight, AreRight, starts_of}
-use Rattle.l4_lock.specs.Locked.{Lock, lock, IsKept, Enters, Tells, EndsAtOnce, IsLeft, Takes, Refuses, recording_of}
+use Rattle.l4_lock.specs.Locked.{Lock, lock, IsKept, Enters, EndsAtOnce, IsLeft, Takes, Refuses, recording_of}
 use Rattle.l4_lock.specs.Inside.Accounts.{SettlesAt, IsUnsettled}
 use Rattle.l4_lock.specs.Inside.Entering.{Begins, IsAdmitted, WaitsMore}
 use Rattle.l4_lock.proofs.Right.{pend}
 use Rattle.l4_lock.proofs.Started.{same_book, own_at, set_own, set_other, plain_at, get_there, read_all, right_settled, settled_right, set_same, at_number}
 
-pub finished : (frames : ℕ) (es : List Entry) (m : Machine) (books later : List Book) (board : TableId) (published place : ℕ) (before after : SeatState) (own : Call → Call) (r : Option Reply)
-    → IsKept (lock frames m es books board published)
+pub finished : (frames : ℕ) (es : List Entry) (kept_from : ℕ) (m : Machine) (books later : List Book) (board : TableId) (published place : ℕ) (before after : SeatState) (own : Call → Call) (r : Option Reply)
+    → IsKept (lock frames m es kept_from books board published)
     → IfSome r (λ reply. SettlesAt books later place before after own reply) → IfNone r (IsUnsettled books later place before after)
-    → IsKept (lock frames m es later board published)
-finished frames es m books later board published place before after own None k some none =
+    → IsKept (lock frames m es kept_from later board published)
+finished frames es kept_from m books later board published place before after own None k some none =
     record {
       right = subst (λ (l : List Book). AreRight frames es m l) (sym none.same) k.right;
       idle = k.idle;
       few = k.few;
       shown = k.shown;
+      within = k.within;
+      handed_out = k.handed_out;
+      base = k.base;
     }
-finished frames es m books later board published place before after own (Some reply) k s none =
+finished frames es kept_from m books later board published place before after own (Some reply) k s none =
     record {
       right = subst (λ (l : List Book). AreRight frames es m l) (sym s.changed)
           (settled_right frames es m books place s.former s.settled s.settles.pending s.settles.ended k.right s.at s.settles.pending_is s.settles.ended_is s.settles.book_is).1;
       idle = k.idle;
       few = k.few;
       shown = k.shown;
+      within = k.within;
+      handed_out = k.handed_out;
+      base = k.base;
     }
 
-pub taken : (frames : ℕ) (es : List Entry) (m : Machine) (books later : List Book) (board : TableId) (published place : ℕ) (before after : SeatState) (own : Call → Call) (r : Option Reply)
-    → IsKept (lock frames m es books board published) → book_at books before.number ≡ slice_get books place
+pub taken : (frames : ℕ) (es : List Entry) (kept_from : ℕ) (m : Machine) (books later : List Book) (board : TableId) (published place : ℕ) (before after : SeatState) (own : Call → Call) (r : Option Reply)
+    → IsKept (lock frames m es kept_from books board published) → book_at books before.number ≡ slice_get books place
     → IfSome r (λ reply. SettlesAt books later place before after own reply)
-    → IfSome r (λ reply. Takes (lock frames m es books board published) (lock frames m es later board published) before after own reply)
-taken frames es m books later board published place before after own None k at some = some
-taken frames es m books later board published place before after own (Some reply) k at s =
+    → IfSome r (λ reply. Takes (lock frames m es kept_from books board published) (lock frames m es kept_from later board published) before after own reply)
+taken frames es kept_from m books later board published place before after own None k at some = some
+taken frames es kept_from m books later board published place before after own (Some reply) k at s =
     let x : Book = s.former in
     let y : Book = s.settled in
     let numbered : x.number ≡ before.number = at_number books before.number x (at ∙ s.at) in
@@ -69,15 +74,16 @@ taken frames es m books later board published place before after own (Some reply
       settled = ap (λ (l : List Book). book_at l before.number) s.changed ∙ subst (λ (j : ℕ). book_at (slice_set books place y) j ≡ Some y) numbered (set_own books place x y s.at same k.right.apart);
       others = λ j ne. ap (λ (l : List Book). book_at l j) s.changed ∙ set_other books place x y j s.at same (λ e. ne (e ∙ numbered));
       same = (refl, refl, refl, refl);
+      kept_from = refl;
     }
 
-pub not_taken : (frames : ℕ) (es : List Entry) (m : Machine) (books later : List Book) (board : TableId) (published place : ℕ) (before after : SeatState) (r : Option Reply)
+pub not_taken : (frames : ℕ) (es : List Entry) (kept_from : ℕ) (m : Machine) (books later : List Book) (board : TableId) (published place : ℕ) (before after : SeatState) (r : Option Reply)
     → place < length books → book_at books before.number ≡ slice_get books place → IfNone r (IsUnsettled books later place before after)
-    → IfNone r ((lock frames m es later board published ≡ lock frames m es books board published) × (after ≡ before) × ((before.waiting ≡ 0) ⊎ (reply_waits books before.number ≡ false)))
-not_taken frames es m books later board published place before after (Some reply) lt at none = none
-not_taken frames es m books later board published place before after None lt at none =
+    → IfNone r ((lock frames m es kept_from later board published ≡ lock frames m es kept_from books board published) × (after ≡ before) × ((before.waiting ≡ 0) ⊎ (reply_waits books before.number ≡ false)))
+not_taken frames es kept_from m books later board published place before after (Some reply) lt at none = none
+not_taken frames es kept_from m books later board published place before after None lt at none =
     let there = get_there books place lt in (
-      ap (λ (l : List Book). lock frames m es l board published) none.same,
+      ap (λ (l : List Book). lock frames m es kept_from l board published) none.same,
       none.seat,
       inr (ap (λ (o : Option Book). option_map_or has_ended (option_and_then (λ (b : Book). b.pending) o) false) (at ∙ there.1) ∙ none.none there.0 there.1),
     )
@@ -90,10 +96,10 @@ settled_in l later = record l { books = later }
 
 -- a lock whose recorder and books are these
 abbrev pub lock_of : Recording → List Book → Lock
-lock_of r books = lock r.frames r.kernel r.history books r.board r.published
+lock_of r books = lock r.frames r.kernel r.history r.kept_from books r.board r.published
 
 pub kept_of : (r : Recording) (books : List Book) → IsRecorded r → AreRight r.frames r.history r.kernel books → IsKept (lock_of r books)
-kept_of r books k right = record { right = right; idle = k.idle; few = k.few; shown = k.shown }
+kept_of r books k right = record { right = right; idle = k.idle; few = k.few; shown = k.shown; within = k.within; handed_out = k.handed_out; base = k.base }
 
 pub begun_kept : (old new : Recording) (books later : List Book) (n place : ℕ) (call : Call) → IsKept (lock_of old books) → Begins n call old new books later place → IsKept (lock_of new later)
 begun_kept old new books later n place call k b = kept_of new later b.kept (b.right k.right)
@@ -219,10 +225,10 @@ seat_back before between after more less =
     let w : after.waiting ≡ before.waiting = (let v = ap (λ (p : SeatState). p.waiting) e in omega (arith, v)) in
     λ i. seat_state (ap (λ (p : SeatState). p.number) e i) (w i) (ap (λ (p : SeatState). p.receipts) e i)
 
-pub refuses : (frames : ℕ) (es : List Entry) (m : Machine) (books : List Book) (board : TableId) (published n : ℕ) (call : Call) (e : LockRefusal) → reply_waits books n ≡ false → length es ≤ 999871 → book_at books n ≢ None
-    → ((e ≡ NoMemory) ⊎ ((r : Refused) × (e ≡ ByKernel r) × Steps m (Start n call) (Err r) m)) → Refuses (lock frames m es books board published) n call e
-refuses frames es m books board published n call e waits few there why =
-    let l : Lock = lock frames m es books board published in
+pub refuses : (frames : ℕ) (es : List Entry) (kept_from : ℕ) (m : Machine) (books : List Book) (board : TableId) (published n : ℕ) (call : Call) (e : LockRefusal) → reply_waits books n ≡ false → kept_count kept_from es ≤ 999871 → book_at books n ≢ None
+    → ((e ≡ NoMemory) ⊎ ((r : Refused) × (e ≡ ByKernel r) × Steps m (Start n call) (Err r) m)) → Refuses (lock frames m es kept_from books board published) n call e
+refuses frames es kept_from m books board published n call e waits few there why =
+    let l : Lock = lock frames m es kept_from books board published in
     let none : ¬ (IsTrue (reply_waits books n)) = λ h. false≢true (sym waits ∙ h) in
     elim why [
       | inl is ↦ subst (Refuses l n call) (sym is) (none, few)

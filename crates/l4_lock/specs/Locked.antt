@@ -1,5 +1,5 @@
 -- The locked kernel as one value, and the effects of its calls (this profile's own).
-use Rattle.std.specs.Prelude.{◌≡◌, ◌≢◌, ℕ, ◌+◌, ◌<◌, ◌≤◌, ◌⊎◌, List, [], ◌∷◌, ◌++◌, length, Some, None, IsTrue, slice_get, Ok, Err, Contains, refl}
+use Rattle.std.specs.Prelude.{◌≡◌, ◌≢◌, ℕ, ◌+◌, ◌<◌, ◌≤◌, ◌⊎◌, List, [], ◌∷◌, ◌++◌, length, Some, None, IsTrue, slice_get, Err, Contains, refl}
 use Rattle.std.specs.Option.{option_map}
 use Rattle.std.specs.Coded.{Coded, code_by, coded×, coded_ℕ, coded_list}
 use Rattle.atomic_table.specs.Seated.{TableId, table_id_coded}
@@ -21,42 +21,50 @@ use Rattle.l4_lock.specs.declared.refusals.LockRefusal.TheVariants.{ReplyWaiting
 use Rattle.l4_record.specs.declared.appended.Appended.{Appended}
 use Rattle.l4_record.specs.declared.refusals.RecordRefusal.{RecordRefusal}
 use Rattle.l4_record.specs.declared.refusals.RecordRefusal.TheVariants.{HistoryFull as IsFull, NoMemory as LacksMemory, Kernel as FromKernel}
-use Rattle.l4_record.specs.Sizes.{max_entries, last_start}
+use Rattle.l4_record.specs.declared.segments.Segment.{Segment}
+use Rattle.l4_record.specs.Sizes.{max_entries, last_start, max_handed_out}
+use Rattle.l4_record.specs.Segments.{kept, kept_count, HasBase}
 use Rattle.l4_record.specs.Recording.{Recording, recording, Enters as Recorded}
 use Rattle.l4_lock.specs.Receipts.{Proves}
 use Rattle.l4_lock.specs.Books.{SeatState, Book, book, receipt_of, plain, book_at, receipts_at, pending_at, reply_waits, Settles, AreRight}
 
--- what a contract sees of the locked kernel
+-- What a contract sees of the locked kernel. The history is the list of all entries since boot. Those with lower numbers than `kept_from`
+-- were handed out.
 pub record Lock : Type 0 where
   pub frames : ℕ
   pub kernel : Machine
   pub history : List Entry
+  pub kept_from : ℕ
   pub books : List Book
   pub board : TableId
   pub published : ℕ
 
-abbrev pub lock : ℕ → Machine → List Entry → List Book → TableId → ℕ → Lock
-lock frames kernel history books board published =
-    record { frames = frames; kernel = kernel; history = history; books = books; board = board; published = published }
+abbrev pub lock : ℕ → Machine → List Entry → ℕ → List Book → TableId → ℕ → Lock
+lock frames kernel history kept_from books board published =
+    record { frames = frames; kernel = kernel; history = history; kept_from = kept_from; books = books; board = board; published = published }
 
 abbrev pub lock_code : Coded Thread → Coded Entry → Coded Book → Coded Lock
 lock_code thread entry book =
-    code_by (ℕ × (Machine × (List Entry × (List Book × (TableId × ℕ)))))
-    (coded× coded_ℕ (coded× (machine_code thread) (coded× (coded_list entry) (coded× (coded_list book) (coded× table_id_coded coded_ℕ)))))
-    (λ l. (l.frames, (l.kernel, (l.history, (l.books, (l.board, l.published))))))
-    (λ p. lock p.0 p.1.0 p.1.1.0 p.1.1.1.0 p.1.1.1.1.0 p.1.1.1.1.1) (λ _. refl)
+    code_by (ℕ × (Machine × (List Entry × (ℕ × (List Book × (TableId × ℕ))))))
+    (coded× coded_ℕ (coded× (machine_code thread) (coded× (coded_list entry) (coded× coded_ℕ (coded× (coded_list book) (coded× table_id_coded coded_ℕ))))))
+    (λ l. (l.frames, (l.kernel, (l.history, (l.kept_from, (l.books, (l.board, l.published)))))))
+    (λ p. lock p.0 p.1.0 p.1.1.0 p.1.1.1.0 p.1.1.1.1.0 p.1.1.1.1.1.0 p.1.1.1.1.1.1) (λ _. refl)
 
 -- The history is legal, the kernel is the result of its replay, and the mappings were a forest throughout. No step is enabled, each receipt
--- that was given is right, and the publisher has published the length of the history.
+-- that was given is right, and the publisher has published the length of the history. The entries that were handed out are the first ones of
+-- the history, and lead to a base.
 pub record IsKept (l : Lock) : Type 0 where
   pub right : AreRight l.frames l.history l.kernel l.books
   pub idle : IsIdle l.kernel
-  pub few : length l.history ≤ max_entries
+  pub few : kept_count l.kept_from l.history ≤ max_entries
   pub shown : l.published ≡ length l.history
+  pub within : l.kept_from ≤ length l.history
+  pub handed_out : l.kept_from ≤ max_handed_out
+  pub base : HasBase l.frames l.history l.kept_from l.kernel
 
 -- the lock without its books
 abbrev pub recording_of : Lock → Recording
-recording_of l = recording l.frames l.kernel l.history l.board l.published
+recording_of l = recording l.frames l.kernel l.history l.kept_from l.board l.published
 
 -- The call was entered, as the recorder enters it. The books of other numbers are unchanged, except that calls of theirs may have ended.
 pub record Enters (old new : Lock) (n : ℕ) (call : Call) : Type 0 where
@@ -102,11 +110,11 @@ RefusesBoot frames e =
 -- the reason why a call is not entered: the first of these that applies
 abbrev pub Refuses : Lock → ℕ → Call → LockRefusal → Type 0
 Refuses l n call ReplyWaiting = IsTrue (reply_waits l.books n)
-Refuses l n call HistoryFull = ¬ (IsTrue (reply_waits l.books n)) × (last_start < length l.history)
-Refuses l n call NoMemory = ¬ (IsTrue (reply_waits l.books n)) × (length l.history ≤ last_start)
+Refuses l n call HistoryFull = ¬ (IsTrue (reply_waits l.books n)) × (last_start < kept_count l.kept_from l.history)
+Refuses l n call NoMemory = ¬ (IsTrue (reply_waits l.books n)) × (kept_count l.kept_from l.history ≤ last_start)
 Refuses l n call SeatTaken = ⊥
 Refuses l n call (ByKernel e) =
-    ¬ (IsTrue (reply_waits l.books n)) × (length l.history ≤ last_start)
+    ¬ (IsTrue (reply_waits l.books n)) × (kept_count l.kept_from l.history ≤ last_start)
     × (((book_at l.books n ≡ None) × (e ≡ UnknownThread)) ⊎ ((book_at l.books n ≢ None) × Steps l.kernel (Start n call) (Err e) l.kernel))
 
 -- The number is given no seat: it has an account already, or it has none and an allocation failed.
@@ -129,3 +137,11 @@ pub record Takes (old new : Lock) (before after : SeatState) (own : Call → Cal
   pub settled : book_at new.books before.number ≡ Some later
   pub others : (m : ℕ) → m ≢ before.number → book_at new.books m ≡ book_at old.books m
   pub same : (new.frames ≡ old.frames) × (new.kernel ≡ old.kernel) × (new.history ≡ old.history) × (new.board ≡ old.board)
+  pub kept_from : new.kept_from ≡ old.kept_from
+
+-- The segment has the entries that were kept, and the number of the first of them. They were handed out, so none is kept now. Nothing else
+-- has changed: receipts name the same entries by the same numbers.
+pub record HandsOut (old new : Lock) (segment : Segment) : Type 0 where
+  pub first : segment.first ≡ old.kept_from
+  pub entries : segment.history.entries ≡ kept old.kept_from old.history
+  pub new_is : new ≡ record old { kept_from = length old.history }

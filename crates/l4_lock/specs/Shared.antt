@@ -1,11 +1,13 @@
 -- The effect of a call through the shared lock on a seat (this profile's own).
-use Rattle.std.specs.Prelude.{◌≡◌, ℕ, List, [], ◌∷◌, ◌++◌, drop, map}
+use Rattle.std.specs.Prelude.{◌≡◌, ℕ, ◌<◌, List, [], ◌∷◌, ◌++◌, drop, length, map}
 use Rattle.l4_threads.specs.declared.Reply.{Reply}
 use Rattle.l4_ipc.specs.declared.calls.Call.{Call}
+use Rattle.l4_record.specs.declared.segments.Segment.{Segment}
+use Rattle.l4_record.specs.Sizes.{max_handed_out}
 use Rattle.l4_lock.specs.declared.entries.Receipt.{Receipt}
 use Rattle.l4_pager.specs.declared.serving.GateFault.{GateFault}
 use Rattle.l4_lock.specs.Books.{SeatState}
-use Rattle.l4_lock.specs.Locked.{Lock, IsKept, Refuses, RefusesSeat}
+use Rattle.l4_lock.specs.Locked.{Lock, IsKept, Refuses, RefusesSeat, HandsOut}
 use Rattle.l4_lock.specs.declared.refusals.LockRefusal.{LockRefusal}
 use Rattle.l4_lock.specs.declared.refusals.LockRefusal.TheVariants.{HistoryFull, NoMemory, ReplyWaiting, SeatTaken, Kernel as ByKernel}
 
@@ -26,6 +28,14 @@ Declines n call e = (l : Lock) × IsKept l × Refuses l n call e
 -- The number is given no seat through the shared lock, for a reason that holds for some locked kernel that keeps the invariant of its type.
 abbrev pub DeclinesSeat : ℕ → LockRefusal → Type 0
 DeclinesSeat n e = (l : Lock) × IsKept l × RefusesSeat l n e
+
+-- The segment was handed out by the locked kernel that was under the lock at that time. Every invariant of its type held.
+abbrev pub IsHandedOut : Segment → Type 0
+IsHandedOut segment = (old new : Lock) × IsKept old × HandsOut old new segment
+
+-- no further segment is handed out, because the locked kernel under the lock has recorded too many entries
+abbrev pub EndsSegments : Type 0
+EndsSegments = (l : Lock) × IsKept l × (max_handed_out < length l.history)
 
 -- what a contract sees of a gate: its seat, and the number of receipts that the seat had when the gate was created
 pub record GateState : Type 0 where

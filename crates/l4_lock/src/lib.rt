@@ -15,7 +15,9 @@ mod words;
 
 pub use closing::{Mismatch, Unclosed};
 pub use entries::Receipt;
-pub use l4_record::{Board, Entries, Entry, History, MAX_ENTRIES, MAX_STEPS, Watch};
+pub use l4_record::{
+    Board, Entries, Entry, History, MAX_ENTRIES, MAX_HANDED_OUT, MAX_STEPS, Segment, Watch,
+};
 pub use locked::Locked;
 pub use receipts::{Receipts, ReceiptsFrom};
 pub use refusals::{Entered, LockRefusal};

@@ -1,10 +1,12 @@
 //! The locked kernel.
-ghost use Rattle.std.specs.Prelude.{◌≡◌, ◌≢◌, ◌⊎◌, ◌+◌, ℕ, List, [], ◌∷◌, ◌++◌, None, IfOk, IfErr, IfSome, IfNone, true, false, MatchOption, MatchResult, length, vec_len, ◌<◌};
+ghost use Rattle.std.specs.Prelude.{◌≡◌, ◌≢◌, ◌⊎◌, ◌+◌, ℕ, List, [], ◌∷◌, ◌++◌, None, IfOk, IfErr, IfSome, IfNone, true, false, MatchOption, MatchResult, length, vec_len, ◌<◌, ◌↔◌, IsTrue};
+ghost use Rattle.l4_record.specs.Segments.{kept, kept_count};
+ghost use Rattle.l4_record.specs.Sizes.{last_start, max_handed_out};
 ghost use Rattle.l4_ipc.specs.Machine.{IsBoot};
 ghost use Rattle.l4_lock.specs.Books.{seat_state, book, book_at, reply_waits};
 ghost use Rattle.l4_lock.specs.Closing.{Closes, Mismatches, by_history};
 ghost use Rattle.l4_record.specs.Laws.{IsWholeRun};
-ghost use Rattle.l4_lock.specs.Locked.{IsKept, RefusesBoot, Enters, Tells, Refuses, Takes};
+ghost use Rattle.l4_lock.specs.Locked.{IsKept, RefusesBoot, Enters, Tells, Refuses, Takes, HandsOut};
 ghost use Rattle.l4_lock.specs.declared.refusals.LockRefusal.TheVariants.{SeatTaken, NoMemory as WantOfMemory};
 ghost use Rattle.l4_lock.specs.Inside.Entering.{IsAdmitted};
 ghost use Rattle.l4_board.specs.Board.{IsNewWatch};
@@ -16,11 +18,12 @@ use crate::refusals::{Entered, LockRefusal, refusal_of};
 use crate::seats::Seat;
 use crate::steps::begin;
 use l4_ipc::{Call, Kernel, PageSize, Refused, Reply};
-use l4_record::{Appended, Board, History, Recorder, Watch};
+use l4_record::{Appended, Board, History, Recorder, Segment, Watch};
 use std::alloc::Global;
 use std::marker::Model;
 
-/// A kernel with the history of its steps. The history is legal, and leads from boot to the state of the kernel. No step is enabled.
+/// A kernel with the history of its steps. The history is legal, and leads from boot to the state of the kernel. No step is enabled. The
+/// entries since the last segment that was handed out are kept.
 #[derive(Drop)]
 pub struct Locked {
     recorder: Recorder,
@@ -39,9 +42,9 @@ impl Model for Locked {
 
     ghost coded = { lock_code thread.the_row.coded entry.the_row.coded account.the_row.coded };
 
-    ghost view = { λ a. lock a.recorder.frames a.recorder.kernel a.recorder.history a.accounts.items a.recorder.board a.recorder.published };
+    ghost view = { λ a. lock a.recorder.frames a.recorder.kernel a.recorder.history a.recorder.kept_from a.accounts.items a.recorder.board a.recorder.published };
 
-    ghost invariant = { λ a. IsKept (lock a.recorder.frames a.recorder.kernel a.recorder.history a.accounts.items a.recorder.board a.recorder.published) };
+    ghost invariant = { λ a. IsKept (lock a.recorder.frames a.recorder.kernel a.recorder.history a.recorder.kept_from a.accounts.items a.recorder.board a.recorder.published) };
 }
 
 impl Locked {
@@ -59,7 +62,7 @@ impl Locked {
         watches: usize,
     ) -> Result<(Locked, Board, Vec<Watch>), LockRefusal>
         ensures { MatchResult result
-            (λ r. (r.0.frames ≡ frames) × (r.0.kernel.size ≡ size) × IsBoot frames r.0.kernel × (r.0.history ≡ []) × (r.0.books ≡ []) × (r.1 ≡ r.0.board)
+            (λ r. (r.0.frames ≡ frames) × (r.0.kernel.size ≡ size) × IsBoot frames r.0.kernel × (r.0.history ≡ []) × (r.0.kept_from ≡ 0) × (r.0.books ≡ []) × (r.1 ≡ r.0.board)
             × (vec_len r.2 ≡ watches) × All (IsNewWatch r.0.board) r.2.items)
             (RefusesBoot frames) }
     {
@@ -91,11 +94,26 @@ impl Locked {
         self.recorder.kernel()
     }
 
-    /// Returns the history.
+    /// Returns the entries that are kept: those that were recorded since the last segment was handed out, or since boot.
     pub fn history(&self) -> &History
-        ensures { result.now.entries ≡ self.now.history }
+        ensures { result.now.entries ≡ kept self.now.kept_from self.now.history }
     {
         self.recorder.history()
+    }
+
+    /// Returns the number of the first entry that is kept. All entries with lower numbers were handed out.
+    pub fn kept_from(&self) -> usize
+        ensures { result ≡ self.now.kept_from }
+    {
+        self.recorder.kept_from()
+    }
+
+    /// Returns whether there is no room for the entries of another call.
+    pub fn is_full(&self) -> bool
+        ensures { IsTrue result
+            ↔ (last_start < kept_count self.now.kept_from self.now.history) }
+    {
+        self.recorder.is_full()
     }
 
     /// Ghost function: gives a proof the invariant of the locked kernel. It compiles to nothing.
@@ -238,14 +256,29 @@ impl Locked {
         self.accounts.finish(at, seat, Some(call))
     }
 
-    /// Closes the lock, if exactly the seats that were given come back and agree with their accounts. Returns the history and the kernel;
-    /// the contract states the invariants of the whole history.
+    /// Hands out the entries that are kept, as a segment. From then on, the entries of later calls are kept only. Their numbers continue, and
+    /// receipts name entries by these numbers.
+    ///
+    /// Returns `None` if more than 2^63 entries were recorded since boot. Then nothing has changed.
+    pub fn hand_out(&mut self) -> Option<Segment>
+        ensures some { IfSome result (HandsOut self.old self.new) }
+        ensures none { IfNone result
+            ((max_handed_out < length self.old.history) × (self.new ≡ self.old)) }
+    {
+        let segment = self.recorder.hand_out();
+        self.recorder.law_kept();
+        segment
+    }
+
+    /// Closes the lock, if exactly the seats that were given come back and agree with their accounts. Returns the entries that are kept, and
+    /// the kernel. The contract states the invariants of the whole history since boot.
     ///
     /// Otherwise returns everything that was passed, and the first difference: X1, X2 or X3.
     pub fn close(self, seats: Vec<Seat>) -> Result<(History, Kernel), Unclosed>
         ensures ok { IfOk result
-            (λ r. (r.0.entries ≡ self.history) × (r.1 ≡ self.kernel) × Closes self seats.items) }
-        ensures history { IfOk result (λ r. IsWholeRun self.frames r.0.entries r.1) }
+            (λ r. (r.0.entries ≡ kept self.kept_from self.history) × (r.1 ≡ self.kernel)
+            × Closes self seats.items) }
+        ensures history { IfOk result (λ r. IsWholeRun self.frames self.history r.1) }
         ensures err { IfErr result
             (λ u. (u.locked ≡ self) × (u.seats.items ≡ seats.items)
             × Mismatches (by_history self.history) self.books seats.items u.mismatch) }

@@ -1,11 +1,11 @@
 //! The locked kernel under a lock that threads share.
-ghost use Rattle.std.specs.Prelude.{◌≡◌, ◌⊎◌, ◌+◌, ◌≤◌, ℕ, List, [], ◌∷◌, ◌++◌, drop, length, vec_len, map, IfOk, IfErr, OnErr, MatchResult};
+ghost use Rattle.std.specs.Prelude.{◌≡◌, ◌⊎◌, ◌+◌, ◌≤◌, ℕ, List, [], ◌∷◌, ◌++◌, drop, length, vec_len, map, IfOk, IfErr, OnErr, MatchOption, MatchResult};
 ghost use Rattle.std.specs.List.{All};
 ghost use Rattle.l4_fpage.specs.Pages.{max_frames};
 ghost use Rattle.l4_board.specs.Board.{IsNewWatch};
 ghost use Rattle.l4_lock.specs.Books.{seat_state};
 ghost use Rattle.l4_lock.specs.Locked.{IsKept, RefusesBoot};
-ghost use Rattle.l4_lock.specs.Shared.{IsAnswered, Declines, DeclinesSeat, gate_state, pairs_of};
+ghost use Rattle.l4_lock.specs.Shared.{IsAnswered, Declines, DeclinesSeat, IsHandedOut, EndsSegments, gate_state, pairs_of};
 
 use crate::copies::copy_call;
 use crate::locked::Locked;
@@ -14,6 +14,7 @@ use crate::seats::Seat;
 use l4_board::{Board, Watch};
 use l4_ipc::{Call, PageSize, Reply};
 use l4_pager::{Gate, GateFault};
+use l4_record::Segment;
 use std::alloc::Global;
 use std::marker::Model;
 use std::sync::{Condvar, Mutex, Wait};
@@ -114,6 +115,18 @@ impl KernelLock {
             guard = self.ended.wait(rt, guard);
         }
         unreachable!()
+    }
+
+    /// Hands out the entries that are kept under the lock, as a segment. From then on, the entries of later calls are kept only. Their
+    /// numbers continue.
+    ///
+    /// Returns `None` if more than 2^63 entries were recorded since boot. Then nothing has changed.
+    pub fn hand_out<R: Wait>(&self, rt: &R) -> Option<Segment>
+        ensures { MatchOption result EndsSegments IsHandedOut }
+    {
+        let mut guard = self.locked.lock(rt);
+        guard.law_kept();
+        guard.hand_out()
     }
 
     /// Returns a gate that enters calls of the seat.

@@ -1,11 +1,12 @@
 //! Enters a call, and records which calls ended in it.
-ghost use Rattle.std.specs.Prelude.{◌≡◌, ◌⊎◌, ◌<◌, ◌≤◌, Err, [], ◌∷◌, IfOk, IfErr, OnErr, map, length};
+ghost use Rattle.std.specs.Prelude.{◌≡◌, ◌⊎◌, ◌+◌, ◌<◌, ◌≤◌, Err, [], ◌∷◌, IfOk, IfErr, OnErr, map, length};
 ghost use Rattle.l4_ipc.specs.NextSteps.{answer_of};
 ghost use Rattle.l4_ipc.specs.Steps.{Steps};
 ghost use Rattle.l4_ipc.specs.declared.steps.NextStep.{NextStep as ANext};
 ghost use Rattle.l4_ipc.specs.declared.steps.Refused.{Refused as ARefused};
 ghost use Rattle.l4_ipc.specs.declared.steps.Step.TheVariants.{Start};
-ghost use Rattle.l4_record.specs.Sizes.{max_entries, max_steps, last_start};
+ghost use Rattle.l4_record.specs.Segments.{kept_count};
+ghost use Rattle.l4_record.specs.Sizes.{max_entries, max_handed_out, max_steps, last_start};
 ghost use Rattle.l4_lock.specs.Books.{numbers, IsOnce};
 ghost use Rattle.l4_lock.specs.Inside.Entering.{Begins, IsReady};
 ghost use Rattle.l4_lock.specs.Inside.Noting.{noted, noted_steps};
@@ -55,7 +56,7 @@ fn note_next(accounts: &mut Accounts, kernel: &Kernel, next: NextStep, place: us
 /// Records in each account the calls that ended in the next steps, whose entries begin at this place.
 fn note_steps(accounts: &mut Accounts, kernel: &Kernel, steps: &[NextStep], place: usize)
     requires once { IsOnce (numbers accounts.old.items) }
-    requires place { place ≤ max_entries }
+    requires place { place ≤ max_handed_out + max_entries }
     requires few { length steps.now ≤ max_steps }
     ensures { accounts.new.items ≡ noted_steps kernel.now place steps.now accounts.old.items }
 {
@@ -73,7 +74,7 @@ pub fn begin(
     call: &Call,
     appended: &mut Appended,
 ) -> Result<(), LockRefusal>
-    requires room { length recorder.old.history ≤ last_start }
+    requires room { kept_count recorder.old.kept_from recorder.old.history ≤ last_start }
     requires at { at < length accounts.old.items }
     requires once { IsOnce (numbers accounts.old.items) }
     requires book { IsReady accounts.old.items at number recorder.old.history recorder.old.kernel }
@@ -91,7 +92,7 @@ pub fn begin(
     if accounts.is_pending(at) {
         return Err(LockRefusal::Kernel(Refused::Busy));
     }
-    let start = recorder.history().len();
+    let start = recorder.count();
     if accounts.begin(at, call, start).is_err() {
         return Err(LockRefusal::NoMemory);
     }

@@ -1,23 +1,30 @@
 //! The recorder.
-ghost use Rattle.std.specs.Prelude.{◌≡◌, ◌<◌, ◌↔◌, [], IsTrue, IfOk, IfErr, MatchResult, length, vec_len};
+ghost use Rattle.std.specs.Prelude.{◌≡◌, ◌<◌, ◌↔◌, [], IsTrue, IfOk, IfErr, IfSome, IfNone, MatchResult, length, vec_len};
 ghost use Rattle.std.specs.List.{All};
 ghost use Rattle.l4_board.specs.Board.{IsNewWatch};
 ghost use Rattle.l4_ipc.specs.Machine.{IsBoot};
 ghost use Rattle.l4_record.specs.Laws.{IsWholeRun};
-ghost use Rattle.l4_record.specs.Recording.{IsKept, RefusesBoot, Enters, Refuses};
-ghost use Rattle.l4_record.specs.Sizes.{last_start};
+ghost use Rattle.l4_record.specs.Recording.{IsKept, RefusesBoot, Enters, HandsOut, Refuses};
+ghost use Rattle.l4_record.specs.Segments.{kept, kept_count};
+ghost use Rattle.l4_record.specs.Sizes.{last_start, max_handed_out};
 
 use crate::appended::Appended;
 use crate::history::History;
+use crate::past::Past;
 use crate::refusals::RecordRefusal;
+use crate::segments::Segment;
 use crate::steps::begin;
 use l4_board::{Board, Publisher, Watch};
 use l4_ipc::{Call, Kernel, PageSize};
 use std::alloc::Global;
 use std::marker::Model;
+use std::mem::replace;
 
-/// The maximum number of entries of a history.
+/// The maximum number of entries that a recorder keeps.
 pub const MAX_ENTRIES: usize = 1_000_000;
+
+/// The maximum number of entries that a recorder hands out.
+pub const MAX_HANDED_OUT: usize = 0x8000_0000_0000_0000;
 
 /// The maximum number of next steps that are executed after the start of a call.
 pub const MAX_STEPS: usize = 128;
@@ -25,20 +32,24 @@ pub const MAX_STEPS: usize = 128;
 /// The maximum number of entries of a call: its start and the next steps.
 const CALL_ENTRIES: usize = MAX_STEPS + 1;
 
-/// The greatest number of entries at which another call can be entered.
+/// The greatest number of kept entries at which another call can be entered.
 const LAST_START: usize = MAX_ENTRIES - CALL_ENTRIES;
 
 /// A kernel with the history of its steps. The history is legal, and leads from boot to the state of the kernel. No step is enabled. The
-/// board has the number of entries.
+/// board has the number of entries. The recorder keeps the entries since the last segment that it handed out.
 #[derive(Drop)]
 pub struct Recorder {
     frames: u32,
     kernel: Kernel,
+    past: Past,
+    kept_from: usize,
     history: History,
     publisher: Publisher,
+    alloc: Global,
 }
 
 impl Model for Recorder {
+    ghost use Rattle.std.specs.Prelude.{◌≡◌, ◌++◌, length};
     ghost use Rattle.l4_threads.specs.contracts.Thread as thread;
     ghost use Rattle.l4_record.specs.contracts.entries.Entry as entry;
     ghost use Rattle.l4_record.specs.Recording.{Recording, recording, recording_code, IsKept};
@@ -47,9 +58,10 @@ impl Model for Recorder {
 
     ghost coded = { recording_code thread.the_row.coded entry.the_row.coded };
 
-    ghost view = { λ a. recording a.frames a.kernel a.history.entries a.publisher.board a.publisher.shown };
+    ghost view = { λ a. recording a.frames a.kernel (a.past.entries ++ a.history.entries) a.kept_from a.publisher.board a.publisher.shown };
 
-    ghost invariant = { λ a. IsKept (recording a.frames a.kernel a.history.entries a.publisher.board a.publisher.shown) };
+    ghost invariant = { λ a. IsKept (recording a.frames a.kernel (a.past.entries ++ a.history.entries) a.kept_from a.publisher.board a.publisher.shown)
+        × (length a.past.entries ≡ a.kept_from) };
 }
 
 impl Recorder {
@@ -64,7 +76,7 @@ impl Recorder {
         watches: usize,
     ) -> Result<(Recorder, Board, Vec<Watch>), RecordRefusal>
         ensures { MatchResult result
-            (λ r. (r.0.frames ≡ frames) × (r.0.kernel.size ≡ size) × IsBoot frames r.0.kernel × (r.0.history ≡ []) × (r.1 ≡ r.0.board)
+            (λ r. (r.0.frames ≡ frames) × (r.0.kernel.size ≡ size) × IsBoot frames r.0.kernel × (r.0.history ≡ []) × (r.0.kept_from ≡ 0) × (r.1 ≡ r.0.board)
             × (vec_len r.2 ≡ watches) × All (IsNewWatch r.0.board) r.2.items)
             (RefusesBoot frames) }
     {
@@ -85,8 +97,11 @@ impl Recorder {
         let recorder = Recorder {
             frames,
             kernel,
+            past: Past::new(),
+            kept_from: 0,
             history: History::new(alloc),
             publisher,
+            alloc,
         };
         Ok((recorder, board, watches))
     }
@@ -105,16 +120,31 @@ impl Recorder {
         &self.kernel
     }
 
-    /// Returns the history.
+    /// Returns the entries that are kept: those that were recorded since the last segment was handed out, or since boot.
     pub fn history(&self) -> &History
-        ensures { result.now.entries ≡ self.now.history }
+        ensures { result.now.entries ≡ kept self.now.kept_from self.now.history }
     {
         &self.history
     }
 
-    /// Returns whether the history has no room for another call.
+    /// Returns the number of the first entry that is kept. All entries with lower numbers were handed out.
+    pub fn kept_from(&self) -> usize
+        ensures { result ≡ self.now.kept_from }
+    {
+        self.kept_from
+    }
+
+    /// Returns the number of entries since boot.
+    pub fn count(&self) -> usize
+        ensures { result ≡ length self.now.history }
+    {
+        self.kept_from + self.history.len()
+    }
+
+    /// Returns whether there is no room for the entries of another call.
     pub fn is_full(&self) -> bool
-        ensures { IsTrue result ↔ (last_start < length self.now.history) }
+        ensures { IsTrue result
+            ↔ (last_start < kept_count self.now.kept_from self.now.history) }
     {
         self.history.len() > LAST_START
     }
@@ -160,21 +190,46 @@ impl Recorder {
         if let Err(refused) = begun {
             return Err(RecordRefusal::Kernel(refused));
         }
-        self.publisher.publish(self.history.len() as u64);
+        let count = self.kept_from + self.history.len();
+        self.publisher.publish(count as u64);
         Ok(())
     }
 
-    /// Returns the history and the kernel. The contract states the invariants of the whole history.
+    /// Hands out the entries that are kept, as a segment. From then on, the recorder keeps the entries of later calls only. Their numbers
+    /// continue.
+    ///
+    /// Returns `None` if more than 2^63 entries were recorded since boot. Then nothing has changed.
+    pub fn hand_out(&mut self) -> Option<Segment>
+        ensures some { IfSome result (HandsOut self.old self.new) }
+        ensures none { IfNone result
+            ((max_handed_out < length self.old.history) × (self.new ≡ self.old)) }
+    {
+        let first = self.kept_from;
+        let end = first + self.history.len();
+        if end > MAX_HANDED_OUT {
+            return None;
+        }
+        self.past = Past::with(&self.past, &self.history);
+        self.kept_from = end;
+        let history = replace(&mut self.history, History::new(self.alloc));
+        Some(Segment { first, history })
+    }
+
+    /// Returns the entries that are kept, and the kernel. The contract states the invariants of the whole history since boot.
     #[inline(never)]
     pub fn into_parts(self) -> (History, Kernel)
-        ensures same { (result.0.entries ≡ self.history) × (result.1 ≡ self.kernel) }
-        ensures history { IsWholeRun self.frames result.0.entries result.1 }
+        ensures same { (result.0.entries ≡ kept self.kept_from self.history)
+            × (result.1 ≡ self.kernel) }
+        ensures history { IsWholeRun self.frames self.history result.1 }
     {
         let Recorder {
             frames: _,
             kernel,
+            past: _,
+            kept_from: _,
             history,
             publisher: _,
+            alloc: _,
         } = self;
         (history, kernel)
     }

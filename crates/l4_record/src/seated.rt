@@ -31,7 +31,7 @@ impl Model for SeatedKernel {
 
     ghost view = { λ a. seated a.recorder.kernel a.recorder.history a.numbers.items a.watch.seen };
 
-    ghost invariant = { λ a. a.watch.board ≡ a.board };
+    ghost invariant = { λ a. (a.watch.board ≡ a.board) × (a.recorder.kept_from ≡ 0) };
 }
 
 impl SeatedKernel {

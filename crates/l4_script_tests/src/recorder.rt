@@ -97,6 +97,33 @@ fn message(rt: HostRuntime) {
     check_message(&rt, &mut recorder, &mut appended);
 }
 
+/// Hands out a segment, and judges the numbers of its entries.
+fn check_segment(rt: &impl Abort, recorder: &mut Recorder, first: usize, entries: usize) {
+    let segment = recorder.hand_out().expect(rt, "a segment");
+    assert_eq!(rt; segment.first, first);
+    assert_eq!(rt; segment.history.len(), entries);
+    assert!(rt; recorder.history().is_empty());
+}
+
+/// The history is handed out in segments. The numbers of entries continue, and the kernel is as it was.
+fn check_segments(rt: &impl Abort, recorder: &mut Recorder, appended: &mut Appended) {
+    make_third(rt, recorder, appended);
+    check_segment(rt, recorder, 0, 2);
+    assert!(rt; recorder.enter(ROOT, &send(), appended).is_ok());
+    assert!(rt; is_message(recorder.kernel().reply(THIRD)));
+    assert_eq!(rt; recorder.history().len(), 2);
+    check_segment(rt, recorder, 2, 2);
+    check_segment(rt, recorder, 4, 0);
+    assert_eq!(rt; recorder.count(), 4);
+    assert_eq!(rt; recorder.kept_from(), 4);
+}
+
+#[test]
+fn segments(rt: HostRuntime) {
+    let (mut recorder, mut appended) = recorder(&rt, rt.alloc());
+    check_segments(&rt, &mut recorder, &mut appended);
+}
+
 /// What a call appended is told: whose calls ended in its start, and the steps that came next.
 fn check_appended(rt: &impl Abort, recorder: &mut Recorder, told: &mut Appended) {
     assert!(rt; recorder.enter(ROOT, &create(), told).is_ok());

@@ -14,15 +14,12 @@ ghost use Rattle.l4_seated_lock.specs.Inside.Places.{RefusesUnseated};
 use crate::closing::mismatch;
 use crate::places::position;
 use l4_ipc::{Call, Kernel, PageSize, Place, Refused, Reply};
-use l4_lock::{Entered, History, LockRefusal, Locked, MAX_ENTRIES, MAX_STEPS, Mismatch, Seat};
+use l4_lock::{Entered, History, LockRefusal, Locked, Mismatch, Seat};
 use l4_provenance::provenance;
 use l4_provenance_check::check_provenance;
 use l4_record::{ChainLink, ReplayFault};
 use std::alloc::Global;
 use std::marker::Model;
-
-/// The greatest number of entries with which another call is entered.
-const LAST_START: usize = MAX_ENTRIES - MAX_STEPS - 1;
 
 /// A locked kernel and all seats that it gave. Contracts see the locked kernel, whose books state the content of each seat.
 #[derive(Drop)]
@@ -44,7 +41,7 @@ impl Model for SeatedLock {
 
     ghost view = { λ a. a.locked };
 
-    ghost invariant = { λ a. (n : ℕ) → found a.seats.items n ≡ seat_at a.locked.books n };
+    ghost invariant = { λ a. ((n : ℕ) → found a.seats.items n ≡ seat_at a.locked.books n) × (a.locked.kept_from ≡ 0) };
 }
 
 impl SeatedLock {
@@ -135,7 +132,7 @@ impl SeatedLock {
     fn refuse_unseated(&self) -> LockRefusal
         ensures { RefusesUnseated self.now result }
     {
-        if self.locked.history().len() > LAST_START {
+        if self.locked.is_full() {
             LockRefusal::HistoryFull
         } else {
             LockRefusal::Kernel(Refused::UnknownThread)

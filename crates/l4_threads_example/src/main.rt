@@ -1,5 +1,6 @@
 //! Four threads share one kernel. One raises page faults, another serves their pager, sigma0 maps the pager's pages, and one more watches
-//! the length of the history. The receipts of each seat are printed at the end: they are the same in every schedule.
+//! the length of the history. The entries that created the threads are handed out before. The receipts of each seat are printed at the end:
+//! they are the same in every schedule, and name entries by their numbers since boot.
 #![tactic(auto)]
 
 mod parties;
@@ -24,6 +25,7 @@ enum Stop {
     NoMemory,
     NoSeat,
     NotMade,
+    NotHandedOut,
     NotClosed,
     Output(io::Error),
 }
@@ -77,6 +79,9 @@ fn tell<R: AllocGlobal + Print + Clock + Threads + Wait + Sync>(rt: &R) -> Resul
         return Err(Stop::NoMemory);
     };
     let Seats { root, runs } = begin(rt, &lock)?;
+    let Some(segment) = lock.hand_out(rt) else {
+        return Err(Stop::NotHandedOut);
+    };
     let (runs, watched) = run_all(rt, &lock, runs);
     let seats = listed(rt.alloc(), Seats { root, runs })?;
     for seat in &seats {
@@ -86,7 +91,10 @@ fn tell<R: AllocGlobal + Print + Clock + Threads + Wait + Sync>(rt: &R) -> Resul
         return Err(Stop::NotClosed);
     };
     print_client(rt, &kernel).map_err(Stop::Output)?;
-    println!(rt; "watched {watched} of {} entries", history.len()).map_err(Stop::Output)
+    let (earlier, kept) = (segment.history.len(), history.len());
+    println!(rt; "watched {watched} entries: {earlier} handed out, {kept} kept").map_err(
+        Stop::Output,
+    )
 }
 
 fn main(rt: HostRuntime) -> ExitCode {

@@ -1,6 +1,7 @@
 -- Seats by their places in a list (this profile's own).
 use Rattle.std.specs.Prelude.{◌≡◌, ℕ, ◌<◌, ◌≤◌, ◌⊎◌, nat_eq, if◌then◌else◌, List, [], ◌∷◌, length, Option, Some, None, slice_get}
 use Rattle.l4_ipc.specs.declared.steps.Refused.TheVariants.{UnknownThread}
+use Rattle.l4_record.specs.Segments.{kept_count}
 use Rattle.l4_record.specs.Sizes.{last_start}
 use Rattle.l4_lock.specs.Books.{SeatState}
 use Rattle.l4_lock.specs.Closing.{HasSeat}
@@ -20,4 +21,5 @@ IsFirst seats n at = (at < length seats) × ((p : SeatState) → slice_get seats
 -- the reason why a call is refused under a number whose seat was not given
 abbrev pub RefusesUnseated : Lock → LockRefusal → Type 0
 RefusesUnseated l e =
-    ((last_start < length l.history) × (e ≡ HistoryFull)) ⊎ ((length l.history ≤ last_start) × (e ≡ ByKernel UnknownThread))
+    ((last_start < kept_count l.kept_from l.history) × (e ≡ HistoryFull))
+    ⊎ ((kept_count l.kept_from l.history ≤ last_start) × (e ≡ ByKernel UnknownThread))
