@@ -12,6 +12,8 @@ _WINDOWS = {"all": Fpage.complete().acceptor, "none": Fpage.nil().acceptor}
 _TIMEOUTS: Dict[str, Timeout] = {"never": Timeout.NEVER, "zero": Timeout.ZERO}
 _ITEM = re.compile(r"(map|grant):([^>]*)>([^:]*):(.*)", re.DOTALL)
 _LABELS = 1 << 16
+_NAME = re.compile(r"[A-Za-z][A-Za-z0-9-]{0,23}")
+_WORDS = {"nil", "any", "new", "tag", "map", "grant", *_WINDOWS, *_TIMEOUTS, *_RIGHTS}
 
 
 def number(token: str) -> int:
@@ -24,6 +26,11 @@ def number(token: str) -> int:
 def is_number(token: str) -> bool:
     """Returns whether a token spells a number below 2^32."""
     return bool(_NUMBER.fullmatch(token)) and _value(token) < 1 << 32
+
+
+def is_name(token: str) -> bool:
+    """Returns whether a token has the form of a thread's name, and no place of a line has it as a word."""
+    return bool(_NAME.fullmatch(token)) and token not in _WORDS
 
 
 def _value(token: str) -> int:

@@ -29,6 +29,7 @@ _S_TEXTS = {
     "S2": "the line has too few tokens, too many, or an invalid one",
     "S3": "the line is longer than 4,096 bytes",
     "S4": "the line does not end with a newline",
+    "S5": "the script already has 64 names",
     "N5": "the plan has more than one message",
     "N6": "the plan has no message with this number",
 }
@@ -123,7 +124,7 @@ def _refusal(event: Event) -> Optional[Dict[str, Any]]:
 
 
 def run(asked: Dict[str, Any]) -> Dict[str, Any]:
-    """Returns the steps of a run, and its refused lines, each with the step that was the last one then."""
+    """Returns the steps of a run, and its refused lines, each with the step that was the last one then, and the names of threads."""
     events, steps, refusals, count = Run(asked), [], [], 0
     for event in events:
         if event.is_step:
@@ -131,7 +132,7 @@ def run(asked: Dict[str, Any]) -> Dict[str, Any]:
         refusal = _refusal(event)
         if refusal:
             count += 1
-            refusals += [{**refusal, "at": len(steps)}] if len(refusals) < _REFUSALS else []
+            refusals += [{**refusal, "at": len(steps), "names": sorted(events.script.names)}] if len(refusals) < _REFUSALS else []
     return {"steps": steps, "refusals": {"count": count, "first": refusals}, "notes": events.notes, "lineCount": len(lines_of(events.text))}
 
 

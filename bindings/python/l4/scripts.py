@@ -23,6 +23,9 @@ MAX_LINE = 4096
 #: After more steps than this, every call is refused (L1).
 MOST_STEPS = 999_871
 
+#: The most names of a script.
+MAX_NAMES = 64
+
 # how many calls of served threads may follow a line, and the space of a thread that does not exist
 _MOST_ACTS = 256
 _NO_SPACE = (1 << 64) - 1
@@ -61,9 +64,10 @@ def _read(read: Callable[..., _Read], *tokens: object) -> _Read:
 class _Tokens:
     """The tokens of a line after its command, taken one by one."""
 
-    def __init__(self, tokens: List[str], page_bytes: int) -> None:
+    def __init__(self, tokens: List[str], page_bytes: int, names: Dict[str, int]) -> None:
         self.left = tokens
         self.page_bytes = page_bytes
+        self.names = names
 
     def take(self) -> str:
         if not self.left:
@@ -77,11 +81,19 @@ class _Tokens:
         return value
 
     def thread(self) -> int:
+        if self.left and self.left[0] in self.names:
+            return self.names[self.take()]
         return self.number(1 << 18)
 
-    def id_or(self, names: Dict[str, ThreadId]) -> ThreadId:
-        if self.left and self.left[0] in names:
-            return names[self.take()]
+    def new_name(self) -> str:
+        token = self.take()
+        if token in _COMMANDS or not _symbols.is_name(token):
+            raise _Bad("S2")
+        return token
+
+    def id_or(self, words: Dict[str, ThreadId]) -> ThreadId:
+        if self.left and self.left[0] in words:
+            return words[self.take()]
         return _id(self.thread())
 
     def partner(self) -> ThreadId:
@@ -146,6 +158,8 @@ class Script:
         self.served: Set[int] = set()
         self.steps = 0
         self.line_count = 0
+        #: The number of each thread that was given a name.
+        self.names: Dict[str, int] = {}
         #: The call that each thread started last.
         self.calls: Dict[int, Call] = {}
         self._seats = {1, 2}
@@ -187,7 +201,7 @@ class Script:
         command = _COMMANDS.get(tokens[0])
         if command is None:
             raise _Bad("S1")
-        return command(self, _Tokens(tokens[1:], self.page_bytes))
+        return command(self, _Tokens(tokens[1:], self.page_bytes, self.names))
 
     # the commands
 
@@ -285,6 +299,14 @@ class Script:
             yield self._told("parent none")
         else:
             yield self._told(f"parent {mapping.parent.space} {mapping.parent.page}")
+
+    def _name(self, tokens: _Tokens) -> Iterator[Event]:
+        name, number = tokens.new_name(), tokens.thread()
+        tokens.end()
+        if name not in self.names and len(self.names) == MAX_NAMES:
+            raise _Bad("S5")
+        self.names[name] = number
+        yield self._told(f"named {number}")
 
     def _steps(self, tokens: _Tokens) -> Iterator[Event]:
         tokens.end()
@@ -394,5 +416,6 @@ _COMMANDS: Dict[str, Callable[[Script, _Tokens], Iterator[Event]]] = {
     "serve": Script._serve,
     "show": Script._show,
     "parent": Script._parent,
+    "name": Script._name,
     "steps": Script._steps,
 }

@@ -97,6 +97,10 @@ class Labs(unittest.TestCase):
         self.assertEqual(refusals["first"][0]["means"], "the command is unknown")
         self.assertIn("flag", refusals["first"][2]["means"])
 
+    def test_refused_lines_have_the_names_of_threads(self):
+        refusals = self.run_of("name b 1\nname a 2\nserve c\nname c 3\n")["refusals"]
+        self.assertEqual([(it["line"], it["code"], it["names"]) for it in refusals["first"]], [(3, "S2", ["a", "b"])])
+
     def test_regions_and_served_threads(self):
         view = self.view("thread 4 new nil\nregion 4 4 100 4 r-x\nserve 4\n")
         self.assertEqual(view["regions"], [{"thread": 4, "first": 4, "source": 100, "count": 4, "rights": "r-x"}])

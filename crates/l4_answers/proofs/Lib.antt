@@ -1,3 +1,4 @@
 pub mod Adding
+pub mod AnswerTexts
 pub mod FirstLine
 pub mod Taking

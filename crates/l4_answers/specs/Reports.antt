@@ -4,6 +4,7 @@ use Rattle.std.specs.List.{list_any}
 use Rattle.l4_fpage.specs.declared.sizes.PageSize.{PageSize}
 use Rattle.l4_ipc.specs.declared.steps.Outcome.{Outcome}
 use Rattle.l4_mapdb.specs.declared.Mapping.{Mapping}
+use Rattle.l4_names.specs.Names.{Names}
 use Rattle.l4_threads.specs.declared.Reply.{Reply}
 use Rattle.l4_answers.specs.Pages.{page_text, shown_text, parent_text}
 use Rattle.l4_answers.specs.Refusals.{Refusal, number_text, refused_text}
@@ -13,8 +14,8 @@ use Rattle.l4_answers.specs.Replies.{newline, numbered_text, transfer_text, expi
 pub data Report : Type 0 where
   -- the script's line with this number is refused
   RefusedLine : ℕ → Refusal → Report
-  -- the script's line with this number can't be read, where pages have this size: its refusal, and its bytes
-  UnreadLine : PageSize → ℕ → Refusal → List ℕ → Report
+  -- the script's line with this number can't be read, where pages have this size and threads these names: its refusal, and its bytes
+  UnreadLine : PageSize → Names → ℕ → Refusal → List ℕ → Report
   -- a served thread's call is refused
   RefusedAct : ℕ → Refusal → Report
   -- a transfer between two threads, and its outcome
@@ -33,6 +34,8 @@ pub data Report : Type 0 where
   Parent : Option Mapping → Report
   -- a region was added to a table
   AddedRegion : Report
+  -- a name was given to a thread
+  Named : ℕ → Report
   -- the number of entries of the history
   StepCount : ℕ → Report
 
@@ -42,13 +45,16 @@ refused_act_text thread refusal = numbered_text thread (codes " refused " ++ ref
 abbrev pub region_text : List ℕ
 region_text = codes "region ok\n"
 
+abbrev pub named_text : ℕ → List ℕ
+named_text number = codes "named " ++ decimal number ++ newline
+
 abbrev pub steps_text : ℕ → List ℕ
 steps_text count = codes "steps " ++ decimal count ++ newline
 
 -- the line of an answer
 abbrev pub report_text : Report → List ℕ
 report_text (RefusedLine line refusal) = refused_text line refusal
-report_text (UnreadLine size line refusal bytes) = refused_text line refusal
+report_text (UnreadLine size names line refusal bytes) = refused_text line refusal
 report_text (RefusedAct thread refusal) = refused_act_text thread refusal
 report_text (Transferred sender receiver outcome) = transfer_text sender receiver outcome
 report_text (TimedOut n) = expire_text n
@@ -58,12 +64,13 @@ report_text (Page page mapping) = page_text page mapping
 report_text (Shown count) = shown_text count
 report_text (Parent mapping) = parent_text mapping
 report_text AddedRegion = region_text
+report_text (Named number) = named_text number
 report_text (StepCount count) = steps_text count
 
 -- the number of the script's line that it refuses, if it refuses one
 abbrev pub refused_line : Report → Option ℕ
 refused_line (RefusedLine line refusal) = Some line
-refused_line (UnreadLine size line refusal bytes) = Some line
+refused_line (UnreadLine size names line refusal bytes) = Some line
 refused_line report = None
 
 -- whether one of these refuses a line

@@ -29,8 +29,8 @@ fn first_newline(bytes: &[u8]) -> Option<usize>
     bytes.iter().position(|byte| *byte == b'\n')
 }
 
-/// The number of bytes before the first newline.
-fn line_len(bytes: &[u8]) -> usize
+/// Returns the number of bytes before the first newline: the length of the first line of a text.
+pub fn line_len(bytes: &[u8]) -> usize
     ensures value { result ≡ position_or_len (λ byte. byte == 10) bytes.now }
     ensures within { result ≤ length bytes.now }
 {

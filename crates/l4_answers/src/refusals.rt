@@ -2,7 +2,7 @@
 ghost use Rattle.std.specs.Prelude.{◌≡◌, ◌≤◌, ◌+◌, ◌++◌, length};
 ghost use Rattle.l4_answers.specs.Refusals.{Refusal, plainly, at_place, message_refusal, thread_refusal, unmap_refusal, kernel_refusal, number_text, refused_text};
 ghost use Rattle.l4_answers.specs.Replies.{newline};
-ghost use Rattle.l4_answers.specs.Reports.{refused_act_text, region_text, steps_text};
+ghost use Rattle.l4_answers.specs.Reports.{refused_act_text, region_text, named_text, steps_text};
 ghost use Rattle.l4_text.specs.Streams.{Tells};
 ghost use Rattle.l4_text.specs.Sizes.{text_bytes, held_bytes};
 
@@ -205,6 +205,26 @@ pub fn put_region<W: Write>(out: &mut Output, writer: &mut W)
 {
     out.make_room(writer);
     out.add_array(*b"region ok\n");
+}
+
+/// Adds `named N`, and ends the line.
+#[inline(always)]
+fn add_named(out: &mut Output, number: u32)
+    requires { length out.old.0 + 40 ≤ held_bytes }
+    ensures { out.new ≡ (out.old.0 ++ named_text number, out.old.1) }
+{
+    out.add_array(*b"named ");
+    out.add_number(u64::from(number));
+    out.push(b'\n');
+}
+
+/// Writes `named N`.
+pub fn put_named<W: Write>(number: u32, out: &mut Output, writer: &mut W)
+    ensures { Tells (W.contents writer.old) (W.contents writer.new) out.old out.new
+        (named_text number) }
+{
+    out.make_room(writer);
+    add_named(out, number);
 }
 
 /// Adds `steps K`, and ends the line.

@@ -12,9 +12,10 @@ use mathlib.Core.List.{append_assoc}
 use Rattle.l4_answers.specs.Reports.{Report}
 use Rattle.l4_text.specs.Grammar.{TextLine, is_silent, ending_of}
 use Rattle.l4_fpage.specs.declared.sizes.PageSize.{PageSize}
+use Rattle.l4_names.specs.Names.{Names}
 use Rattle.l4_shell.specs.Commands.{command_of}
 use Rattle.l4_shell.specs.Requests.{asked_at, asked_of, some_request}
-use Rattle.l4_shell.specs.Sessions.{Session, AnswersLine}
+use Rattle.l4_shell.specs.Sessions.{State, AnswersLine}
 use Rattle.l4_sinks.specs.Texts.{AreAnswerTexts}
 use Rattle.l4_text.proofs.LineSteps.{empty_list}
 use Rattle.l4_text.specs.Tokens.{tokens_of}
@@ -63,7 +64,7 @@ below_one below line h is =
 
 -- LINES AS EXPECTED
 
-below_same : (old new : Session) (number : ℕ) (line : TextLine) (below more : List TextLine) → expected_below below ≡ expected_below more → IsAsExpected old number line below new → IsAsExpected old number line more new
+below_same : (old new : State) (number : ℕ) (line : TextLine) (below more : List TextLine) → expected_below below ≡ expected_below more → IsAsExpected old number line below new → IsAsExpected old number line more new
 below_same old new number line below more same a = record {
   told = a.told;
   text = a.text;
@@ -74,10 +75,10 @@ below_same old new number line below more same a = record {
 }
 
 -- a line with answers, and those below it, behind other lines
-expected_more : (first between last : Session) (number : ℕ) (before : List TextLine) (line : TextLine) (below : List TextLine) → is_silent line.bytes ≡ false
+expected_more : (first between last : State) (number : ℕ) (before : List TextLine) (line : TextLine) (below : List TextLine) → is_silent line.bytes ≡ false
     → AreAsExpected first number before between → AreAsExpected between (number + length before) (line ∷ below) last → AreAsExpected first number (before ++ line ∷ below) last
 expected_more first between last number [] line below asks are more =
-    subst (λ (m : Session). AreAsExpected m number (line ∷ below) last) are (subst (λ (n : ℕ). AreAsExpected between n (line ∷ below) last) (omega arith) more)
+    subst (λ (m : State). AreAsExpected m number (line ∷ below) last) are (subst (λ (n : ℕ). AreAsExpected between n (line ∷ below) last) (omega arith) more)
 expected_more first between last number (head ∷ before) line below asks are more =
     let n : number + length (head ∷ before) ≡ (number + 1) + length before = omega arith in (
       are.0,
@@ -86,15 +87,15 @@ expected_more first between last number (head ∷ before) line below asks are mo
     )
 
 -- a silent line has no answer
-asked_none : (size : PageSize) (bytes : List ℕ) → is_silent bytes ≡ true → asked_at size Whole bytes ≡ Ok None
-asked_none size bytes is = ap (λ b. cond b (Ok None) (some_request bytes (command_of size (tokens_of bytes)))) is
+asked_none : (size : PageSize) (names : Names) (bytes : List ℕ) → is_silent bytes ≡ true → asked_at size names Whole bytes ≡ Ok None
+asked_none size names bytes is = ap (λ b. cond b (Ok None) (some_request bytes (command_of size names (tokens_of bytes)))) is
 
-silent_answers : (m : Session) (number : ℕ) (line : TextLine) → IsWhole line → Silent line → AnswersLine m number (asked_of m.machine.size line) [] m
+silent_answers : (m : State) (number : ℕ) (line : TextLine) → IsWhole line → Silent line → AnswersLine m number (asked_of m.session.machine.size m.names line) [] m
 silent_answers m number line whole is =
-    let asked : asked_of m.machine.size line ≡ Ok None = ap (λ e. asked_at m.machine.size e line.bytes) whole ∙ asked_none m.machine.size line.bytes is in
+    let asked : asked_of m.session.machine.size m.names line ≡ Ok None = ap (λ e. asked_at m.session.machine.size m.names e line.bytes) whole ∙ asked_none m.session.machine.size m.names line.bytes is in
     subst (λ (q : Result _ _). AnswersLine m number q [] m) (sym asked) (refl, refl)
 
-silent_lines : (m : Session) (number : ℕ) (lines : List TextLine) → All IsWhole lines → All Silent lines → All Readable lines → AreAsExpected m number lines m
+silent_lines : (m : State) (number : ℕ) (lines : List TextLine) → All IsWhole lines → All Silent lines → All Readable lines → AreAsExpected m number lines m
 silent_lines m number [] whole silent readable = refl
 silent_lines m number (line ∷ lines) whole silent readable = (
   m,
@@ -127,14 +128,14 @@ all_agree Begun expected text left h closed = inr (inl (h.1 ∙ ap (λ x. lines_
 all_agree Rest expected text left h closed = inr (inr h)
 
 -- the lines so far are as expected, where no answer is left of the last one
-due_closed : (first : Session) (lines : List TextLine) (due : Due) (last : Session) → Compares first lines due last → is_surplus due.stage (length due.left == 0) ≡ false → AreAsExpected first 1 lines last
+due_closed : (first : State) (lines : List TextLine) (due : Due) (last : State) → Compares first lines due last → is_surplus due.stage (length due.left == 0) ≡ false → AreAsExpected first 1 lines last
 due_closed first lines due last c closed =
     let block : AreAsExpected c.between (1 + length c.before) (c.line ∷ c.below) last = (
       last,
       record {
         told = c.told;
         text = c.text;
-        answers = subst (λ (n : ℕ). AnswersLine c.between n (asked_of c.between.machine.size c.line) c.told last) c.number c.answers;
+        answers = subst (λ (n : ℕ). AnswersLine c.between n (asked_of c.between.session.machine.size c.between.names c.line) c.told last) c.number c.answers;
         is_text = c.is_text;
         agrees = λ asks. all_agree due.stage (expected_below c.below) c.text due.left c.compared closed;
         readable = c.readable;
@@ -143,13 +144,13 @@ due_closed first lines due last c closed =
     ) in
     subst (λ (ls : List TextLine). AreAsExpected first 1 ls last) (sym c.parts) (expected_more first c.between last 1 c.before c.line c.below c.asks c.expected block)
 
-pub lines_closed : (first : Session) (lines : List TextLine) (due : Option Due) (last : Session) → All IsWhole lines → AgreesSoFar first lines due last → has_surplus due ≡ false → AreAsExpected first 1 lines last
+pub lines_closed : (first : State) (lines : List TextLine) (due : Option Due) (last : State) → All IsWhole lines → AgreesSoFar first lines due last → has_surplus due ≡ false → AreAsExpected first 1 lines last
 lines_closed first lines None last whole a closed =
-    subst (λ (m : Session). AreAsExpected first 1 lines m) (sym a.same) (silent_lines first 1 lines whole a.silent a.all_readable)
+    subst (λ (m : State). AreAsExpected first 1 lines m) (sym a.same) (silent_lines first 1 lines whole a.silent a.all_readable)
 lines_closed first lines (Some due) last whole a closed = due_closed first lines due last a closed
 
 -- what is expected above the first line with answers: nothing
-pub none_above : (first : Session) (lines : List TextLine) (due : Option Due) (last : Session) → AgreesSoFar first lines due last → expected_below lines ≡ []
+pub none_above : (first : State) (lines : List TextLine) (due : Option Due) (last : State) → AgreesSoFar first lines due last → expected_below lines ≡ []
 none_above first lines None last a = a.none_expected
 none_above first lines (Some due) last a = ap expected_below a.parts ∙ below_ends a.before a.line a.below a.asks ∙ a.above
 
@@ -175,9 +176,9 @@ some_readable : (line : TextLine) (answer : List ℕ) → is_marked line.bytes �
 some_readable line answer h is = h ∙ sym (ap is_some is)
 
 -- a line with answers
-pub answered_more : (first : Session) (lines : List TextLine) (due : Option Due) (last next : Session) (line : TextLine) (number : ℕ) (text : List ℕ) → All IsWhole lines → AgreesSoFar first lines due last
+pub answered_more : (first : State) (lines : List TextLine) (due : Option Due) (last next : State) (line : TextLine) (number : ℕ) (text : List ℕ) → All IsWhole lines → AgreesSoFar first lines due last
     → has_surplus due ≡ false → IsWhole line → is_silent line.bytes ≡ false → number ≡ 1 + length lines
-    → (told : List Report) × AnswersLine last number (asked_of last.machine.size line) told next × AreAnswerTexts None told text
+    → (told : List Report) × AnswersLine last number (asked_of last.session.machine.size last.names line) told next × AreAnswerTexts None told text
     → Compares first (lines ++ line ∷ []) (record { number = number; left = text; stage = Untouched }) next
 answered_more first lines due last next line number text whole a closed whole_line asks number_is is = record {
   before = lines;
@@ -201,7 +202,7 @@ answered_more first lines due last next line number text whole a closed whole_li
 }
 
 -- a silent line below the last one with answers
-below_push : (first : Session) (lines : List TextLine) (due after : Due) (last : Session) (line : TextLine) → (c : Compares first lines due last) → IsWhole line → Silent line → Readable line → after.number ≡ due.number
+below_push : (first : State) (lines : List TextLine) (due after : Due) (last : State) (line : TextLine) → (c : Compares first lines due last) → IsWhole line → Silent line → Readable line → after.number ≡ due.number
     → HasCompared after.stage (expected_below c.below ++ one (expected_in line.bytes)) c.text after.left → Compares first (lines ++ line ∷ []) after last
 below_push first lines due after last line c whole silent readable same compared = record {
   before = c.before;
@@ -214,7 +215,7 @@ below_push first lines due after last line c whole silent readable same compared
   number = same ∙ c.number;
   told = c.told;
   text = c.text;
-  answers = subst (λ (n : ℕ). AnswersLine c.between n (asked_of c.between.machine.size c.line) c.told last) (sym same) c.answers;
+  answers = subst (λ (n : ℕ). AnswersLine c.between n (asked_of c.between.session.machine.size c.between.names c.line) c.told last) (sym same) c.answers;
   is_text = c.is_text;
   asks = c.asks;
   readable = c.readable;
@@ -225,7 +226,7 @@ below_push first lines due after last line c whole silent readable same compared
 }
 
 -- a silent line without an expectation
-pub silent_more : (first : Session) (lines : List TextLine) (due : Option Due) (last : Session) (line : TextLine) → AgreesSoFar first lines due last → IsWhole line → Silent line → is_marked line.bytes ≡ false
+pub silent_more : (first : State) (lines : List TextLine) (due : Option Due) (last : State) (line : TextLine) → AgreesSoFar first lines due last → IsWhole line → Silent line → is_marked line.bytes ≡ false
     → AgreesSoFar first (lines ++ line ∷ []) due last
 silent_more first lines None last line a whole silent unmarked = record {
   silent = All-push Silent lines line a.silent silent;
@@ -265,7 +266,7 @@ takes_by before after expected answer text not_ended h (inr next) =
     subst (λ (s : Stage). HasCompared s (expected ++ answer ∷ []) text after.left) (sym next.2)
     (omega (arith, length-append expected (answer ∷ [])), answer_more expected answer text before.left after.left (so_far before.stage expected text before.left not_ended h) left)
 
-pub expected_one : (first : Session) (lines : List TextLine) (before after : Due) (last : Session) (line : TextLine) (answer : List ℕ) → Compares first lines before last → IsWhole line → Silent line → is_marked line.bytes ≡ true
+pub expected_one : (first : State) (lines : List TextLine) (before after : Due) (last : State) (line : TextLine) (answer : List ℕ) → Compares first lines before last → IsWhole line → Silent line → is_marked line.bytes ≡ true
     → expected_in line.bytes ≡ Some answer → is_ended before.stage ≡ false → Takes before answer after true → Compares first (lines ++ line ∷ []) after last
 expected_one first lines before after last line answer c whole silent marked is not_ended takes =
     below_push first lines before after last line c whole silent (some_readable line answer marked is) takes.0

@@ -5,10 +5,10 @@ use Rattle.std.specs.Io.KnownBytes.{Consumes, IsAtEnd}
 use Rattle.std.proofs.lemmas.List.{append-nil}
 use Rattle.std.proofs.lemmas.List.Elements.{All-push}
 use Rattle.l4_fpage.specs.declared.sizes.PageSize.{PageSize}
-use Rattle.l4_shell.specs.ByLines.{session_of, IsFirst as IsFirstRun}
+use Rattle.l4_shell.specs.ByLines.{state_of, IsFirst as IsFirstRun}
 use Rattle.l4_text.specs.Grammar.{TextLine, lines_of, is_silent, ending_of}
 use Rattle.l4_shell.specs.Requests.{asked_at, asked_of}
-use Rattle.l4_shell.specs.Sessions.{Session, AnswersLine}
+use Rattle.l4_shell.specs.Sessions.{State, AnswersLine}
 use Rattle.l4_shell.specs.declared.by_lines.ScriptRun.{ScriptRun}
 use Rattle.l4_text.proofs.Grammar.{cut_line, none_whole}
 use Rattle.l4_text.specs.Lines.{GivesLine}
@@ -33,7 +33,7 @@ IsWhole line = ending_of line ≡ Whole
 -- THE LOOP
 
 -- the lines before the one of this number agree as far as they go
-pub record SoFar (first : Session) (old new : Option (List ℕ)) (now : List ℕ × ℕ) (number : ℕ) (last : Session) (tested : Tested) : Type 0 where
+pub record SoFar (first : State) (old new : Option (List ℕ)) (now : List ℕ × ℕ) (number : ℕ) (last : State) (tested : Tested) : Type 0 where
   pub lines : List TextLine
   pub taken : Taken old new now number lines
   pub whole : All (λ line. ending_of line ≡ Whole) lines
@@ -41,7 +41,7 @@ pub record SoFar (first : Session) (old new : Option (List ℕ)) (now : List ℕ
   pub counted : tested.expectations ≡ length (expected_by lines)
   pub few : tested.expectations < number
 
-pub so_far_none : (first : Session) (a : Option (List ℕ)) (now : List ℕ × ℕ) (tested : Tested) → IsFirst tested → now ≡ ([], 0) → SoFar first a a now 1 first tested
+pub so_far_none : (first : State) (a : Option (List ℕ)) (now : List ℕ × ℕ) (tested : Tested) → IsFirst tested → now ≡ ([], 0) → SoFar first a a now 1 first tested
 so_far_none first a now tested starts is = record {
   lines = [];
   taken = taken_none a now is;
@@ -55,15 +55,15 @@ so_far_none first a now tested starts is = record {
 -- ONE LINE MORE
 
 -- what one more line makes of those that agree
-record OneMore (first : Session) (lines : List TextLine) (line : TextLine) (old new : Tested) (next : Session) : Type 0 where
+record OneMore (first : State) (lines : List TextLine) (line : TextLine) (old new : Tested) (next : State) : Type 0 where
   pub agrees : AgreesSoFar first (lines ++ line ∷ []) new.due next
   pub counted : new.expectations ≡ length (expected_by (lines ++ line ∷ []))
   pub few : new.expectations ≤ old.expectations + 1
 
-goes_more : (first : Session) (lines : List TextLine) (line : TextLine) (number : ℕ) (old new : Tested) (last next : Session) → All IsWhole lines → AgreesSoFar first lines old.due last → old.expectations ≡ length (expected_by lines)
+goes_more : (first : State) (lines : List TextLine) (line : TextLine) (number : ℕ) (old new : Tested) (last next : State) → All IsWhole lines → AgreesSoFar first lines old.due last → old.expectations ≡ length (expected_by lines)
     → IsWhole line → number ≡ 1 + length lines → is_silent line.bytes ≡ false → Goes last old number line.bytes next new → OneMore first lines line old new next
 goes_more first lines line number old new last next whole agrees counted whole_line number_is asks g =
-    let answers : AnswersLine last number (asked_of last.machine.size line) g.answered.0 next = subst (λ (e : Ending). AnswersLine last number (asked_at last.machine.size e line.bytes) g.answered.0 next) (sym whole_line) g.answered.1 in
+    let answers : AnswersLine last number (asked_of last.session.machine.size last.names line) g.answered.0 next = subst (λ (e : Ending). AnswersLine last number (asked_at last.session.machine.size last.names e line.bytes) g.answered.0 next) (sym whole_line) g.answered.1 in
     record {
       agrees = subst (λ (d : Option Due). AgreesSoFar first (lines ++ line ∷ []) d next) (sym g.due_is)
           (answered_more first lines old.due last next line number g.text whole agrees g.closed whole_line asks number_is (g.answered.0, answers, g.answered.2));
@@ -71,27 +71,27 @@ goes_more first lines line number old new last next whole agrees counted whole_l
       few = omega (arith, g.same);
     }
 
-same_more : (first : Session) (lines : List TextLine) (line : TextLine) (old new : Tested) (last next : Session) → AgreesSoFar first lines old.due last → old.expectations ≡ length (expected_by lines)
+same_more : (first : State) (lines : List TextLine) (line : TextLine) (old new : Tested) (last next : State) → AgreesSoFar first lines old.due last → old.expectations ≡ length (expected_by lines)
     → IsWhole line → is_silent line.bytes ≡ true → is_marked line.bytes ≡ false → new ≡ old → next ≡ last → OneMore first lines line old new next
 same_more first lines line old new last next agrees counted whole_line silent unmarked same still =
-    subst (λ (t : Tested). OneMore first lines line old t next) (sym same) (subst (λ (m : Session). OneMore first lines line old old m) (sym still) (record {
+    subst (λ (t : Tested). OneMore first lines line old t next) (sym same) (subst (λ (m : State). OneMore first lines line old old m) (sym still) (record {
       agrees = silent_more first lines old.due last line agrees whole_line silent unmarked;
       counted = counted ∙ counted_none lines line unmarked;
       few = omega arith;
     }))
 
-compared_more : (first : Session) (lines : List TextLine) (line : TextLine) (answer : List ℕ) (old new : Tested) (last next : Session) → AgreesSoFar first lines old.due last → old.expectations ≡ length (expected_by lines)
+compared_more : (first : State) (lines : List TextLine) (line : TextLine) (answer : List ℕ) (old new : Tested) (last next : State) → AgreesSoFar first lines old.due last → old.expectations ≡ length (expected_by lines)
     → IsWhole line → is_silent line.bytes ≡ true → is_marked line.bytes ≡ true → expected_in line.bytes ≡ Some answer → Compared old answer new → next ≡ last → OneMore first lines line old new next
 compared_more first lines line answer old new last next agrees counted whole_line silent marked is c still =
     let before : Compares first lines c.before last = subst (λ (d : Option Due). AgreesSoFar first lines d last) c.was agrees in
-    subst (λ (m : Session). OneMore first lines line old new m) (sym still) (record {
+    subst (λ (m : State). OneMore first lines line old new m) (sym still) (record {
       agrees = subst (λ (d : Option Due). AgreesSoFar first (lines ++ line ∷ []) d last) (sym c.is)
           (expected_one first lines c.before c.after last line answer before whole_line silent marked is c.not_ended c.takes);
       counted = c.one_more ∙ ap (λ n. n + 1) counted ∙ counted_one lines line answer is;
       few = omega (arith, c.one_more);
     })
 
-line_more : (silent marked : Bool) (expected : Option (List ℕ)) (first : Session) (lines : List TextLine) (line : TextLine) (number : ℕ) (old new : Tested) (last next : Session) → All IsWhole lines → AgreesSoFar first lines old.due last
+line_more : (silent marked : Bool) (expected : Option (List ℕ)) (first : State) (lines : List TextLine) (line : TextLine) (number : ℕ) (old new : Tested) (last next : State) → All IsWhole lines → AgreesSoFar first lines old.due last
     → old.expectations ≡ length (expected_by lines) → IsWhole line → number ≡ 1 + length lines → is_silent line.bytes ≡ silent → is_marked line.bytes ≡ marked → expected_in line.bytes ≡ expected
     → GoesBy last old number line.bytes silent marked expected next new → OneMore first lines line old new next
 line_more false marked expected first lines line number old new last next whole agrees counted whole_line number_is s m e g =
@@ -102,7 +102,7 @@ line_more true true (Some answer) first lines line number old new last next whol
     compared_more first lines line answer old new last next agrees counted whole_line s m e g.0 g.1
 line_more true true None first lines line number old new last next whole agrees counted whole_line number_is s m e g = absurd g
 
-pub so_far_on : (first : Session) (old mid new : Option (List ℕ)) (now after : List ℕ × ℕ) (kept : List ℕ × Bool) (number : ℕ) (last next : Session) (tested then' : Tested) (r : Option Ending) (ending : Ending) (bytes : List ℕ)
+pub so_far_on : (first : State) (old mid new : Option (List ℕ)) (now after : List ℕ × ℕ) (kept : List ℕ × Bool) (number : ℕ) (last next : State) (tested then' : Tested) (r : Option Ending) (ending : Ending) (bytes : List ℕ)
     → SoFar first old mid now number last tested → GivesLine mid new now after kept (Ok r) → r ≡ Some ending → ending ≡ Whole → bytes ≡ kept.0 → TestsLine last tested number bytes next then' (Ok tt)
     → SoFar first old new after (number + 1) next then'
 so_far_on first old mid new now after kept number last next tested then' r ending bytes a gives is whole same told =
@@ -124,7 +124,7 @@ so_far_on first old mid new now after kept number last next tested then' r endin
 -- HOW THE LOOP ENDS
 
 -- the lines so far, where more was read, whose lines these are
-some_with : (first : Session) (old mid new : Option (List ℕ)) (now : List ℕ × ℕ) (number : ℕ) (last : Session) (tested : Tested) (read taken : List ℕ) (later : List TextLine)
+some_with : (first : State) (old mid new : Option (List ℕ)) (now : List ℕ × ℕ) (number : ℕ) (last : State) (tested : Tested) (read taken : List ℕ) (later : List TextLine)
     → SoFar first old mid now number last tested → Consumes mid new read → now.0 ++ read ≡ taken → lines_of taken ≡ later → AgreesSome first old new
 some_with first old mid new now number last tested read taken later a more same is =
     let w = taken_with old mid new now number a.lines read taken a.taken more same in
@@ -141,7 +141,7 @@ some_with first old mid new now number last tested read taken later a more same 
     }
 
 -- a read failed
-pub stops_read : (first : Session) (old mid new : Option (List ℕ)) (now after : List ℕ × ℕ) (kept : List ℕ × Bool) (number : ℕ) (last : Session) (tested : Tested) (e : RunFault)
+pub stops_read : (first : State) (old mid new : Option (List ℕ)) (now after : List ℕ × ℕ) (kept : List ℕ × Bool) (number : ℕ) (last : State) (tested : Tested) (e : RunFault)
     → SoFar first old mid now number last tested → GivesLine mid new now after kept (Err e) → TestsLines first old new (Err (Stopped Read))
 unfolding some_with
 stops_read first old mid new now after kept number last tested e a gives =
@@ -153,7 +153,7 @@ not_at_end : (line : TextLine) (later : List TextLine) (new : Option (List ℕ))
 not_at_end line later new e = absurd (omega (arith, ap length e))
 
 -- what fails here is what the test returns
-stops_at : (failure : Failure) (first : Session) (old new : Option (List ℕ)) (why : Failure → Type 0) → (a : AgreesSome first old new) → (a.later ≡ [] → IsAtEnd new) → ((f : Failure) → why f → FailsNext a.due (1 + length a.lines) a.later f)
+stops_at : (failure : Failure) (first : State) (old new : Option (List ℕ)) (why : Failure → Type 0) → (a : AgreesSome first old new) → (a.later ≡ [] → IsAtEnd new) → ((f : Failure) → why f → FailsNext a.due (1 + length a.lines) a.later f)
     → Fails why failure → TestsLines first old new (Err failure)
 stops_at (Differs difference) first old new why a end fails h = (a, fails (Differs difference) h, end)
 stops_at (Malformed n fault) first old new why a end fails h = (a, fails (Malformed n fault) h, end)
@@ -166,7 +166,7 @@ end_number due n k (Malformed m fault) h = h
 end_number due n k (Stopped fault) h = h
 
 -- the script ended
-pub ends_all : (result : Result Passed Failure) (first : Session) (old mid new : Option (List ℕ)) (now after : List ℕ × ℕ) (kept : List ℕ × Bool) (number : ℕ) (last : Session) (tested : Tested) (r : Option Ending)
+pub ends_all : (result : Result Passed Failure) (first : State) (old mid new : Option (List ℕ)) (now after : List ℕ × ℕ) (kept : List ℕ × Bool) (number : ℕ) (last : State) (tested : Tested) (r : Option Ending)
     → SoFar first old mid now number last tested → GivesLine mid new now after kept (Ok r) → r ≡ None → TestsEnd tested (number - 1) result → TestsLines first old new result
 unfolding some_with
 ends_all (Ok passed) first old mid new now after kept number last tested r a gives is told =
@@ -197,13 +197,13 @@ ends_all (Err failure) first old mid new now after kept number last tested r a g
     (λ f h. end_number tested.due (number - 1) (1 + length a.lines) f h) told
 
 -- the ending of a line ended it
-ends_why : (failure : Failure) (first : Session) (old new : Option (List ℕ)) (a : AgreesSome first old new) (number : ℕ) (ending : Ending) (bytes : List ℕ) → FailsAt a.due number ending bytes failure → (a.later ≡ [] → IsAtEnd new)
+ends_why : (failure : Failure) (first : State) (old new : Option (List ℕ)) (a : AgreesSome first old new) (number : ℕ) (ending : Ending) (bytes : List ℕ) → FailsAt a.due number ending bytes failure → (a.later ≡ [] → IsAtEnd new)
     → ((f : Failure) → FailsAt a.due number ending bytes f → FailsNext a.due (1 + length a.lines) a.later f) → TestsLines first old new (Err failure)
 ends_why (Differs difference) first old new a number ending bytes h end fails = (a, fails (Differs difference) h, end)
 ends_why (Malformed n fault) first old new a number ending bytes h end fails = (a, fails (Malformed n fault) h, end)
 ends_why (Stopped fault) first old new a number ending bytes h end fails = absurd h
 
-pub ends_by : (ending : Ending) (first : Session) (old mid new : Option (List ℕ)) (now after : List ℕ × ℕ) (kept : List ℕ × Bool) (number : ℕ) (last : Session) (tested : Tested) (r : Option Ending) (failure : Failure)
+pub ends_by : (ending : Ending) (first : State) (old mid new : Option (List ℕ)) (now after : List ℕ × ℕ) (kept : List ℕ × Bool) (number : ℕ) (last : State) (tested : Tested) (r : Option Ending) (failure : Failure)
     → SoFar first old mid now number last tested → GivesLine mid new now after kept (Ok r) → r ≡ Some ending → ((bytes : List ℕ) → EndsWhole number ending bytes (Err failure)) → TestsLines first old new (Err failure)
 unfolding some_with
 ends_by Whole first old mid new now after kept number last tested r failure a gives is by =
@@ -235,7 +235,7 @@ ends_by IsCut first old mid new now after kept number last tested r failure a gi
     (λ f h. subst (λ (k : ℕ). FailsAt tested.due k IsCut l.bytes f) n h)
 
 -- a line failed
-pub ends_at : (first : Session) (old mid new : Option (List ℕ)) (now after : List ℕ × ℕ) (kept : List ℕ × Bool) (number : ℕ) (last next : Session) (tested then' : Tested) (r : Option Ending) (ending : Ending) (bytes : List ℕ) (failure : Failure)
+pub ends_at : (first : State) (old mid new : Option (List ℕ)) (now after : List ℕ × ℕ) (kept : List ℕ × Bool) (number : ℕ) (last next : State) (tested then' : Tested) (r : Option Ending) (ending : Ending) (bytes : List ℕ) (failure : Failure)
     → SoFar first old mid now number last tested → GivesLine mid new now after kept (Ok r) → r ≡ Some ending → ending ≡ Whole → bytes ≡ kept.0 → TestsLine last tested number bytes next then' (Err failure)
     → TestsLines first old new (Err failure)
 unfolding some_with
@@ -253,7 +253,7 @@ ends_at first old mid new now after kept number last next tested then' r ending 
 
 -- THE TEST
 
-first_of : (frames : ℕ) (size : PageSize) (run : ScriptRun) (old new : Option (List ℕ)) → (b : IsFirstRun frames size run) → AgreesSome (session_of run) old new → AgreesFirst frames size old new
+first_of : (frames : ℕ) (size : PageSize) (run : ScriptRun) (old new : Option (List ℕ)) → (b : IsFirstRun frames size run) → AgreesSome (state_of run) old new → AgreesFirst frames size old new
 first_of frames size run old new b a = record {
   read = a.read;
   «from» = a.from;
@@ -266,10 +266,10 @@ first_of frames size run old new b a = record {
   sized = b.2;
   last = a.last;
   due = a.due;
-  agrees = subst (λ (m : Session). AgreesSoFar m a.lines a.due a.last) b.3 a.agrees;
+  agrees = subst (λ (m : State). AgreesSoFar m a.lines a.due a.last) b.3 a.agrees;
 }
 
-pub tests_all : (result : Result Passed Failure) (frames : ℕ) (size : PageSize) (run : ScriptRun) (old new : Option (List ℕ)) → IsFirstRun frames size run → TestsLines (session_of run) old new result → Tests frames size old new result
+pub tests_all : (result : Result Passed Failure) (frames : ℕ) (size : PageSize) (run : ScriptRun) (old new : Option (List ℕ)) → IsFirstRun frames size run → TestsLines (state_of run) old new result → Tests frames size old new result
 unfolding first_of
 tests_all (Ok passed) frames size run old new b t = record {
   read = t.read;
@@ -280,7 +280,7 @@ tests_all (Ok passed) frames size run old new b t = record {
   boots = b.1;
   sized = b.2;
   last = t.last;
-  expected = subst (λ (m : Session). AreAsExpected m 1 (lines_of t.read) t.last) b.3 t.expected;
+  expected = subst (λ (m : State). AreAsExpected m 1 (lines_of t.read) t.last) b.3 t.expected;
   top = t.top;
   lines = t.lines;
   expectations = t.expectations;

@@ -4,7 +4,7 @@ use Rattle.std.specs.List.{flat_map}
 use Rattle.l4_answers.specs.Reports.{Report}
 use Rattle.l4_text.specs.Grammar.{TextLine, is_silent}
 use Rattle.l4_shell.specs.Requests.{asked_of}
-use Rattle.l4_shell.specs.Sessions.{Session, AnswersLine}
+use Rattle.l4_shell.specs.Sessions.{State, AnswersLine}
 use Rattle.l4_sinks.specs.Texts.{AreAnswerTexts}
 
 -- EXPECTATIONS
@@ -59,16 +59,16 @@ Agrees expected text = (expected ≡ []) ⊎ ((text ≡ lines_text expected) ⊎
 
 -- The line with this number was answered, and its answers, as `l4 run` writes them, agree with those expected below it. A line that begins
 -- with `#=` has an answer behind that.
-pub record IsAsExpected (old : Session) (number : ℕ) (line : TextLine) (below : List TextLine) (new : Session) : Type 0 where
+pub record IsAsExpected (old : State) (number : ℕ) (line : TextLine) (below : List TextLine) (new : State) : Type 0 where
   pub told : List Report
   pub text : List ℕ
-  pub answers : AnswersLine old number (asked_of old.machine.size line) told new
+  pub answers : AnswersLine old number (asked_of old.session.machine.size old.names line) told new
   pub is_text : AreAnswerTexts None told text
   pub agrees : is_silent line.bytes ≡ false → Agrees (expected_below below) text
   pub readable : is_marked line.bytes ≡ is_some (expected_in line.bytes)
 
 -- lines, of which the first has this number, were answered as expected, one after another
-abbrev pub AreAsExpected : Session → ℕ → List TextLine → Session → Type 0
+abbrev pub AreAsExpected : State → ℕ → List TextLine → State → Type 0
 AreAsExpected old number [] new = new ≡ old
 AreAsExpected old number (line ∷ lines) new =
-    (between : Session) × IsAsExpected old number line lines between × AreAsExpected between (number + 1) lines new
+    (between : State) × IsAsExpected old number line lines between × AreAsExpected between (number + 1) lines new

@@ -8,7 +8,7 @@ use Rattle.l4_answers.specs.Reports.{Report}
 use Rattle.l4_answers.specs.Lines.{first_line, is_next}
 use Rattle.l4_text.specs.Grammar.{TextLine, lines_of, is_silent, ending_of}
 use Rattle.l4_shell.specs.Requests.{asked_of}
-use Rattle.l4_shell.specs.Sessions.{Session, first_session, AnswersLine}
+use Rattle.l4_shell.specs.Sessions.{State, first_state, AnswersLine}
 use Rattle.l4_sinks.specs.Texts.{AreAnswerTexts}
 use Rattle.l4_text.specs.declared.lines.Ending.{Ending}
 use Rattle.l4_text.specs.declared.lines.Ending.TheVariants.{Whole, Long as TooLong, Cut as IsCut}
@@ -33,9 +33,9 @@ HasCompared Rest expected text left = Begins expected text
 
 -- The last of these lines that is neither empty nor a comment was answered. The lines before it were answered as expected, and the
 -- expectations below it agree with its answers as far as they go.
-pub record Compares (first : Session) (lines : List TextLine) (due : Due) (last : Session) : Type 0 where
+pub record Compares (first : State) (lines : List TextLine) (due : Due) (last : State) : Type 0 where
   pub before : List TextLine
-  pub between : Session
+  pub between : State
   pub line : TextLine
   pub below : List TextLine
   pub parts : lines ≡ before ++ line ∷ below
@@ -44,7 +44,7 @@ pub record Compares (first : Session) (lines : List TextLine) (due : Due) (last 
   pub number : due.number ≡ 1 + length before
   pub told : List Report
   pub text : List ℕ
-  pub answers : AnswersLine between due.number (asked_of between.machine.size line) told last
+  pub answers : AnswersLine between due.number (asked_of between.session.machine.size between.names line) told last
   pub is_text : AreAnswerTexts None told text
   pub asks : is_silent line.bytes ≡ false
   pub readable : is_marked line.bytes ≡ is_some (expected_in line.bytes)
@@ -54,14 +54,14 @@ pub record Compares (first : Session) (lines : List TextLine) (due : Due) (last 
   pub compared : HasCompared due.stage (expected_below below) text due.left
 
 -- all of these lines are empty or comments, and none expects an answer
-pub record AreSilent (first : Session) (lines : List TextLine) (last : Session) : Type 0 where
+pub record AreSilent (first : State) (lines : List TextLine) (last : State) : Type 0 where
   pub silent : All (λ l. is_silent l.bytes ≡ true) lines
   pub all_readable : All (λ l. is_marked l.bytes ≡ is_some (expected_in l.bytes)) lines
   pub none_expected : expected_below lines ≡ []
   pub same : last ≡ first
 
 -- these lines agree as far as they go
-abbrev pub AgreesSoFar : Session → List TextLine → Option Due → Session → Type 0
+abbrev pub AgreesSoFar : State → List TextLine → Option Due → State → Type 0
 AgreesSoFar first lines None last = AreSilent first lines last
 AgreesSoFar first lines (Some due) last = Compares first lines due last
 
@@ -138,8 +138,8 @@ pub record Passes (frames : ℕ) (size : PageSize) (old new : Option (List ℕ))
   pub boot : Machine
   pub boots : IsBoot frames boot
   pub sized : boot.size ≡ size
-  pub last : Session
-  pub expected : AreAsExpected (first_session frames boot) 1 (lines_of read) last
+  pub last : State
+  pub expected : AreAsExpected (first_state frames boot) 1 (lines_of read) last
   pub top : expected_below (lines_of read) ≡ []
   pub lines : passed.lines ≡ length (lines_of read)
   pub expectations : passed.expectations ≡ length (expected_by (lines_of read))
@@ -155,9 +155,9 @@ pub record AgreesFirst (frames : ℕ) (size : PageSize) (old new : Option (List 
   pub boot : Machine
   pub boots : IsBoot frames boot
   pub sized : boot.size ≡ size
-  pub last : Session
+  pub last : State
   pub due : Option Due
-  pub agrees : AgreesSoFar (first_session frames boot) lines due last
+  pub agrees : AgreesSoFar (first_state frames boot) lines due last
 
 -- Whether a script passes, or why it fails: at the first line that does not agree, or at the end of the input, or because a read failed, or
 -- because memory ran out, which can happen at the start and at any line.

@@ -2,7 +2,7 @@
 ghost use Rattle.std.specs.Prelude.{◌≡◌, ◌≤◌, ◌<◌, ◌+◌, ◌^◌, ℕ, List, [], Option, None, Some, IfSome, MatchOption, true, false, if◌then◌else◌};
 ghost use Rattle.std.specs.Option.{option_copied};
 ghost use Rattle.l4_fpage.specs.Pages.{max_frames};
-ghost use Rattle.l4_shell.specs.ByLines.{session_of};
+ghost use Rattle.l4_shell.specs.ByLines.{state_of};
 ghost use Rattle.l4_expectations.specs.Tests.{is_ended, has_surplus, Tests};
 ghost use Rattle.l4_expectations.specs.Inside.Lines.{Reports, EndsWhole, Closes, Answered, ComparesAnswer, AnswersNext, TestsLine, TestsEnd, TestsLines, IsFirst};
 
@@ -87,7 +87,7 @@ fn close(alloc: Global, due: Option<&Due>) -> Result<(), Failure>
 /// The text of the answers to a line. None if there is not enough memory.
 fn answered(alloc: Global, run: &mut ScriptRun, number: u64, line: &[u8]) -> Option<Vec<u8>>
     ensures { IfSome result
-        (λ text. Answered (session_of run.old) number line.now text.items (session_of run.new)) }
+        (λ text. Answered (state_of run.old) number line.now text.items (state_of run.new)) }
 {
     let mut teller = Teller::new(Vec::new(alloc), false, None);
     run.answer_line(number, Ending::Whole, line, &mut teller);
@@ -120,7 +120,7 @@ fn compare(tested: &mut Tested, number: u64, answer: &[u8]) -> Result<(), Failur
 
 /// Answers a line, after the answers to the line above it have been compared.
 fn answer(run: &mut ScriptRun, tested: &mut Tested, number: u64, line: &[u8]) -> Result<(), Failure>
-    ensures { AnswersNext (session_of run.old) tested.old number line.now (session_of run.new)
+    ensures { AnswersNext (state_of run.old) tested.old number line.now (state_of run.new)
         tested.new result }
 {
     match close(tested.alloc, tested.due.as_ref()) {
@@ -146,7 +146,7 @@ fn test_line(
     line: &[u8],
 ) -> Result<(), Failure>
     requires { tested.old.expectations < number }
-    ensures { TestsLine (session_of run.old) tested.old number line.now (session_of run.new)
+    ensures { TestsLine (state_of run.old) tested.old number line.now (state_of run.new)
         tested.new result }
 {
     if !is_silent(line) {
@@ -192,7 +192,7 @@ fn test_lines<R: Read>(
     reader: &mut R,
 ) -> Result<Passed, Failure>
     requires { IsFirst tested.old }
-    ensures { TestsLines (session_of run.old) (R.remaining reader.old) (R.remaining reader.new)
+    ensures { TestsLines (state_of run.old) (R.remaining reader.old) (R.remaining reader.new)
         result }
 {
     let mut lines = LineReader::new();

@@ -267,11 +267,17 @@ lines that begin with #, are skipped.
                          pages that start at page FIRST
   parent N PAGE          prints the parent of a page of N's space: the page from
                          which it was mapped. A granted page keeps its parent
+  name NAME N            gives thread N a name: from the next line on, NAME stands
+                         for N. A name that is given again stands for the new
+                         thread. NAME is a letter and then letters, digits or
+                         hyphens, at most 24 in all, and no word of the language.
+                         A script has at most 64 names
   steps                  prints the number of steps so far: calls that started,
                          transfers and expiries
 
-N is a thread number, below 262144. Thread 1 is sigma0, in whose space page i has
-frame i. Thread 2 is root. Numbers are decimal, or hexadecimal with a 0x prefix.
+N, like every other thread in a line, is a thread number, below 262144, or a
+name. Thread 1 is sigma0, in whose space page i has frame i. Thread 2 is root.
+Numbers are decimal, or hexadecimal with a 0x prefix.
 
 These tokens stand for the words of a message:
 
@@ -317,6 +323,7 @@ In answers, TAG and WORD are hexadecimal without the prefix.
                                    0, root's is 1, and each new one gets the next
                                    number
   region ok                        the region was added to the table
+  named N                          the name now stands for thread N
   steps K                          K steps so far, including those of served
                                    threads
   line L refused CODE              the line was refused and changed nothing
@@ -379,6 +386,7 @@ l4 plan, l4 check, l4 decode and l4_steps print these codes too:
   S2         the line has too few tokens, too many, or an invalid one
   S3         the line is longer than 4,096 bytes
   S4         the line does not end with a newline
+  S5         the script already has 64 names
   NoMemory   there was not enough memory
 
 Exit status: 0 at the end of the script, 1 if a refused line ended it (with

@@ -9,3 +9,5 @@ pub mod InTurn
 pub mod StraightLines
 pub mod SizesKept
 pub mod OneAnswer
+pub mod Hiding
+pub mod Standing

@@ -17,8 +17,9 @@ use Rattle.std.specs.Prelude.{MatchOption}
 use Rattle.l4_answers.specs.Refusals.{kernel_refusal}
 use Rattle.l4_ipc.specs.declared.steps.Refused.TheVariants.{UnknownThread}
 use Rattle.l4_shell.specs.declared.requests.Request.{Request}
-use Rattle.l4_shell.specs.declared.requests.Request.TheVariants.{TellParent, TellSteps}
-use Rattle.l4_shell.specs.Sessions.{place_in, place_reports, ListsBelow, ListsPages, Shows, parent_answer, Session, TellsCount, CarriesOut}
+use Rattle.l4_shell.specs.declared.requests.Request.TheVariants.{TellParent, GiveName, TellSteps}
+use Rattle.l4_names.specs.Names.{Names}
+use Rattle.l4_shell.specs.Sessions.{place_in, place_reports, ListsBelow, ListsPages, Shows, parent_answer, Session, TellsCount, naming_report, CarriesOut}
 use Rattle.l4_answers.proofs.Adding.{adds_more, adds_is}
 
 below_or : (a b : ℕ) → (a < b) ⊎ (b ≤ a)
@@ -131,15 +132,24 @@ end_of m size first count sum end pages few sized is a b =
     subst (λ (p : ℕ). (page : ℕ) → (page < end) ↔ ((page < first + count) × (page < p))) (is ∙ ap space_pages sized) (end_below first count sum end pages (omega (arith, few)) a b)
 
 -- the parent of a page was told, and nothing else was done
-pub carries_parent : {T : Type 0} (has_told : T → T → List Report → Type 0) (m : Session) (read : Machine) (line thread page : ℕ) (request : Request) (before t : T) → request ≡ TellParent thread page → read ≡ m.machine
-    → AddsAll has_told before t (parent_answer read line thread page ∷ []) → (told : List Report) × CarriesOut m line request told m × AddsAll has_told before t told
-carries_parent has_told m read line thread page request before t is same tells = (
+pub carries_parent : {T : Type 0} (has_told : T → T → List Report → Type 0) (names : Names) (m : Session) (read : Machine) (line thread page : ℕ) (request : Request) (before t : T) → request ≡ TellParent thread page → read ≡ m.machine
+    → AddsAll has_told before t (parent_answer read line thread page ∷ []) → (told : List Report) × CarriesOut names m line request told m × AddsAll has_told before t told
+carries_parent has_told names m read line thread page request before t is same tells = (
   parent_answer m.machine line thread page ∷ [],
-  subst (λ (r : Request). CarriesOut m line r (parent_answer m.machine line thread page ∷ []) m) (sym is) (refl, refl),
+  subst (λ (r : Request). CarriesOut names m line r (parent_answer m.machine line thread page ∷ []) m) (sym is) (refl, refl),
   subst (λ (x : Machine). AddsAll has_told before t (parent_answer x line thread page ∷ [])) same tells,
 )
 
 -- how many entries there are was told
-pub carries_count : {T : Type 0} (has_told : T → T → List Report → Type 0) (old new : Session) (line : ℕ) (request : Request) (before t : T) → request ≡ TellSteps
-    → (told : List Report) × TellsCount old told new × AddsAll has_told before t told → (told : List Report) × CarriesOut old line request told new × AddsAll has_told before t told
-carries_count has_told old new line request before t is e = (e.0, subst (λ (r : Request). CarriesOut old line r e.0 new) (sym is) e.1, e.2)
+pub carries_count : {T : Type 0} (has_told : T → T → List Report → Type 0) (names : Names) (old new : Session) (line : ℕ) (request : Request) (before t : T) → request ≡ TellSteps
+    → (told : List Report) × TellsCount old told new × AddsAll has_told before t told → (told : List Report) × CarriesOut names old line request told new × AddsAll has_told before t told
+carries_count has_told names old new line request before t is e = (e.0, subst (λ (r : Request). CarriesOut names old line r e.0 new) (sym is) e.1, e.2)
+
+-- a name was given, or refused
+pub carries_name : {T : Type 0} (has_told : T → T → List Report → Type 0) (names : Names) (m : Session) (line thread : ℕ) (name : List ℕ) (request : Request) (before t : T) → request ≡ GiveName name thread
+    → AddsAll has_told before t (naming_report names line name thread ∷ []) → (told : List Report) × CarriesOut names m line request told m × AddsAll has_told before t told
+carries_name has_told names m line thread name request before t is tells = (
+  naming_report names line name thread ∷ [],
+  subst (λ (r : Request). CarriesOut names m line r (naming_report names line name thread ∷ []) m) (sym is) (refl, refl),
+  tells,
+)

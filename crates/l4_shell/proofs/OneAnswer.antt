@@ -1,5 +1,5 @@
 -- A line is answered by one refusal of it, or by answers of which none is a line's refusal.
-use Rattle.std.proofs.Common.{◌≡◌, ℕ, Bool, true, false, ◌||◌, ◌⊎◌, List, [], ◌∷◌, ◌++◌, length, Option, Some, None, is_some, Result, Ok, Err, inl, inr, refl, ap, ◌∙◌}
+use Rattle.std.proofs.Common.{◌≡◌, ℕ, Bool, true, false, cond, ◌||◌, ◌⊎◌, List, [], ◌∷◌, ◌++◌, length, Option, Some, None, is_some, Result, Ok, Err, inl, inr, refl, ap, ◌∙◌}
 use Rattle.std.specs.Prelude.{MatchOption}
 use Rattle.std.specs.List.{flat_map}
 use Rattle.std.specs.Option.{option_map_or}
@@ -16,15 +16,16 @@ use Rattle.l4_ipc.specs.Machine.{Machine}
 use Rattle.l4_ipc.specs.Reading.{reply_of}
 use Rattle.l4_ipc.specs.Following.{Done}
 use Rattle.l4_answers.specs.Refusals.{Refusal, kernel_refusal}
-use Rattle.l4_answers.specs.Reports.{Report, RefusedLine, UnreadLine, Ended, Page, Shown, Parent, refused_line, has_refusal}
+use Rattle.l4_answers.specs.Reports.{Report, RefusedLine, UnreadLine, Named, Ended, Page, Shown, Parent, refused_line, has_refusal}
+use Rattle.l4_names.specs.Names.{Names, given}
 use Rattle.l4_record.specs.Seated.{is_among, with_number}
 use Rattle.l4_servers.specs.Servers.{Servers, RegionFails}
 use Rattle.l4_shell.specs.declared.requests.Request.{Request}
-use Rattle.l4_shell.specs.declared.requests.Request.TheVariants.{Enter, CreateThread, EndThread, SendPlan, ListPages, TellParent, AddRegion, ServeThread, TellSteps}
-use Rattle.l4_shell.specs.Refusals.{script_refusal, plan_refusal, lacks_memory, call_refusal, region_refusal}
+use Rattle.l4_shell.specs.declared.requests.Request.TheVariants.{Enter, CreateThread, EndThread, SendPlan, ListPages, TellParent, AddRegion, ServeThread, GiveName, TellSteps}
+use Rattle.l4_shell.specs.Refusals.{script_refusal, plan_refusal, too_many_names, lacks_memory, call_refusal, region_refusal}
 use Rattle.l4_shell.specs.Requests.{Unread}
 use Rattle.l4_shell.specs.Scripts.{IsOneAnswer}
-use Rattle.l4_shell.specs.Sessions.{Session, own_report, ended_reports, done_reports, ended_in, waiting_reports, steps_in, StopsActing, Follows, RefusesLine, RefusesFor, Enters, RegionAdded, place_in, place_reports, ListsPages, CarriesOut, AnswersLine}
+use Rattle.l4_shell.specs.Sessions.{Session, State, own_report, ended_reports, done_reports, ended_in, waiting_reports, steps_in, StopsActing, Follows, RefusesLine, RefusesFor, Enters, RegionAdded, place_in, place_reports, ListsPages, CarriesOut, AnswersLine}
 
 or_none : (a b c : Bool) → (a || b) ≡ false → (b ≡ false → c ≡ false) → (a || c) ≡ false
 or_none true b c h f = h
@@ -110,27 +111,32 @@ adds_one (Some space) old line thread entry told new a = elim a [
   | inr r ↦ for_one _ region_refusal old line told new r
 ]
 
-carries_one : (old : Session) (line : ℕ) (request : Request) (told : List Report) (new : Session) → CarriesOut old line request told new → IsOneAnswer line told
-carries_one old line (Enter thread call) told new c = enters_one old line thread call old.servers told new c
-carries_one old line (CreateThread number call) told new c = elim c [
+naming_one : (b : Bool) (line thread : ℕ) (told : List Report) → told ≡ cond b (Named thread) (RefusedLine line too_many_names) ∷ [] → IsOneAnswer line told
+naming_one true line thread told c = inl (ap has_refusal c)
+naming_one false line thread told c = inr (RefusedLine line too_many_names, refl, c)
+
+carries_one : (names : Names) (old : Session) (line : ℕ) (request : Request) (told : List Report) (new : Session) → CarriesOut names old line request told new → IsOneAnswer line told
+carries_one names old line (Enter thread call) told new c = enters_one old line thread call old.servers told new c
+carries_one names old line (CreateThread number call) told new c = elim c [
   | inl e ↦ enters_one (record old { numbers = with_number old.numbers number }) line _ call old.servers told new e
   | inr lacks ↦ line_one old line lacks_memory told new lacks.1
 ]
-carries_one old line (EndThread thread) told new c = enters_one old line _ _ _ told new c
-carries_one old line (SendPlan thread to which region) told new c = elim c [
+carries_one names old line (EndThread thread) told new c = enters_one old line _ _ _ told new c
+carries_one names old line (SendPlan thread to which region) told new c = elim c [
   | inl sends ↦ enters_one old line thread _ old.servers told new sends.2
   | inr r ↦ for_one _ plan_refusal old line told new r
 ]
-carries_one old line (ListPages thread first count) told new c = shows_one (space_of old.machine.threads thread) old.machine line first count told c.0
-carries_one old line (TellParent thread page) told new c = parent_one (space_of old.machine.threads thread) old.machine line page told c.0
-carries_one old line (AddRegion thread entry) told new c = adds_one (space_of old.machine.threads thread) old line thread entry told new c
-carries_one old line (ServeThread thread) told new c = elim c [
+carries_one names old line (ListPages thread first count) told new c = shows_one (space_of old.machine.threads thread) old.machine line first count told c.0
+carries_one names old line (TellParent thread page) told new c = parent_one (space_of old.machine.threads thread) old.machine line page told c.0
+carries_one names old line (AddRegion thread entry) told new c = adds_one (space_of old.machine.threads thread) old line thread entry told new c
+carries_one names old line (ServeThread thread) told new c = elim c [
   | inl f ↦ follows_one old line _ _ _ told new f
   | inr more ↦ elim more [ inl r ↦ for_one _ call_refusal old line told new r | inr lacks ↦ line_one old line lacks_memory told new lacks.lacks ]
 ]
-carries_one old line TellSteps told new c = inl (ap has_refusal c.3)
+carries_one names old line (GiveName name thread) told new c = naming_one (is_some (given names name thread)) line thread told c.0
+carries_one names old line TellSteps told new c = inl (ap has_refusal c.3)
 
-pub one_answer : (old : Session) (line : ℕ) (asked : Result (Option Request) Unread) (told : List Report) (new : Session) → AnswersLine old line asked told new → IsOneAnswer line told
+pub one_answer : (old : State) (line : ℕ) (asked : Result (Option Request) Unread) (told : List Report) (new : State) → AnswersLine old line asked told new → IsOneAnswer line told
 one_answer old line (Ok None) told new a = inl (ap has_refusal a.0)
-one_answer old line (Ok (Some request)) told new a = carries_one old line request told new a
-one_answer old line (Err unread) told new a = inr (UnreadLine old.machine.size line (script_refusal unread.fault) unread.bytes, refl, a.0)
+one_answer old line (Ok (Some request)) told new a = carries_one old.names old.session line request told new.session a.0
+one_answer old line (Err unread) told new a = inr (UnreadLine old.session.machine.size old.names line (script_refusal unread.fault) unread.bytes, refl, a.0)

@@ -12,12 +12,13 @@ use Rattle.l4_fpage.specs.declared.sizes.PageSize.{PageSize}
 use Rattle.l4_ipc.specs.Machine.{IsBoot}
 use Rattle.l4_record.specs.declared.entries.Entry.{Entry}
 use Rattle.l4_servers.specs.Servers.{Servers, no_servers}
+use Rattle.l4_names.specs.Names.{Names}
 use Rattle.l4_text.specs.Grammar.{TextLine, lines_of}
 use Rattle.l4_text.specs.Lines.{kept_of, TakesLine, TakesRest, GivesLine, left_of}
 use Rattle.l4_shell.specs.declared.requests.Request.{Request}
 use Rattle.l4_shell.specs.Requests.{Unread, asked_at, asked_of}
 use Rattle.l4_answers.specs.Reports.{Report, AddsAll, Keeps, AllOut}
-use Rattle.l4_shell.specs.Sessions.{Session, session, first_session, AnswersLine, AnswersLines}
+use Rattle.l4_shell.specs.Sessions.{State, state, first_state, AnswersLine, AnswersLines}
 use Rattle.l4_record.specs.Seated.{Seated}
 use Rattle.l4_shell.specs.Scripts.{WasOpen, AnswersFirst, AddsOut, Runs}
 use Rattle.l4_shell.specs.Histories.{Records}
@@ -44,13 +45,13 @@ whole_front (line ∷ lines) more h none =
 -- ANSWERS
 
 -- the answer to one line more
-answers_more : (old between new : Session) (number : ℕ) (lines : List TextLine) (told : List Report) (line : TextLine) (last : List Report) → AnswersLines old number lines told between
-    → AnswersLine between (number + length lines) (asked_of between.machine.size line) last new → AnswersLines old number (lines ++ line ∷ []) (told ++ last) new
+answers_more : (old between new : State) (number : ℕ) (lines : List TextLine) (told : List Report) (line : TextLine) (last : List Report) → AnswersLines old number lines told between
+    → AnswersLine between (number + length lines) (asked_of between.session.machine.size between.names line) last new → AnswersLines old number (lines ++ line ∷ []) (told ++ last) new
 answers_more old between new number [] told line last are is = (
   last,
   [],
   new,
-  subst (λ (m : Session). AnswersLine m number (asked_of m.machine.size line) last new) are.1 (subst (λ (n : ℕ). AnswersLine between n (asked_of between.machine.size line) last new) (omega arith) is),
+  subst (λ (m : State). AnswersLine m number (asked_of m.session.machine.size m.names line) last new) are.1 (subst (λ (n : ℕ). AnswersLine between n (asked_of between.session.machine.size between.names line) last new) (omega arith) is),
   (refl, refl),
   ap (λ t. t ++ last) are.0 ∙ sym (append-nil last),
 )
@@ -60,26 +61,26 @@ answers_more old between new number (first ∷ lines) told line last are is =
       are.1 ++ last,
       are.2,
       are.3,
-      answers_more are.2 between new (number + 1) lines are.1 line last are.4 (subst (λ (k : ℕ). AnswersLine between k (asked_of between.machine.size line) last new) n is),
+      answers_more are.2 between new (number + 1) lines are.1 line last are.4 (subst (λ (k : ℕ). AnswersLine between k (asked_of between.session.machine.size between.names line) last new) n is),
       ap (λ t. t ++ last) are.5 ∙ append_assoc are.0 are.1 last,
     )
 
 -- what is kept of a line says what the line asks for
-asked_whole : (size : PageSize) (bytes : List ℕ) (kept : List ℕ × Bool) → kept ≡ kept_of bytes → kept.1 ≡ false → asked_at size Whole kept.0 ≡ asked_of size (record { bytes = bytes; whole = true })
-asked_whole size bytes kept is short =
+asked_whole : (size : PageSize) (names : Names) (bytes : List ℕ) (kept : List ℕ × Bool) → kept ≡ kept_of bytes → kept.1 ≡ false → asked_at size names Whole kept.0 ≡ asked_of size names (record { bytes = bytes; whole = true })
+asked_whole size names bytes kept is short =
     let f : nat_lt 4096 (length bytes) ≡ false = sym (ap (λ k. k.1) is) ∙ short in
     let le : length bytes ≤ 4096 = grind (arith, nat_tests) in
-    ap (asked_at size Whole) (ap (λ k. k.0) is ∙ take_all 4096 bytes le) ∙ sym (ap (λ v. asked_at size (cond v Long Whole) bytes) f)
+    ap (asked_at size names Whole) (ap (λ k. k.0) is ∙ take_all 4096 bytes le) ∙ sym (ap (λ v. asked_at size names (cond v Long Whole) bytes) f)
 
-asked_long : (size : PageSize) (bytes : List ℕ) (kept : List ℕ × Bool) → kept ≡ kept_of bytes → kept.1 ≡ true → asked_at size Long kept.0 ≡ asked_of size (record { bytes = bytes; whole = true })
-asked_long size bytes kept is long =
+asked_long : (size : PageSize) (names : Names) (bytes : List ℕ) (kept : List ℕ × Bool) → kept ≡ kept_of bytes → kept.1 ≡ true → asked_at size names Long kept.0 ≡ asked_of size names (record { bytes = bytes; whole = true })
+asked_long size names bytes kept is long =
     let t : nat_lt 4096 (length bytes) ≡ true = sym (ap (λ k. k.1) is) ∙ long in
-    sym (ap (λ v. asked_at size (cond v Long Whole) bytes) t)
+    sym (ap (λ v. asked_at size names (cond v Long Whole) bytes) t)
 
 -- THE LOOP
 
 -- the lines that were answered so far, before the one of this number
-pub record Answered {T : Type 0} (has_told : T → T → List Report → Type 0) (closed : T → Bool) (m : Session) (old new : Option (List ℕ)) (now : List ℕ × ℕ) (number : ℕ) (last : Session) (before after : T) : Type 0 where
+pub record Answered {T : Type 0} (has_told : T → T → List Report → Type 0) (closed : T → Bool) (m : State) (old new : Option (List ℕ)) (now : List ℕ × ℕ) (number : ℕ) (last : State) (before after : T) : Type 0 where
   pub read : List ℕ
   pub done : List ℕ
   pub from : Consumes old new read
@@ -95,7 +96,7 @@ pub record Answered {T : Type 0} (has_told : T → T → List Report → Type 0)
   pub bound : left_of now + number ≤ 68736253953
   pub few : now.1 ≤ 16777216
 
-pub answered_none : {T : Type 0} (has_told : T → T → List Report → Type 0) (closed : T → Bool) (m : Session) (a : Option (List ℕ)) (now : List ℕ × ℕ) (s : T) → now ≡ ([], 0) → Answered has_told closed m a a now 1 m s s
+pub answered_none : {T : Type 0} (has_told : T → T → List Report → Type 0) (closed : T → Bool) (m : State) (a : Option (List ℕ)) (now : List ℕ × ℕ) (s : T) → now ≡ ([], 0) → Answered has_told closed m a a now 1 m s s
 answered_none has_told closed m a now s is = record {
   read = [];
   done = [];
@@ -114,7 +115,7 @@ answered_none has_told closed m a now s is = record {
 }
 
 -- the line of this number was answered while the sink was open
-opened_before : {T : Type 0} (has_told : T → T → List Report → Type 0) (closed : T → Bool) (old next last : Session) (lines : List TextLine) (line : TextLine) (number : ℕ) (asked : Result (Option Request) Unread) (before s : T) (earlier told : List Report)
+opened_before : {T : Type 0} (has_told : T → T → List Report → Type 0) (closed : T → Bool) (old next last : State) (lines : List TextLine) (line : TextLine) (number : ℕ) (asked : Result (Option Request) Unread) (before s : T) (earlier told : List Report)
     → number ≡ 1 + length lines → AnswersLine last number asked told next → AddsAll has_told before s earlier → closed s ≡ false
     → WasOpen has_told closed before (length (lines ++ line ∷ [])) (earlier ++ told)
 opened_before has_told closed old next last lines line number asked before s earlier told number_is is adds opened =
@@ -123,10 +124,10 @@ opened_before has_told closed old next last lines line number asked before s ear
     (record { earlier = earlier; last = told; parts = refl; one = one_answer last number asked told next is; between = s; adds = adds; opened = opened })
 
 -- one whole line more
-answered_more : {T : Type 0} (has_told : T → T → List Report → Type 0) (closed : T → Bool) (m last next : Session) (old mid new : Option (List ℕ)) (now after : List ℕ × ℕ) (kept : List ℕ × Bool) (number : ℕ)
+answered_more : {T : Type 0} (has_told : T → T → List Report → Type 0) (closed : T → Bool) (m last next : State) (old mid new : Option (List ℕ)) (now after : List ℕ × ℕ) (kept : List ℕ × Bool) (number : ℕ)
     (before s t : T) (ending : Ending) → closed s ≡ false → Answered has_told closed m old mid now number last before s → (l : TakesLine mid new now after kept)
-    → asked_at last.machine.size ending kept.0 ≡ asked_of last.machine.size (record { bytes = l.bytes; whole = true })
-    → (told : List Report) × AnswersLine last number (asked_at last.machine.size ending kept.0) told next × AddsAll has_told s t told
+    → asked_at last.session.machine.size last.names ending kept.0 ≡ asked_of last.session.machine.size last.names (record { bytes = l.bytes; whole = true })
+    → (told : List Report) × AnswersLine last number (asked_at last.session.machine.size last.names ending kept.0) told next × AddsAll has_told s t told
     → Answered has_told closed m old new after (number + 1) next before t
 answered_more has_told closed m last next old mid new now after kept number before s t ending opened a l asks is =
     let line : TextLine = record { bytes = l.bytes; whole = true } in
@@ -143,15 +144,15 @@ answered_more has_told closed m last next old mid new now after kept number befo
       whole = All-push (λ (l : TextLine). l.whole ≡ true) a.lines line a.whole refl;
       told = a.told ++ is.0;
       answers = answers_more m last next 1 a.lines a.told line is.0 a.answers
-          (subst (λ (n : ℕ). AnswersLine last n (asked_of last.machine.size line) is.0 next) a.number_is (subst (λ (q : Result _ _). AnswersLine last number q is.0 next) asks is.1));
-      was_open = inr (opened_before has_told closed m next last a.lines line number (asked_at last.machine.size ending kept.0) before s a.told is.0 a.number_is is.1 a.adds opened);
+          (subst (λ (n : ℕ). AnswersLine last n (asked_of last.session.machine.size last.names line) is.0 next) a.number_is (subst (λ (q : Result _ _). AnswersLine last number q is.0 next) asks is.1));
+      was_open = inr (opened_before has_told closed m next last a.lines line number (asked_at last.session.machine.size last.names ending kept.0) before s a.told is.0 a.number_is is.1 a.adds opened);
       adds = adds_more has_told before s t _ _ a.adds is.2;
       bound = omega (arith, a.bound, l.shorter);
       few = l.few;
     }
 
 -- what was held back went out
-pub answered_sent : {T : Type 0} (has_told : T → T → List Report → Type 0) (closed : T → Bool) (m last : Session) (old new : Option (List ℕ)) (now : List ℕ × ℕ) (number : ℕ) (before s t : T)
+pub answered_sent : {T : Type 0} (has_told : T → T → List Report → Type 0) (closed : T → Bool) (m last : State) (old new : Option (List ℕ)) (now : List ℕ × ℕ) (number : ℕ) (before s t : T)
     → Answered has_told closed m old new now number last before s → Keeps has_told s t → Answered has_told closed m old new now number last before t
 answered_sent has_told closed m last old new now number before s t a sent = record {
   read = a.read;
@@ -171,7 +172,7 @@ answered_sent has_told closed m last old new now number before s t a sent = reco
 }
 
 -- the lines so far, as lines of what was read
-beginning_of : {T : Type 0} (has_told : T → T → List Report → Type 0) (closed : T → Bool) (m last : Session) (old new : Option (List ℕ)) (now : List ℕ × ℕ) (number : ℕ) (before after : T)
+beginning_of : {T : Type 0} (has_told : T → T → List Report → Type 0) (closed : T → Bool) (m last : State) (old new : Option (List ℕ)) (now : List ℕ × ℕ) (number : ℕ) (before after : T)
     → Answered has_told closed m old new now number last before after → TellsBeginning m last old new has_told closed before after
 beginning_of has_told closed m last old new now number before after a = record {
   read = a.read;
@@ -187,7 +188,7 @@ beginning_of has_told closed m last old new now number before after a = record {
 }
 
 -- the sink has closed
-pub answered_closed : {T : Type 0} (has_told : T → T → List Report → Type 0) (closed : T → Bool) (m last : Session) (old new : Option (List ℕ)) (now : List ℕ × ℕ) (number : ℕ) (before after : T)
+pub answered_closed : {T : Type 0} (has_told : T → T → List Report → Type 0) (closed : T → Bool) (m last : State) (old new : Option (List ℕ)) (now : List ℕ × ℕ) (number : ℕ) (before after : T)
     → Answered has_told closed m old new now number last before after → closed after ≡ true → TellsAll m last old new has_told closed before after (number - 1)
 unfolding beginning_of
 answered_closed has_told closed m last old new now number before after a over = record {
@@ -197,14 +198,14 @@ answered_closed has_told closed m last old new now number before after a over = 
 }
 
 -- all that was read and not taken has no newline
-same_rest : {T : Type 0} (has_told : T → T → List Report → Type 0) (closed : T → Bool) (m last : Session) (old mid new : Option (List ℕ)) (now after : List ℕ × ℕ) (kept : List ℕ × Bool) (number : ℕ) (before s : T)
+same_rest : {T : Type 0} (has_told : T → T → List Report → Type 0) (closed : T → Bool) (m last : State) (old mid new : Option (List ℕ)) (now after : List ℕ × ℕ) (kept : List ℕ × Bool) (number : ℕ) (before s : T)
     → (a : Answered has_told closed m old mid now number last before s) → (l : TakesRest mid new now after kept) → lines_of (a.read ++ l.takes.read) ≡ a.lines ++ lines_of l.bytes
 same_rest has_told closed m last old mid new now after kept number before s a l =
     ap lines_of (ap (λ x. x ++ l.takes.read) a.same ∙ append_assoc a.done now.0 l.takes.read
     ∙ ap (λ x. a.done ++ x) (l.takes.same ∙ ap (λ x. l.bytes ++ x) l.empty ∙ append-nil l.bytes)) ∙ a.front l.bytes
 
 -- reading failed
-pub answered_read : {T : Type 0} (has_told : T → T → List Report → Type 0) (closed : T → Bool) (m last : Session) (old mid new : Option (List ℕ)) (now after : List ℕ × ℕ) (kept : List ℕ × Bool) (number : ℕ) (before s : T)
+pub answered_read : {T : Type 0} (has_told : T → T → List Report → Type 0) (closed : T → Bool) (m last : State) (old mid new : Option (List ℕ)) (now after : List ℕ × ℕ) (kept : List ℕ × Bool) (number : ℕ) (before s : T)
     (e : RunFault) → Answered has_told closed m old mid now number last before s → GivesLine mid new now after kept (Err e) → TellsWhole m last old new has_told closed before s
 answered_read has_told closed m last old mid new now after kept number before s e a gives =
     let l = gives.0 in
@@ -233,7 +234,7 @@ pub something_kept : (bytes : List ℕ) → 0 < length (take 4096 bytes) → 0 <
 something_kept bytes h = omega (arith, h, length-take 4096 bytes)
 
 -- at the end no line is left
-pub answered_end : {T : Type 0} (has_told : T → T → List Report → Type 0) (closed : T → Bool) (m last : Session) (old mid new : Option (List ℕ)) (now after : List ℕ × ℕ) (kept : List ℕ × Bool) (number : ℕ) (before s : T)
+pub answered_end : {T : Type 0} (has_told : T → T → List Report → Type 0) (closed : T → Bool) (m last : State) (old mid new : Option (List ℕ)) (now after : List ℕ × ℕ) (kept : List ℕ × Bool) (number : ℕ) (before s : T)
     (r : Option Ending) → Answered has_told closed m old mid now number last before s → GivesLine mid new now after kept (Ok r) → r ≡ None
     → TellsAll m last old new has_told closed before s (number - 1)
 answered_end has_told closed m last old mid new now after kept number before s r a gives is =
@@ -260,21 +261,21 @@ answered_end has_told closed m last old mid new now after kept number before s r
     }
 
 -- after a line: all lines so far, or with a cut line all that there are
-abbrev pub AfterLine : Ending → {T : Type 0} → (T → T → List Report → Type 0) → (T → Bool) → Session → Option (List ℕ) → Option (List ℕ) → List ℕ × ℕ → ℕ → Session → T → T → Type 0
+abbrev pub AfterLine : Ending → {T : Type 0} → (T → T → List Report → Type 0) → (T → Bool) → State → Option (List ℕ) → Option (List ℕ) → List ℕ × ℕ → ℕ → State → T → T → Type 0
 AfterLine Whole has_told closed m old new now number last before after = Answered has_told closed m old new now (number + 1) last before after
 AfterLine Long has_told closed m old new now number last before after = Answered has_told closed m old new now (number + 1) last before after
 AfterLine Cut has_told closed m old new now number last before after = TellsAll m last old new has_told closed before after number
 
-pub after_line : {T : Type 0} (has_told : T → T → List Report → Type 0) (closed : T → Bool) (ending : Ending) (m last next : Session) (old mid new : Option (List ℕ)) (now after : List ℕ × ℕ) (kept : List ℕ × Bool) (number : ℕ)
+pub after_line : {T : Type 0} (has_told : T → T → List Report → Type 0) (closed : T → Bool) (ending : Ending) (m last next : State) (old mid new : Option (List ℕ)) (now after : List ℕ × ℕ) (kept : List ℕ × Bool) (number : ℕ)
     (before s t : T) (r : Option Ending) → closed s ≡ false → Answered has_told closed m old mid now number last before s → GivesLine mid new now after kept (Ok r) → r ≡ Some ending
-    → (told : List Report) × AnswersLine last number (asked_at last.machine.size ending kept.0) told next × AddsAll has_told s t told
+    → (told : List Report) × AnswersLine last number (asked_at last.session.machine.size last.names ending kept.0) told next × AddsAll has_told s t told
     → AfterLine ending has_told closed m old new after number next before t
 after_line has_told closed Whole m last next old mid new now after kept number before s t r opened a gives is told =
     let g = subst (λ (o : Option Ending). GivesLine mid new now after kept (Ok o)) is gives in
-    answered_more has_told closed m last next old mid new now after kept number before s t Whole opened a g.0 (asked_whole last.machine.size g.0.bytes kept g.0.kept_is g.1) told
+    answered_more has_told closed m last next old mid new now after kept number before s t Whole opened a g.0 (asked_whole last.session.machine.size last.names g.0.bytes kept g.0.kept_is g.1) told
 after_line has_told closed Long m last next old mid new now after kept number before s t r opened a gives is told =
     let g = subst (λ (o : Option Ending). GivesLine mid new now after kept (Ok o)) is gives in
-    answered_more has_told closed m last next old mid new now after kept number before s t Long opened a g.0 (asked_long last.machine.size g.0.bytes kept g.0.kept_is g.1) told
+    answered_more has_told closed m last next old mid new now after kept number before s t Long opened a g.0 (asked_long last.session.machine.size last.names g.0.bytes kept g.0.kept_is g.1) told
 after_line has_told closed Cut m last next old mid new now after kept number before s t r opened a gives is told =
     let g = subst (λ (o : Option Ending). GivesLine mid new now after kept (Ok o)) is gives in
     let l = g.0 in
@@ -291,8 +292,8 @@ after_line has_told closed Cut m last next old mid new now after kept number bef
         parts = all ∙ sym (append-nil (a.lines ++ line ∷ []));
         sure = inr g.1;
         told = a.told ++ told.0;
-        answers = answers_more m last next 1 a.lines a.told line told.0 a.answers (subst (λ (n : ℕ). AnswersLine last n (asked_of last.machine.size line) told.0 next) a.number_is told.1);
-        was_open = inr (opened_before has_told closed m next last a.lines line number (asked_at last.machine.size Cut kept.0) before s a.told told.0 a.number_is told.1 a.adds opened);
+        answers = answers_more m last next 1 a.lines a.told line told.0 a.answers (subst (λ (n : ℕ). AnswersLine last n (asked_of last.session.machine.size last.names line) told.0 next) a.number_is told.1);
+        was_open = inr (opened_before has_told closed m next last a.lines line number (asked_at last.session.machine.size last.names Cut kept.0) before s a.told told.0 a.number_is told.1 a.adds opened);
         adds = adds_more has_told before s t _ _ a.adds told.2;
       };
       number = omega (arith, a.number_is, length-append a.lines (line ∷ []));
@@ -300,14 +301,14 @@ after_line has_told closed Cut m last next old mid new now after kept number bef
     }
 
 -- the line was cut
-pub answered_cut : {T : Type 0} (has_told : T → T → List Report → Type 0) (closed : T → Bool) (ending : Ending) (m next : Session) (old new : Option (List ℕ)) (after : List ℕ × ℕ) (number : ℕ) (before t : T)
+pub answered_cut : {T : Type 0} (has_told : T → T → List Report → Type 0) (closed : T → Bool) (ending : Ending) (m next : State) (old new : Option (List ℕ)) (after : List ℕ × ℕ) (number : ℕ) (before t : T)
     → AfterLine ending has_told closed m old new after number next before t → true ≡ sameb the_type ending Cut → TellsAll m next old new has_told closed before t number
 answered_cut has_told closed Whole m next old new after number before t a cut = absurd (false≢true (sym cut))
 answered_cut has_told closed Long m next old new after number before t a cut = absurd (false≢true (sym cut))
 answered_cut has_told closed Cut m next old new after number before t a cut = a
 
 -- any other line goes on
-pub answered_on : {T : Type 0} (has_told : T → T → List Report → Type 0) (closed : T → Bool) (ending : Ending) (m next : Session) (old new : Option (List ℕ)) (after : List ℕ × ℕ) (number : ℕ) (before t : T)
+pub answered_on : {T : Type 0} (has_told : T → T → List Report → Type 0) (closed : T → Bool) (ending : Ending) (m next : State) (old new : Option (List ℕ)) (after : List ℕ × ℕ) (number : ℕ) (before t : T)
     → AfterLine ending has_told closed m old new after number next before t → false ≡ sameb the_type ending Cut → Answered has_told closed m old new after (number + 1) next before t
 answered_on has_told closed Whole m next old new after number before t a cut = a
 answered_on has_told closed Long m next old new after number before t a cut = a
@@ -315,16 +316,16 @@ answered_on has_told closed Cut m next old new after number before t a cut = abs
 
 -- THE RUN
 
--- the session at the start
-pub first_is : (frames : ℕ) (size : PageSize) (kernel : Seated) (sv : Servers) → HasFirstSeats frames size kernel → sv ≡ no_servers size frames → session kernel sv ≡ first_session frames kernel.machine
-first_is frames size kernel sv has none =
+-- the state at the start
+pub first_is : (frames : ℕ) (size : PageSize) (kernel : Seated) (sv : Servers) (names : Names) → HasFirstSeats frames size kernel → sv ≡ no_servers size frames → names ≡ [] → state kernel sv names ≡ first_state frames kernel.machine
+first_is frames size kernel sv names has none no_names =
     let same : sv ≡ no_servers kernel.machine.size frames = none ∙ ap (λ (z : PageSize). no_servers z frames) (sym has.4) in
-    λ i. record { machine = kernel.machine; servers = same i; history = has.1 i; numbers = has.2 i; seen = has.3 i }
+    λ i. record { session = record { machine = kernel.machine; servers = same i; history = has.1 i; numbers = has.2 i; seen = has.3 i }; names = no_names i }
 
 -- the lines that were answered, of a script
-first_answers : {T : Type 0} (has_told : T → T → List Report → Type 0) (closed : T → Bool) (frames : ℕ) (size : PageSize) (m : Seated) (sv : Servers) (last : Session) (old new : Option (List ℕ)) (before after : T) → IsBoot frames m.machine → m.machine.size ≡ size
-    → session m sv ≡ first_session frames m.machine → (t : TellsBeginning (session m sv) last old new has_told closed before after) → AnswersFirst frames size old new has_told closed before
-first_answers has_told closed frames size m sv last old new before after boots sized none t = record {
+first_answers : {T : Type 0} (has_told : T → T → List Report → Type 0) (closed : T → Bool) (frames : ℕ) (size : PageSize) (m : Seated) (sv : Servers) (ns : Names) (last : State) (old new : Option (List ℕ)) (before after : T) → IsBoot frames m.machine → m.machine.size ≡ size
+    → state m sv ns ≡ first_state frames m.machine → (t : TellsBeginning (state m sv ns) last old new has_told closed before after) → AnswersFirst frames size old new has_told closed before
+first_answers has_told closed frames size m sv ns last old new before after boots sized none t = record {
   read = t.read;
   «from» = t.from;
   lines = t.lines;
@@ -332,7 +333,7 @@ first_answers has_told closed frames size m sv last old new before after boots s
   parts = t.parts;
   sure = t.sure;
   told = t.told;
-  is_answered = record { boot = m.machine; boots = boots; sized = sized; last = last; answers = subst (λ (x : Session). AnswersLines x 1 t.lines t.told last) none t.answers };
+  is_answered = record { boot = m.machine; boots = boots; sized = sized; last = last; answers = subst (λ (x : State). AnswersLines x 1 t.lines t.told last) none t.answers };
   was_open = t.was_open;
 }
 
@@ -342,26 +343,26 @@ adds_out : {T : Type 0} (has_told is_out : T → T → List Report → Type 0) (
 adds_out has_told is_out before after sent told adds out first earlier h = out first (earlier ++ told) (adds first earlier h)
 
 -- all that was told went out
-pub runs_on : {T : Type 0} (has_told is_out : T → T → List Report → Type 0) (closed : T → Bool) (frames : ℕ) (size : PageSize) (m : Seated) (sv : Servers) (last : Session) (old new : Option (List ℕ)) (before after sent : T) (result : Result ℕ RunFault) → IsBoot frames m.machine → m.machine.size ≡ size
-    → session m sv ≡ first_session frames m.machine → TellsScript (session m sv) last old new has_told closed before after result
+pub runs_on : {T : Type 0} (has_told is_out : T → T → List Report → Type 0) (closed : T → Bool) (frames : ℕ) (size : PageSize) (m : Seated) (sv : Servers) (ns : Names) (last : State) (old new : Option (List ℕ)) (before after sent : T) (result : Result ℕ RunFault) → IsBoot frames m.machine → m.machine.size ≡ size
+    → state m sv ns ≡ first_state frames m.machine → TellsScript (state m sv ns) last old new has_told closed before after result
     → AllOut has_told is_out after sent → closed sent ≡ closed after → Runs frames size old new has_told is_out closed before sent result
 unfolding first_answers
-runs_on has_told is_out closed frames size m sv last old new before after sent (Ok count) boots sized none t out same = (
-  first_answers has_told closed frames size m sv last old new before after boots sized none t.some,
+runs_on has_told is_out closed frames size m sv ns last old new before after sent (Ok count) boots sized none t out same = (
+  first_answers has_told closed frames size m sv ns last old new before after boots sized none t.some,
   t.number,
   adds_out has_told is_out before after sent t.some.told t.some.adds out,
   elim t.end [ inl ended ↦ inl ended | inr over ↦ inr (same ∙ over) ],
 )
-runs_on has_told is_out closed frames size m sv last old new before after sent (Err Read) boots sized none t out same = (
-  first_answers has_told closed frames size m sv last old new before after boots sized none t.some,
+runs_on has_told is_out closed frames size m sv ns last old new before after sent (Err Read) boots sized none t out same = (
+  first_answers has_told closed frames size m sv ns last old new before after boots sized none t.some,
   t.whole,
   adds_out has_told is_out before after sent t.some.told t.some.adds out,
 )
-runs_on has_told is_out closed frames size m sv last old new before after sent (Err Write) boots sized none t out same = absurd t
-runs_on has_told is_out closed frames size m sv last old new before after sent (Err Memory) boots sized none t out same = absurd t
+runs_on has_told is_out closed frames size m sv ns last old new before after sent (Err Write) boots sized none t out same = absurd t
+runs_on has_told is_out closed frames size m sv ns last old new before after sent (Err Memory) boots sized none t out same = absurd t
 
 -- the lines that were answered, whatever then came
-some_told : {T : Type 0} (has_told : T → T → List Report → Type 0) (closed : T → Bool) (m last : Session) (old new : Option (List ℕ)) (before after : T) (result : Result ℕ RunFault) → TellsScript m last old new has_told closed before after result
+some_told : {T : Type 0} (has_told : T → T → List Report → Type 0) (closed : T → Bool) (m last : State) (old new : Option (List ℕ)) (before after : T) (result : Result ℕ RunFault) → TellsScript m last old new has_told closed before after result
     → TellsBeginning m last old new has_told closed before after
 some_told has_told closed m last old new before after (Ok count) t = t.some
 some_told has_told closed m last old new before after (Err Read) t = t.some
@@ -369,33 +370,33 @@ some_told has_told closed m last old new before after (Err Write) t = absurd t
 some_told has_told closed m last old new before after (Err Memory) t = absurd t
 
 -- a write failed
-pub runs_not : {T : Type 0} (has_told is_out : T → T → List Report → Type 0) (closed : T → Bool) (frames : ℕ) (size : PageSize) (m : Seated) (sv : Servers) (last : Session) (old new : Option (List ℕ)) (before after sent : T) (result : Result ℕ RunFault) → IsBoot frames m.machine → m.machine.size ≡ size
-    → session m sv ≡ first_session frames m.machine → TellsScript (session m sv) last old new has_told closed before after result
+pub runs_not : {T : Type 0} (has_told is_out : T → T → List Report → Type 0) (closed : T → Bool) (frames : ℕ) (size : PageSize) (m : Seated) (sv : Servers) (ns : Names) (last : State) (old new : Option (List ℕ)) (before after sent : T) (result : Result ℕ RunFault) → IsBoot frames m.machine → m.machine.size ≡ size
+    → state m sv ns ≡ first_state frames m.machine → TellsScript (state m sv ns) last old new has_told closed before after result
     → Keeps has_told after sent → Runs frames size old new has_told is_out closed before sent (Err Write)
 unfolding first_answers some_told
-runs_not has_told is_out closed frames size m sv last old new before after sent result boots sized none tells kept =
-    let t = some_told has_told closed (session m sv) last old new before after result tells in
-    (first_answers has_told closed frames size m sv last old new before after boots sized none t, adds_kept has_told before after sent t.told t.adds kept)
+runs_not has_told is_out closed frames size m sv ns last old new before after sent result boots sized none tells kept =
+    let t = some_told has_told closed (state m sv ns) last old new before after result tells in
+    (first_answers has_told closed frames size m sv ns last old new before after boots sized none t, adds_kept has_told before after sent t.told t.adds kept)
 
 -- the history is wanted
-pub records_on : {T : Type 0} (has_told : T → T → List Report → Type 0) (closed : T → Bool) (frames : ℕ) (size : PageSize) (m k : Seated) (sv sv' : Servers) (old new : Option (List ℕ)) (before after : T) (result : Result ℕ RunFault) (history : List Entry) → IsBoot frames m.machine → m.machine.size ≡ size
-    → session m sv ≡ first_session frames m.machine → TellsScript (session m sv) (session k sv') old new has_told closed before after result → history ≡ k.history
+pub records_on : {T : Type 0} (has_told : T → T → List Report → Type 0) (closed : T → Bool) (frames : ℕ) (size : PageSize) (m k : Seated) (sv sv' : Servers) (ns ns' : Names) (old new : Option (List ℕ)) (before after : T) (result : Result ℕ RunFault) (history : List Entry) → IsBoot frames m.machine → m.machine.size ≡ size
+    → state m sv ns ≡ first_state frames m.machine → TellsScript (state m sv ns) (state k sv' ns') old new has_told closed before after result → history ≡ k.history
     → Records frames size old new has_told closed before after history result
 unfolding first_answers
-records_on has_told closed frames size m k sv sv' old new before after (Ok count) history boots sized none t is = (
-  record { first = first_answers has_told closed frames size m sv (session k sv') old new before after boots sized none t.some; adds = t.some.adds; is_history = is },
+records_on has_told closed frames size m k sv sv' ns ns' old new before after (Ok count) history boots sized none t is = (
+  record { first = first_answers has_told closed frames size m sv ns (state k sv' ns') old new before after boots sized none t.some; adds = t.some.adds; is_history = is },
   t.number,
   t.end,
 )
-records_on has_told closed frames size m k sv sv' old new before after (Err Read) history boots sized none t is = (
-  record { first = first_answers has_told closed frames size m sv (session k sv') old new before after boots sized none t.some; adds = t.some.adds; is_history = is },
+records_on has_told closed frames size m k sv sv' ns ns' old new before after (Err Read) history boots sized none t is = (
+  record { first = first_answers has_told closed frames size m sv ns (state k sv' ns') old new before after boots sized none t.some; adds = t.some.adds; is_history = is },
   t.whole,
 )
-records_on has_told closed frames size m k sv sv' old new before after (Err Write) history boots sized none t is = absurd t
-records_on has_told closed frames size m k sv sv' old new before after (Err Memory) history boots sized none t is = absurd t
+records_on has_told closed frames size m k sv sv' ns ns' old new before after (Err Write) history boots sized none t is = absurd t
+records_on has_told closed frames size m k sv sv' ns ns' old new before after (Err Memory) history boots sized none t is = absurd t
 
 -- the bytes of the line are those that were kept
-pub same_bytes : {T : Type 0} (has_told : T → T → List Report → Type 0) (last next : Session) (number : ℕ) (ending : Ending) (bytes kept : List ℕ) (s t : T) → bytes ≡ kept
-    → (told : List Report) × AnswersLine last number (asked_at last.machine.size ending bytes) told next × AddsAll has_told s t told
-    → (told : List Report) × AnswersLine last number (asked_at last.machine.size ending kept) told next × AddsAll has_told s t told
-same_bytes has_told last next number ending bytes kept s t is h = (h.0, subst (λ (b : List ℕ). AnswersLine last number (asked_at last.machine.size ending b) h.0 next) is h.1, h.2)
+pub same_bytes : {T : Type 0} (has_told : T → T → List Report → Type 0) (last next : State) (number : ℕ) (ending : Ending) (bytes kept : List ℕ) (s t : T) → bytes ≡ kept
+    → (told : List Report) × AnswersLine last number (asked_at last.session.machine.size last.names ending bytes) told next × AddsAll has_told s t told
+    → (told : List Report) × AnswersLine last number (asked_at last.session.machine.size last.names ending kept) told next × AddsAll has_told s t told
+same_bytes has_told last next number ending bytes kept s t is h = (h.0, subst (λ (b : List ℕ). AnswersLine last number (asked_at last.session.machine.size last.names ending b) h.0 next) is h.1, h.2)

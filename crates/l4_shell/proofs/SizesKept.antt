@@ -19,14 +19,15 @@ use Rattle.l4_pager.specs.declared.regions.Entry.{Entry}
 use Rattle.l4_servers.specs.Servers.{Servers, servers, regions_of, with_region, with_served, without, RegionFails}
 use Rattle.l4_servers.specs.Acting.{Answers, ActsNext}
 use Rattle.l4_shell.specs.declared.requests.Request.{Request}
-use Rattle.l4_shell.specs.declared.requests.Request.TheVariants.{Enter, CreateThread, EndThread, SendPlan, ListPages, TellParent, AddRegion, ServeThread, TellSteps}
+use Rattle.l4_shell.specs.declared.requests.Request.TheVariants.{Enter, CreateThread, EndThread, SendPlan, ListPages, TellParent, AddRegion, ServeThread, GiveName, TellSteps}
 use Rattle.l4_answers.specs.Reports.{Report}
+use Rattle.l4_names.specs.Names.{Names}
 use Rattle.l4_text.specs.Grammar.{TextLine}
 use Rattle.l4_shell.specs.Requests.{Unread, asked_of}
 use Rattle.l4_shell.specs.Calls.{root, delete_call}
 use Rattle.l4_record.specs.Seated.{with_number}
 use Rattle.l4_shell.specs.Refusals.{region_refusal}
-use Rattle.l4_shell.specs.Sessions.{Session, first_session, Act, IsEntered, after_act, AreActs, StopsActing, Follows, RefusesFor, Enters, RegionAdded, CarriesOut, AnswersLine, AnswersLines}
+use Rattle.l4_shell.specs.Sessions.{Session, State, first_session, Act, IsEntered, after_act, AreActs, StopsActing, Follows, RefusesFor, Enters, RegionAdded, CarriesOut, AnswersLine, AnswersLines}
 use Rattle.l4_shell.specs.Sizes.{GoBy, HasSize}
 
 -- STEPS
@@ -133,38 +134,42 @@ adds_size size old line thread entry (Some space) told refused new a h = elim a 
 
 -- LINES
 
-carries_size : (size : PageSize) (old : Session) (line : ℕ) (request : Request) (told : List Report) (new : Session) → CarriesOut old line request told new → HasSize size old → HasSize size new
-carries_size size old line (Enter thread call) told new c h = enters_size size old line thread call old.servers told new c h h.servers
-carries_size size old line (CreateThread number call) told new c h = elim c [
+carries_size : (size : PageSize) (names : Names) (old : Session) (line : ℕ) (request : Request) (told : List Report) (new : Session) → CarriesOut names old line request told new → HasSize size old → HasSize size new
+carries_size size names old line (Enter thread call) told new c h = enters_size size old line thread call old.servers told new c h h.servers
+carries_size size names old line (CreateThread number call) told new c h = elim c [
   | inl e ↦ enters_size size (record old { numbers = with_number old.numbers number }) line root call old.servers told new e (record { machine = h.machine; servers = h.servers }) h.servers
   | inr lacks ↦ same_size size old new lacks.1.1 h
 ]
-carries_size size old line (EndThread thread) told new c h = enters_size size old line root (delete_call thread) (without old.servers thread) told new c h (without_goes size old.servers thread h.servers)
-carries_size size old line (SendPlan thread to which region) told new c h = elim c [
+carries_size size names old line (EndThread thread) told new c h = enters_size size old line root (delete_call thread) (without old.servers thread) told new c h (without_goes size old.servers thread h.servers)
+carries_size size names old line (SendPlan thread to which region) told new c h = elim c [
   | inl sends ↦ enters_size size old line thread _ old.servers told new sends.2 h h.servers
   | inr none ↦ same_size size old new none.2.1 h
 ]
-carries_size size old line (ListPages thread first count) told new c h = same_size size old new c.1 h
-carries_size size old line (TellParent thread page) told new c h = same_size size old new c.1 h
-carries_size size old line (AddRegion thread entry) told new c h = adds_size size old line thread entry (space_of old.machine.threads thread) told _ new c h
-carries_size size old line (ServeThread thread) told new c h = elim c [
+carries_size size names old line (ListPages thread first count) told new c h = same_size size old new c.1 h
+carries_size size names old line (TellParent thread page) told new c h = same_size size old new c.1 h
+carries_size size names old line (AddRegion thread entry) told new c h = adds_size size old line thread entry (space_of old.machine.threads thread) told _ new c h
+carries_size size names old line (ServeThread thread) told new c h = elim c [
   | inl f ↦ follows_size size old thread waiting (with_served old.servers thread) told new f h (served_goes size old.servers thread h.servers)
   | inr not ↦ elim not [
     | inl r ↦ same_size size old new r.2.1 h
     | inr lacks ↦ same_size size old new lacks.lacks.1 h
   ]
 ]
-carries_size size old line TellSteps told new c h = subst (HasSize size) (sym c.4) (record { machine = h.machine; servers = h.servers })
+carries_size size names old line (GiveName name thread) told new c h = same_size size old new c.1 h
+carries_size size names old line TellSteps told new c h = subst (HasSize size) (sym c.4) (record { machine = h.machine; servers = h.servers })
 
-line_size : (size : PageSize) (old : Session) (line : ℕ) (asked : Result (Option Request) Unread) (told : List Report) (new : Session) → AnswersLine old line asked told new → HasSize size old → HasSize size new
-line_size size old line (Ok None) told new a h = same_size size old new a.1 h
-line_size size old line (Ok (Some request)) told new a h = carries_size size old line request told new a h
-line_size size old line (Err unread) told new a h = same_size size old new a.1 h
+same_state_size : (size : PageSize) (old new : State) → new ≡ old → HasSize size old.session → HasSize size new.session
+same_state_size size old new is h = subst (λ (s : State). HasSize size s.session) (sym is) h
 
-pub lines_sized : (size : PageSize) (old : Session) (number : ℕ) (lines : List TextLine) (told : List Report) (new : Session) → AnswersLines old number lines told new → HasSize size old → HasSize size new
-lines_sized size old number [] told new a h = same_size size old new a.1 h
+line_size : (size : PageSize) (old : State) (line : ℕ) (asked : Result (Option Request) Unread) (told : List Report) (new : State) → AnswersLine old line asked told new → HasSize size old.session → HasSize size new.session
+line_size size old line (Ok None) told new a h = same_state_size size old new a.1 h
+line_size size old line (Ok (Some request)) told new a h = carries_size size old.names old.session line request told new.session a.0 h
+line_size size old line (Err unread) told new a h = same_state_size size old new a.1 h
+
+pub lines_sized : (size : PageSize) (old : State) (number : ℕ) (lines : List TextLine) (told : List Report) (new : State) → AnswersLines old number lines told new → HasSize size old.session → HasSize size new.session
+lines_sized size old number [] told new a h = same_state_size size old new a.1 h
 lines_sized size old number (line ∷ lines) told new a h =
-    lines_sized size a.2 (number + 1) lines a.1 new a.4 (line_size size old number (asked_of old.machine.size line) a.0 a.2 a.3 h)
+    lines_sized size a.2 (number + 1) lines a.1 new a.4 (line_size size old number (asked_of old.session.machine.size old.names line) a.0 a.2 a.3 h)
 
 pub first_sized : (frames : ℕ) (boot : Machine) → HasSize boot.size (first_session frames boot)
 first_sized frames boot = record {

@@ -13,7 +13,7 @@ use Rattle.l4_text.specs.declared.faults.RunFault.TheVariants.{Read, Write, Memo
 pub record HasHistory {T : Type 0} (frames : ℕ) (size : PageSize) (old new : Option (List ℕ)) (has_told : T → T → List Report → Type 0) (closed : T → Bool) (before after : T) (history : List Entry) : Type 0 where
   pub first : AnswersFirst frames size old new has_told closed before
   pub adds : AddsAll has_told before after first.told
-  pub is_history : history ≡ first.is_answered.last.history
+  pub is_history : history ≡ first.is_answered.last.session.history
 
 -- A script was executed, and this is its history: of all lines, and also a last line that is cut, or of those before the sink closed; or only of
 -- whole lines if a read failed.

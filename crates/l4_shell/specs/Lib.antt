@@ -3,6 +3,7 @@ pub mod Commands
 pub mod Delegations
 pub mod Histories
 pub mod Kinds
+pub mod NameLaws
 pub mod Refusals
 pub mod Requests
 pub mod Scripts

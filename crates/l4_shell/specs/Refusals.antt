@@ -28,6 +28,10 @@ plan_refusal (TooLong pages) = plainly (codes "N4")
 plan_refusal (Several messages) = at_place (codes "N5") messages
 plan_refusal (NoPart messages) = at_place (codes "N6") messages
 
+-- a name is one more than a script can have
+abbrev pub too_many_names : Refusal
+too_many_names = plainly (codes "S5")
+
 -- an allocation failed
 abbrev pub lacks_memory : Refusal
 lacks_memory = plainly (codes "NoMemory")

@@ -1,5 +1,5 @@
 -- The answers to a line's call and to the steps that follow it, and to the lines of a script, as reports (this profile's own).
-use Rattle.std.specs.Prelude.{◌≡◌, ℕ, ◌+◌, ◌^◌, ◌<◌, ◌≤◌, ◌⊎◌, ◌↔◌, Bool, false, List, [], ◌∷◌, ◌++◌, length, map, Contains, Option, Some, None, Result, Ok, Err, MatchOption, if◌then◌else◌}
+use Rattle.std.specs.Prelude.{◌≡◌, ℕ, ◌+◌, ◌^◌, ◌<◌, ◌≤◌, ◌⊎◌, ◌↔◌, Bool, false, List, [], ◌∷◌, ◌++◌, length, map, Contains, Option, Some, None, is_some, Result, Ok, Err, MatchOption, if◌then◌else◌}
 use Rattle.std.specs.Option.{option_map_or}
 use Rattle.std.specs.List.{flat_map, AllPairs}
 use Rattle.l4_fpage.specs.Pages.{space_pages}
@@ -20,10 +20,11 @@ use Rattle.l4_record.specs.declared.entries.Entry.{Entry as HistoryEntry}
 use Rattle.l4_record.specs.declared.refusals.RecordRefusal.{RecordRefusal}
 use Rattle.l4_record.specs.Seated.{Seated, is_among, with_number, CanEnter, MayEnter, Refuses as RefusesCall}
 use Rattle.l4_shell.specs.declared.requests.Request.{Request}
-use Rattle.l4_shell.specs.declared.requests.Request.TheVariants.{Enter, CreateThread, EndThread, SendPlan, ListPages, TellParent, AddRegion, ServeThread, TellSteps}
-use Rattle.l4_answers.specs.Reports.{Report, RefusedLine, UnreadLine, RefusedAct, Transferred, TimedOut, Waits, Ended, Page, Shown, Parent, AddedRegion, StepCount, AddsAll}
+use Rattle.l4_shell.specs.declared.requests.Request.TheVariants.{Enter, CreateThread, EndThread, SendPlan, ListPages, TellParent, AddRegion, ServeThread, GiveName, TellSteps}
+use Rattle.l4_answers.specs.Reports.{Report, RefusedLine, UnreadLine, RefusedAct, Transferred, TimedOut, Waits, Ended, Page, Shown, Parent, AddedRegion, Named, StepCount, AddsAll}
 use Rattle.l4_answers.specs.Refusals.{Refusal, kernel_refusal}
-use Rattle.l4_shell.specs.Refusals.{script_refusal, plan_refusal, lacks_memory, call_refusal, region_refusal}
+use Rattle.l4_shell.specs.Refusals.{script_refusal, plan_refusal, too_many_names, lacks_memory, call_refusal, region_refusal}
+use Rattle.l4_names.specs.Names.{Names, given, after_giving}
 use Rattle.l4_text.specs.Grammar.{TextLine}
 use Rattle.l4_shell.specs.Requests.{Unread, asked_of}
 use Rattle.l4_shell.specs.Calls.{root, send_call, delete_call}
@@ -257,37 +258,63 @@ parent_answer m line thread page =
 abbrev pub TellsCount : Session → List Report → Session → Type 0
 TellsCount old told new = (count : ℕ) × (old.seen ≤ count) × (count < 2 ^ 64) × (told ≡ StepCount count ∷ []) × (new ≡ record old { seen = count })
 
+-- NAMES
+
+-- the report of a line that gives a name to a thread, where threads have these names: it is refused if there are too many
+abbrev pub naming_report : Names → ℕ → List ℕ → ℕ → Report
+naming_report names line name number = if is_some (given names name number) then Named number else RefusedLine line too_many_names
+
+-- the names after a line that requests this
+abbrev pub names_after : Names → Request → Names
+names_after names (GiveName name number) = after_giving names name number
+names_after names request = names
+
 -- LINES
 
--- the request of a line was executed, with these reports
-abbrev pub CarriesOut : Session → ℕ → Request → List Report → Session → Type 0
-CarriesOut old line (Enter thread call) told new = Enters old line thread call old.servers told new
-CarriesOut old line (CreateThread number call) told new = Creates old line number call told new
-CarriesOut old line (EndThread thread) told new = Enters old line root (delete_call thread) (without old.servers thread) told new
-CarriesOut old line (SendPlan thread to which region) told new = Delegates old line thread to which region told new
-CarriesOut old line (ListPages thread first count) told new = Shows old.machine line thread first count told × (new ≡ old)
-CarriesOut old line (TellParent thread page) told new = (told ≡ parent_answer old.machine line thread page ∷ []) × (new ≡ old)
-CarriesOut old line (AddRegion thread entry) told new = AddsRegion old line thread entry told new
-CarriesOut old line (ServeThread thread) told new = ServesThread old line thread told new
-CarriesOut old line TellSteps told new = TellsCount old told new
+-- the request of a line was executed where threads have these names, with these reports
+abbrev pub CarriesOut : Names → Session → ℕ → Request → List Report → Session → Type 0
+CarriesOut names old line (Enter thread call) told new = Enters old line thread call old.servers told new
+CarriesOut names old line (CreateThread number call) told new = Creates old line number call told new
+CarriesOut names old line (EndThread thread) told new = Enters old line root (delete_call thread) (without old.servers thread) told new
+CarriesOut names old line (SendPlan thread to which region) told new = Delegates old line thread to which region told new
+CarriesOut names old line (ListPages thread first count) told new = Shows old.machine line thread first count told × (new ≡ old)
+CarriesOut names old line (TellParent thread page) told new = (told ≡ parent_answer old.machine line thread page ∷ []) × (new ≡ old)
+CarriesOut names old line (AddRegion thread entry) told new = AddsRegion old line thread entry told new
+CarriesOut names old line (ServeThread thread) told new = ServesThread old line thread told new
+CarriesOut names old line (GiveName name thread) told new = (told ≡ naming_report names line name thread ∷ []) × (new ≡ old)
+CarriesOut names old line TellSteps told new = TellsCount old told new
+
+-- the state of a script between two lines: its session, and the names of its threads
+pub record State : Type 0 where
+  pub session : Session
+  pub names : Names
+
+-- the state with this kernel, its seats, these servers and these names
+abbrev pub state : Seated → Servers → Names → State
+state kernel servers names = record { session = session kernel servers; names = names }
+
+-- at the start, no thread has a name
+abbrev pub first_state : ℕ → Machine → State
+first_state frames boot = record { session = first_session frames boot; names = [] }
 
 -- the answer to a line of this number that asks for this
-abbrev pub AnswersLine : Session → ℕ → Result (Option Request) Unread → List Report → Session → Type 0
+abbrev pub AnswersLine : State → ℕ → Result (Option Request) Unread → List Report → State → Type 0
 AnswersLine old line (Ok None) told new = (told ≡ []) × (new ≡ old)
-AnswersLine old line (Ok (Some request)) told new = CarriesOut old line request told new
-AnswersLine old line (Err unread) told new = (told ≡ UnreadLine old.machine.size line (script_refusal unread.fault) unread.bytes ∷ []) × (new ≡ old)
+AnswersLine old line (Ok (Some request)) told new = CarriesOut old.names old.session line request told new.session × (new.names ≡ names_after old.names request)
+AnswersLine old line (Err unread) told new =
+    (told ≡ UnreadLine old.session.machine.size old.names line (script_refusal unread.fault) unread.bytes ∷ []) × (new ≡ old)
 
 -- the reports of lines, one after another, of which the first has this number
-abbrev pub AnswersLines : Session → ℕ → List TextLine → List Report → Session → Type 0
+abbrev pub AnswersLines : State → ℕ → List TextLine → List Report → State → Type 0
 AnswersLines old number [] told new = (told ≡ []) × (new ≡ old)
 AnswersLines old number (line ∷ lines) told new =
-    (first : List Report) × (rest : List Report) × (between : Session) × AnswersLine old number (asked_of old.machine.size line) first between
+    (first : List Report) × (rest : List Report) × (between : State) × AnswersLine old number (asked_of old.session.machine.size old.names line) first between
     × AnswersLines between (number + 1) lines rest new × (told ≡ first ++ rest)
 
--- THE ANSWERS TO A SCRIPT'S LINES, over a machine at boot with this number of frames of this size, and without servers
+-- THE ANSWERS TO A SCRIPT'S LINES, over a machine at boot with this number of frames of this size, and without servers or names
 pub record IsAnswered (frames : ℕ) (size : PageSize) (lines : List TextLine) (told : List Report) : Type 0 where
   pub boot : Machine
   pub boots : IsBoot frames boot
   pub sized : boot.size ≡ size
-  pub last : Session
-  pub answers : AnswersLines (first_session frames boot) 1 lines told last
+  pub last : State
+  pub answers : AnswersLines (first_state frames boot) 1 lines told last

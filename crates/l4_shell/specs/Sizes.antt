@@ -5,7 +5,7 @@ use Rattle.l4_ipc.specs.Machine.{Machine}
 use Rattle.l4_servers.specs.Servers.{Servers, regions_of}
 use Rattle.l4_answers.specs.Reports.{Report}
 use Rattle.l4_text.specs.Grammar.{TextLine}
-use Rattle.l4_shell.specs.Sessions.{Session, first_session, AnswersLines}
+use Rattle.l4_shell.specs.Sessions.{Session, State, first_session, AnswersLines}
 
 -- sigma0's table and each thread's table of regions use this page size
 pub record GoBy (size : PageSize) (s : Servers) : Type 0 where
@@ -21,5 +21,5 @@ pub record HasSize (size : PageSize) (s : Session) : Type 0 where
 abbrev pub SizeStays : Type 0
 SizeStays =
     ((frames : ℕ) (boot : Machine) → HasSize boot.size (first_session frames boot))
-    × ((size : PageSize) (old : Session) (number : ℕ) (lines : List TextLine) (told : List Report) (new : Session)
-    → AnswersLines old number lines told new → HasSize size old → HasSize size new)
+    × ((size : PageSize) (old : State) (number : ℕ) (lines : List TextLine) (told : List Report) (new : State)
+    → AnswersLines old number lines told new → HasSize size old.session → HasSize size new.session)

@@ -11,7 +11,7 @@ ghost use Rattle.l4_shell.specs.Commands.{command_of};
 ghost use Rattle.l4_text.specs.Grammar.{is_comment};
 ghost use Rattle.l4_shell.specs.Requests.{some_request, asked_at};
 ghost use Rattle.l4_shell.specs.Inside.Asking.{asked};
-ghost use Rattle.l4_shell.specs.Sessions.{session, AnswersLine};
+ghost use Rattle.l4_shell.specs.Sessions.{state, AnswersLine};
 
 use crate::commands::{
     ScriptFault, command_name, fault_parts, ipc_parts, is_fault, is_ipc, is_recv, is_send,
@@ -24,6 +24,7 @@ use crate::session::Session;
 use l4_answers::Sink;
 use l4_fpage::PageSize;
 use l4_ipc::Call;
+use l4_names::Names;
 use l4_record::{History, SeatedKernel};
 use l4_servers::Servers;
 use l4_text::Ending;
@@ -31,24 +32,24 @@ use l4_text::Ending;
 /// Writes the call of a `recv` line into the buffer, and returns its thread. Returns None if the tokens cannot be read; the content of the
 /// buffer is then unspecified.
 #[inline(always)]
-fn read_receive(line: &[u8], size: PageSize, call: &mut Call) -> Option<u32>
+fn read_receive(line: &[u8], size: PageSize, names: &Names, call: &mut Call) -> Option<u32>
     ensures { option_map (λ n. Enter n call.new) result
-        ≡ asked size (codes "recv") (tokens_of line.now) }
+        ≡ asked size names.now (codes "recv") (tokens_of line.now) }
 {
-    let (number, from, window) = receive_parts(line, size)?;
+    let (number, from, window) = receive_parts(line, size, names)?;
     make_receive(call, from, window);
     Some(number)
 }
 
 /// Writes the call of a `send` line, with its words, into the buffer, as `read_receive` does.
 #[inline(always)]
-fn read_send(line: &[u8], size: PageSize, call: &mut Call) -> Option<u32>
+fn read_send(line: &[u8], size: PageSize, names: &Names, call: &mut Call) -> Option<u32>
     ensures { option_map (λ n. Enter n call.new) result
-        ≡ asked size (codes "send") (tokens_of line.now) }
+        ≡ asked size names.now (codes "send") (tokens_of line.now) }
 {
     make_ipc(call);
     if let Call::Ipc(exchange) = call {
-        let (number, to) = send_parts(line, size, &mut exchange.words)?;
+        let (number, to) = send_parts(line, size, names, &mut exchange.words)?;
         set_parts(exchange, to, Partner::Nil, 0, 0);
         return Some(number);
     }
@@ -57,13 +58,18 @@ fn read_send(line: &[u8], size: PageSize, call: &mut Call) -> Option<u32>
 
 /// Writes the call of an `ipc` line, with its words, into the buffer, as `read_receive` does.
 #[inline(always)]
-fn read_ipc(line: &[u8], size: PageSize, call: &mut Call) -> Option<u32>
+fn read_ipc(line: &[u8], size: PageSize, names: &Names, call: &mut Call) -> Option<u32>
     ensures { option_map (λ n. Enter n call.new) result
-        ≡ asked size (codes "ipc") (tokens_of line.now) }
+        ≡ asked size names.now (codes "ipc") (tokens_of line.now) }
 {
     make_ipc(call);
     if let Call::Ipc(exchange) = call {
-        let (number, to, from, timeouts, window) = ipc_parts(line, size, &mut exchange.words)?;
+        let (number, to, from, timeouts, window) = ipc_parts(
+            line,
+            size,
+            names,
+            &mut exchange.words,
+        )?;
         set_parts(exchange, to, from, timeouts, window);
         return Some(number);
     }
@@ -72,11 +78,11 @@ fn read_ipc(line: &[u8], size: PageSize, call: &mut Call) -> Option<u32>
 
 /// Writes the call of a `fault` line into the buffer, as `read_receive` does.
 #[inline(always)]
-fn read_fault(line: &[u8], call: &mut Call) -> Option<u32>
+fn read_fault(line: &[u8], names: &Names, call: &mut Call) -> Option<u32>
     ensures { (size : APageSize) → option_map (λ n. Enter n call.new) result
-        ≡ asked size (codes "fault") (tokens_of line.now) }
+        ≡ asked size names.now (codes "fault") (tokens_of line.now) }
 {
-    let (number, fault) = fault_parts(line)?;
+    let (number, fault) = fault_parts(line, names)?;
     make_fault(call, fault);
     Some(number)
 }
@@ -97,10 +103,11 @@ impl Session {
         bytes: &[u8],
         number: Option<u32>,
         call: &Call,
+        names: &Names,
         sink: &mut S,
     )
         ensures { (request : Option Request) → option_map (λ n. Enter n call.now) number ≡ request
-            → (told : List Report) × AnswersLine (session self.old.kernel self.old.servers) line (some_request bytes.now (ok_or request BadTokens)) told (session self.new.kernel self.new.servers)
+            → (told : List Report) × AnswersLine (state self.old.kernel self.old.servers names.now) line (some_request bytes.now (ok_or request BadTokens)) told (state self.new.kernel self.new.servers names.now)
             × AddsAll S.has_told sink.old sink.new told }
     {
         match number {
@@ -110,26 +117,29 @@ impl Session {
                 &script_code(ScriptFault::BadTokens),
                 bytes,
                 self.page_size(),
+                names,
             ),
         }
     }
 }
 
-/// A script: the session of its lines, and the buffers of their calls, which all lines reuse.
+/// A script: the session of its lines, the buffers of their calls, which all lines reuse, and the names of its threads.
 #[derive(Drop)]
 pub(crate) struct Script {
     pub(crate) session: Session,
     calls: CallPlaces,
+    pub(crate) names: Names,
 }
 
 impl Script {
     /// Creates a script of which no line was read.
     pub(crate) fn new(kernel: SeatedKernel, servers: Servers) -> Script
-        ensures { (result.session.kernel ≡ kernel) × (result.session.servers ≡ servers) }
+        ensures { (result.session.kernel ≡ kernel) × (result.session.servers ≡ servers) × (result.names ≡ []) }
     {
         Script {
             session: Session::new(kernel, servers),
             calls: CallPlaces::new(),
+            names: Names::new(),
         }
     }
 
@@ -137,7 +147,11 @@ impl Script {
     pub(crate) fn into_history(self) -> History
         ensures { result.entries ≡ self.session.kernel.history }
     {
-        let Script { session, calls: _ } = self;
+        let Script {
+            session,
+            calls: _,
+            names: _,
+        } = self;
         session.into_history()
     }
 
@@ -155,13 +169,13 @@ impl Script {
         requires send { bytes_eq name.now (codes "send") ≡ false }
         requires ipc { bytes_eq name.now (codes "ipc") ≡ false }
         requires fault { bytes_eq name.now (codes "fault") ≡ false }
-        ensures { (told : List Report) × AnswersLine (session self.old.session.kernel self.old.session.servers) line (some_request bytes.now (command_of self.old.session.kernel.machine.size (name.now ∷ tokens_of rest.now))) told (session self.new.session.kernel self.new.session.servers)
+        ensures { (told : List Report) × AnswersLine (state self.old.session.kernel self.old.session.servers self.old.names) line (some_request bytes.now (command_of self.old.session.kernel.machine.size self.old.names (name.now ∷ tokens_of rest.now))) told (state self.new.session.kernel self.new.session.servers self.new.names)
             × AddsAll S.has_told sink.old sink.new told }
     {
         let size = self.session.page_size();
-        match other_request(name, rest, size, &mut self.calls.ipc) {
-            Ok(request) => self.session.carry_out(line, request, sink),
-            Err(fault) => sink.unread_line(line, &script_code(fault), bytes, size),
+        match other_request(name, rest, size, &self.names, &mut self.calls.ipc) {
+            Ok(request) => self.session.carry_out(line, request, &mut self.names, sink),
+            Err(fault) => sink.unread_line(line, &script_code(fault), bytes, size, &self.names),
         }
     }
 
@@ -175,25 +189,29 @@ impl Script {
         rest: &[u8],
         sink: &mut S,
     )
-        ensures { (told : List Report) × AnswersLine (session self.old.session.kernel self.old.session.servers) line (some_request bytes.now (command_of self.old.session.kernel.machine.size (name.now ∷ tokens_of rest.now))) told (session self.new.session.kernel self.new.session.servers)
+        ensures { (told : List Report) × AnswersLine (state self.old.session.kernel self.old.session.servers self.old.names) line (some_request bytes.now (command_of self.old.session.kernel.machine.size self.old.names (name.now ∷ tokens_of rest.now))) told (state self.new.session.kernel self.new.session.servers self.new.names)
             × AddsAll S.has_told sink.old sink.new told }
     {
-        let Script { session, calls } = self;
+        let Script {
+            session,
+            calls,
+            names,
+        } = self;
         if is_recv(name) {
-            let number = read_receive(rest, session.page_size(), &mut calls.ipc);
-            return session.answer_call(line, bytes, number, &calls.ipc, sink);
+            let number = read_receive(rest, session.page_size(), names, &mut calls.ipc);
+            return session.answer_call(line, bytes, number, &calls.ipc, names, sink);
         }
         if is_send(name) {
-            let number = read_send(rest, session.page_size(), &mut calls.ipc);
-            return session.answer_call(line, bytes, number, &calls.ipc, sink);
+            let number = read_send(rest, session.page_size(), names, &mut calls.ipc);
+            return session.answer_call(line, bytes, number, &calls.ipc, names, sink);
         }
         if is_ipc(name) {
-            let number = read_ipc(rest, session.page_size(), &mut calls.ipc);
-            return session.answer_call(line, bytes, number, &calls.ipc, sink);
+            let number = read_ipc(rest, session.page_size(), names, &mut calls.ipc);
+            return session.answer_call(line, bytes, number, &calls.ipc, names, sink);
         }
         if is_fault(name) {
-            let number = read_fault(rest, &mut calls.fault);
-            return session.answer_call(line, bytes, number, &calls.fault, sink);
+            let number = read_fault(rest, names, &mut calls.fault);
+            return session.answer_call(line, bytes, number, &calls.fault, names, sink);
         }
         self.answer_other(line, bytes, name, rest, sink);
     }
@@ -201,7 +219,7 @@ impl Script {
     /// Answers a line that ends with a newline, and is not too long.
     #[inline(always)]
     fn answer_whole<S: Sink>(&mut self, line: u64, bytes: &[u8], sink: &mut S)
-        ensures { (told : List Report) × AnswersLine (session self.old.session.kernel self.old.session.servers) line (asked_at self.old.session.kernel.machine.size Whole bytes.now) told (session self.new.session.kernel self.new.session.servers)
+        ensures { (told : List Report) × AnswersLine (state self.old.session.kernel self.old.session.servers self.old.names) line (asked_at self.old.session.kernel.machine.size self.old.names Whole bytes.now) told (state self.new.session.kernel self.new.session.servers self.new.names)
             × AddsAll S.has_told sink.old sink.new told }
     {
         if is_comment(bytes) {
@@ -221,7 +239,7 @@ impl Script {
         bytes: &[u8],
         sink: &mut S,
     )
-        ensures { (told : List Report) × AnswersLine (session self.old.session.kernel self.old.session.servers) line (asked_at self.old.session.kernel.machine.size ending bytes.now) told (session self.new.session.kernel self.new.session.servers)
+        ensures { (told : List Report) × AnswersLine (state self.old.session.kernel self.old.session.servers self.old.names) line (asked_at self.old.session.kernel.machine.size self.old.names ending bytes.now) told (state self.new.session.kernel self.new.session.servers self.new.names)
             × AddsAll S.has_told sink.old sink.new told }
     {
         match ending {
@@ -231,12 +249,14 @@ impl Script {
                 &script_code(ScriptFault::LineTooLong),
                 b"",
                 self.session.page_size(),
+                &self.names,
             ),
             Ending::Cut => sink.unread_line(
                 line,
                 &script_code(ScriptFault::CutLine),
                 b"",
                 self.session.page_size(),
+                &self.names,
             ),
         }
     }

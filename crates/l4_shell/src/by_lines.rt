@@ -2,7 +2,7 @@
 ghost use Rattle.std.specs.Prelude.{◌≤◌, List, IfSome};
 ghost use Rattle.l4_answers.specs.Reports.{Report, AddsAll};
 ghost use Rattle.l4_fpage.specs.Pages.{max_frames};
-ghost use Rattle.l4_shell.specs.ByLines.{session_of, IsFirst};
+ghost use Rattle.l4_shell.specs.ByLines.{state_of, IsFirst};
 ghost use Rattle.l4_shell.specs.Requests.{asked_at};
 ghost use Rattle.l4_shell.specs.Sessions.{AnswersLine};
 
@@ -37,7 +37,7 @@ impl ScriptRun {
 
     /// Answers the line with this number and this ending.
     pub fn answer_line<S: Sink>(&mut self, line: u64, ending: Ending, bytes: &[u8], sink: &mut S)
-        ensures { (told : List Report) × AnswersLine (session_of self.old) line (asked_at (session_of self.old).machine.size ending bytes.now) told (session_of self.new)
+        ensures { (told : List Report) × AnswersLine (state_of self.old) line (asked_at (state_of self.old).session.machine.size (state_of self.old).names ending bytes.now) told (state_of self.new)
             × AddsAll S.has_told sink.old sink.new told }
     {
         self.script.answer_line(line, ending, bytes, sink);

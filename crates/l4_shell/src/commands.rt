@@ -1,6 +1,7 @@
 //! Reads the tokens of script lines.
 ghost use Rattle.std.specs.Prelude.{◌≡◌, ◌∷◌, [], false, codes, bytes_eq, option_map, MatchOption};
 ghost use Rattle.l4_fpage.specs.declared.sizes.PageSize.{PageSize as APageSize};
+ghost use Rattle.l4_names.specs.Names.{Names as AllNames};
 ghost use Rattle.l4_text.specs.Tokens.{tokens_of};
 ghost use Rattle.l4_ipc.specs.declared.calls.Call.TheVariants.{Fault as Faults};
 ghost use Rattle.l4_shell.specs.declared.requests.Request.TheVariants.{Enter};
@@ -9,6 +10,7 @@ ghost use Rattle.l4_shell.specs.Commands.{command_in, command_of};
 ghost use Rattle.l4_shell.specs.Inside.Asking.{asked, pager_commands};
 
 use crate::delegations::Which;
+use crate::naming::next_new_name;
 use crate::partners::{Partner, next_pager, next_partner, next_space, next_thread, next_word};
 use crate::regions::{last_rights, region};
 use crate::requests::{ROOT, Request, put_create, put_pager, put_unmap};
@@ -17,6 +19,7 @@ use arrayvec::ArrayVec;
 use l4_fpage::PageSize;
 use l4_ipc::{Call, FaultCall};
 use l4_msg::MAX_WORDS;
+use l4_names::Names;
 use l4_pager::Entry;
 use l4_symbols::WordKind;
 use l4_text::{after_name, next_token};
@@ -62,16 +65,18 @@ const REGION: &[u8] = b"region";
 
 const SERVE: &[u8] = b"serve";
 
+const NAME: &[u8] = b"name";
+
 const STEPS: &[u8] = b"steps";
 
 /// `N SPACE PAGER`
 #[inline(never)]
-fn thread<'a>(line: &[u8], call: &'a mut Call) -> Option<Request<'a>>
-    ensures { (size : APageSize) → result ≡ asked size (codes "thread") (tokens_of line.now) }
+fn thread<'a>(line: &[u8], names: &Names, call: &'a mut Call) -> Option<Request<'a>>
+    ensures { (size : APageSize) → result ≡ asked size names.now (codes "thread") (tokens_of line.now) }
 {
-    let (number, rest) = next_thread(line)?;
-    let (space, rest) = next_space(rest)?;
-    let (pager, rest) = next_pager(rest)?;
+    let (number, rest) = next_thread(line, names)?;
+    let (space, rest) = next_space(rest, names)?;
+    let (pager, rest) = next_pager(rest, names)?;
     match next_token(rest) {
         None => Some(Request::CreateThread(number, put_create(call, number, space, pager))),
         Some(_) => None,
@@ -80,11 +85,11 @@ fn thread<'a>(line: &[u8], call: &'a mut Call) -> Option<Request<'a>>
 
 /// `N PAGER`
 #[inline(never)]
-fn set_pager<'a>(line: &[u8], call: &'a mut Call) -> Option<Request<'a>>
-    ensures { (size : APageSize) → result ≡ asked size (codes "setpager") (tokens_of line.now) }
+fn set_pager<'a>(line: &[u8], names: &Names, call: &'a mut Call) -> Option<Request<'a>>
+    ensures { (size : APageSize) → result ≡ asked size names.now (codes "setpager") (tokens_of line.now) }
 {
-    let (number, rest) = next_thread(line)?;
-    let (pager, rest) = next_pager(rest)?;
+    let (number, rest) = next_thread(line, names)?;
+    let (pager, rest) = next_pager(rest, names)?;
     match next_token(rest) {
         None => Some(Request::Enter(ROOT, put_pager(call, number, pager))),
         Some(_) => None,
@@ -93,10 +98,10 @@ fn set_pager<'a>(line: &[u8], call: &'a mut Call) -> Option<Request<'a>>
 
 /// `N`
 #[inline(never)]
-fn delete(line: &[u8]) -> Option<Request<'static>>
-    ensures { (size : APageSize) → result ≡ asked size (codes "delete") (tokens_of line.now) }
+fn delete(line: &[u8], names: &Names) -> Option<Request<'static>>
+    ensures { (size : APageSize) → result ≡ asked size names.now (codes "delete") (tokens_of line.now) }
 {
-    let (number, rest) = next_thread(line)?;
+    let (number, rest) = next_thread(line, names)?;
     match next_token(rest) {
         None => Some(Request::EndThread(number)),
         Some(_) => None,
@@ -105,12 +110,16 @@ fn delete(line: &[u8]) -> Option<Request<'static>>
 
 /// `N FROM WINDOW`
 #[inline(always)]
-pub(crate) fn receive_parts(line: &[u8], size: PageSize) -> Option<(u32, Partner, u32)>
+pub(crate) fn receive_parts(
+    line: &[u8],
+    size: PageSize,
+    names: &Names,
+) -> Option<(u32, Partner, u32)>
     ensures { option_map (λ p. Enter p.0 (receive_call p.1 p.2)) result
-        ≡ asked size (codes "recv") (tokens_of line.now) }
+        ≡ asked size names.now (codes "recv") (tokens_of line.now) }
 {
-    let (number, rest) = next_thread(line)?;
-    let (from, rest) = next_partner(rest)?;
+    let (number, rest) = next_thread(line, names)?;
+    let (from, rest) = next_partner(rest, names)?;
     let (window, rest) = next_symbol(WordKind::Window, rest, size)?;
     match next_token(rest) {
         None => Some((number, from, window)),
@@ -120,10 +129,10 @@ pub(crate) fn receive_parts(line: &[u8], size: PageSize) -> Option<(u32, Partner
 
 /// `N FIRST COUNT`
 #[inline(never)]
-fn show(line: &[u8]) -> Option<Request<'static>>
-    ensures { (size : APageSize) → result ≡ asked size (codes "show") (tokens_of line.now) }
+fn show(line: &[u8], names: &Names) -> Option<Request<'static>>
+    ensures { (size : APageSize) → result ≡ asked size names.now (codes "show") (tokens_of line.now) }
 {
-    let (number, rest) = next_thread(line)?;
+    let (number, rest) = next_thread(line, names)?;
     let (first, rest) = next_word(rest)?;
     let (count, rest) = next_word(rest)?;
     match next_token(rest) {
@@ -134,10 +143,10 @@ fn show(line: &[u8]) -> Option<Request<'static>>
 
 /// `N PAGE`
 #[inline(never)]
-fn parent(line: &[u8]) -> Option<Request<'static>>
-    ensures { (size : APageSize) → result ≡ asked size (codes "parent") (tokens_of line.now) }
+fn parent(line: &[u8], names: &Names) -> Option<Request<'static>>
+    ensures { (size : APageSize) → result ≡ asked size names.now (codes "parent") (tokens_of line.now) }
 {
-    let (number, rest) = next_thread(line)?;
+    let (number, rest) = next_thread(line, names)?;
     let (page, rest) = next_word(rest)?;
     match next_token(rest) {
         None => Some(Request::TellParent(number, page)),
@@ -149,34 +158,35 @@ fn parent(line: &[u8]) -> Option<Request<'static>>
 pub(crate) fn send_parts(
     line: &[u8],
     size: PageSize,
+    names: &Names,
     words: &mut ArrayVec<u32, MAX_WORDS>,
 ) -> Option<(u32, Partner)>
     ensures { option_map (λ p. Enter p.0 (send_call p.1 words.new.items)) result
-        ≡ asked size (codes "send") (tokens_of line.now) }
+        ≡ asked size names.now (codes "send") (tokens_of line.now) }
 {
-    let (number, rest) = next_thread(line)?;
-    let (to, rest) = next_partner(rest)?;
+    let (number, rest) = next_thread(line, names)?;
+    let (to, rest) = next_partner(rest, names)?;
     read_words(rest, size, words)?;
     Some((number, to))
 }
 
 /// `N TO SOURCE TARGET COUNT RIGHTS`
 #[inline(never)]
-fn delegate(line: &[u8]) -> Option<Request<'static>>
-    ensures { (size : APageSize) → result ≡ asked size (codes "delegate") (tokens_of line.now) }
+fn delegate(line: &[u8], names: &Names) -> Option<Request<'static>>
+    ensures { (size : APageSize) → result ≡ asked size names.now (codes "delegate") (tokens_of line.now) }
 {
-    let (number, rest) = next_thread(line)?;
-    let (to, rest) = next_partner(rest)?;
+    let (number, rest) = next_thread(line, names)?;
+    let (to, rest) = next_partner(rest, names)?;
     Some(Request::SendPlan(number, to, Which::Only, region(rest)?))
 }
 
 /// `N TO K SOURCE TARGET COUNT RIGHTS`
 #[inline(never)]
-fn part(line: &[u8]) -> Option<Request<'static>>
-    ensures { (size : APageSize) → result ≡ asked size (codes "part") (tokens_of line.now) }
+fn part(line: &[u8], names: &Names) -> Option<Request<'static>>
+    ensures { (size : APageSize) → result ≡ asked size names.now (codes "part") (tokens_of line.now) }
 {
-    let (number, rest) = next_thread(line)?;
-    let (to, rest) = next_partner(rest)?;
+    let (number, rest) = next_thread(line, names)?;
+    let (to, rest) = next_partner(rest, names)?;
     let (message, rest) = next_word(rest)?;
     Some(Request::SendPlan(number, to, Which::Message(message), region(rest)?))
 }
@@ -186,14 +196,15 @@ fn part(line: &[u8]) -> Option<Request<'static>>
 pub(crate) fn ipc_parts(
     line: &[u8],
     size: PageSize,
+    names: &Names,
     words: &mut ArrayVec<u32, MAX_WORDS>,
 ) -> Option<(u32, Partner, Partner, u32, u32)>
     ensures { option_map (λ p. Enter p.0 (ipc_call p.1 p.2 p.3 p.4 words.new.items)) result
-        ≡ asked size (codes "ipc") (tokens_of line.now) }
+        ≡ asked size names.now (codes "ipc") (tokens_of line.now) }
 {
-    let (number, rest) = next_thread(line)?;
-    let (to, rest) = next_partner(rest)?;
-    let (from, rest) = next_partner(rest)?;
+    let (number, rest) = next_thread(line, names)?;
+    let (to, rest) = next_partner(rest, names)?;
+    let (from, rest) = next_partner(rest, names)?;
     let (timeouts, rest) = next_symbol(WordKind::Timeouts, rest, size)?;
     let (window, rest) = next_symbol(WordKind::Window, rest, size)?;
     read_words(rest, size, words)?;
@@ -201,10 +212,10 @@ pub(crate) fn ipc_parts(
 }
 
 /// `N CONTROL FPAGE..`
-fn unmap<'a>(line: &[u8], size: PageSize, call: &'a mut Call) -> Option<Request<'a>>
-    ensures { result ≡ asked size (codes "unmap") (tokens_of line.now) }
+fn unmap<'a>(line: &[u8], size: PageSize, names: &Names, call: &'a mut Call) -> Option<Request<'a>>
+    ensures { result ≡ asked size names.now (codes "unmap") (tokens_of line.now) }
 {
-    let (number, rest) = next_thread(line)?;
+    let (number, rest) = next_thread(line, names)?;
     let (control, rest) = next_word(rest)?;
     let mut words = ArrayVec::new();
     read_fpages(rest, size, &mut words)?;
@@ -213,11 +224,11 @@ fn unmap<'a>(line: &[u8], size: PageSize, call: &'a mut Call) -> Option<Request<
 
 /// `N ADDRESS IP RIGHTS`
 #[inline(always)]
-pub(crate) fn fault_parts(line: &[u8]) -> Option<(u32, FaultCall)>
+pub(crate) fn fault_parts(line: &[u8], names: &Names) -> Option<(u32, FaultCall)>
     ensures { (size : APageSize) → option_map (λ p. Enter p.0 (Faults p.1)) result
-        ≡ asked size (codes "fault") (tokens_of line.now) }
+        ≡ asked size names.now (codes "fault") (tokens_of line.now) }
 {
-    let (number, rest) = next_thread(line)?;
+    let (number, rest) = next_thread(line, names)?;
     let (address, rest) = next_word(rest)?;
     let (ip, rest) = next_word(rest)?;
     let access = last_rights(rest)?;
@@ -231,10 +242,10 @@ pub(crate) fn fault_parts(line: &[u8]) -> Option<(u32, FaultCall)>
 
 /// `P FIRST SOURCE COUNT RIGHTS`
 #[inline(never)]
-fn add_region(line: &[u8]) -> Option<Request<'static>>
-    ensures { (size : APageSize) → result ≡ asked size (codes "region") (tokens_of line.now) }
+fn add_region(line: &[u8], names: &Names) -> Option<Request<'static>>
+    ensures { (size : APageSize) → result ≡ asked size names.now (codes "region") (tokens_of line.now) }
 {
-    let (number, rest) = next_thread(line)?;
+    let (number, rest) = next_thread(line, names)?;
     let (first, rest) = next_word(rest)?;
     let (source, rest) = next_word(rest)?;
     let (count, rest) = next_word(rest)?;
@@ -250,12 +261,26 @@ fn add_region(line: &[u8]) -> Option<Request<'static>>
 
 /// `P`
 #[inline(never)]
-fn serve(line: &[u8]) -> Option<Request<'static>>
-    ensures { (size : APageSize) → result ≡ asked size (codes "serve") (tokens_of line.now) }
+fn serve(line: &[u8], names: &Names) -> Option<Request<'static>>
+    ensures { (size : APageSize) → result ≡ asked size names.now (codes "serve") (tokens_of line.now) }
 {
-    let (number, rest) = next_thread(line)?;
+    let (number, rest) = next_thread(line, names)?;
     match next_token(rest) {
         None => Some(Request::ServeThread(number)),
+        Some(_) => None,
+    }
+}
+
+/// `NAME N`
+#[inline(never)]
+fn give_name(line: &[u8], names: &Names) -> Option<Request<'static>>
+    ensures { (size : APageSize) → result
+        ≡ asked size names.now (codes "name") (tokens_of line.now) }
+{
+    let (name, rest) = next_new_name(line)?;
+    let (number, rest) = next_thread(rest, names)?;
+    match next_token(rest) {
+        None => Some(Request::GiveName(name, number)),
         Some(_) => None,
     }
 }
@@ -263,7 +288,7 @@ fn serve(line: &[u8]) -> Option<Request<'static>>
 /// No tokens.
 #[inline(never)]
 fn steps(line: &[u8]) -> Option<Request<'static>>
-    ensures { (size : APageSize) → result ≡ asked size (codes "steps") (tokens_of line.now) }
+    ensures { (size : APageSize) (names : AllNames) → result ≡ asked size names (codes "steps") (tokens_of line.now) }
 {
     match next_token(line) {
         None => Some(Request::TellSteps),
@@ -271,17 +296,20 @@ fn steps(line: &[u8]) -> Option<Request<'static>>
     }
 }
 
-/// Reads a command of pagers or of the history, from its name and its tokens.
-fn pager_command(name: &[u8], rest: &[u8]) -> Result<Request<'static>, ScriptFault>
+/// Reads a command of pagers, of names or of the history, from its name and its tokens.
+fn pager_command(name: &[u8], rest: &[u8], names: &Names) -> Result<Request<'static>, ScriptFault>
     requires fault { bytes_eq name.now (codes "fault") ≡ false }
     ensures { (size : APageSize) → result
-        ≡ command_in (pager_commands size) name.now (tokens_of rest.now) }
+        ≡ command_in (pager_commands size names.now) name.now (tokens_of rest.now) }
 {
     if name == REGION {
-        return add_region(rest).ok_or(ScriptFault::BadTokens);
+        return add_region(rest, names).ok_or(ScriptFault::BadTokens);
     }
     if name == SERVE {
-        return serve(rest).ok_or(ScriptFault::BadTokens);
+        return serve(rest, names).ok_or(ScriptFault::BadTokens);
+    }
+    if name == NAME {
+        return give_name(rest, names).ok_or(ScriptFault::BadTokens);
     }
     if name == STEPS {
         return steps(rest).ok_or(ScriptFault::BadTokens);
@@ -297,39 +325,40 @@ pub(crate) fn other_request<'a>(
     name: &[u8],
     rest: &[u8],
     size: PageSize,
+    names: &Names,
     call: &'a mut Call,
 ) -> Result<Request<'a>, ScriptFault>
     requires recv { bytes_eq name.now (codes "recv") ≡ false }
     requires send { bytes_eq name.now (codes "send") ≡ false }
     requires ipc { bytes_eq name.now (codes "ipc") ≡ false }
     requires fault { bytes_eq name.now (codes "fault") ≡ false }
-    ensures { result ≡ command_of size (name.now ∷ tokens_of rest.now) }
+    ensures { result ≡ command_of size names.now (name.now ∷ tokens_of rest.now) }
 {
     if name == THREAD {
-        return thread(rest, call).ok_or(ScriptFault::BadTokens);
+        return thread(rest, names, call).ok_or(ScriptFault::BadTokens);
     }
     if name == SETPAGER {
-        return set_pager(rest, call).ok_or(ScriptFault::BadTokens);
+        return set_pager(rest, names, call).ok_or(ScriptFault::BadTokens);
     }
     if name == DELETE {
-        return delete(rest).ok_or(ScriptFault::BadTokens);
+        return delete(rest, names).ok_or(ScriptFault::BadTokens);
     }
     if name == DELEGATE {
-        return delegate(rest).ok_or(ScriptFault::BadTokens);
+        return delegate(rest, names).ok_or(ScriptFault::BadTokens);
     }
     if name == PART {
-        return part(rest).ok_or(ScriptFault::BadTokens);
+        return part(rest, names).ok_or(ScriptFault::BadTokens);
     }
     if name == UNMAP {
-        return unmap(rest, size, call).ok_or(ScriptFault::BadTokens);
+        return unmap(rest, size, names, call).ok_or(ScriptFault::BadTokens);
     }
     if name == SHOW {
-        return show(rest).ok_or(ScriptFault::BadTokens);
+        return show(rest, names).ok_or(ScriptFault::BadTokens);
     }
     if name == PARENT {
-        return parent(rest).ok_or(ScriptFault::BadTokens);
+        return parent(rest, names).ok_or(ScriptFault::BadTokens);
     }
-    pager_command(name, rest)
+    pager_command(name, rest, names)
 }
 
 /// Returns the name of a line's command, and what follows it. Frequent commands are recognized at once.

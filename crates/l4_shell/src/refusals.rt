@@ -1,6 +1,6 @@
 //! The codes of refusals that a script's line gets before it reaches the kernel.
 ghost use Rattle.std.specs.Prelude.{◌≡◌};
-ghost use Rattle.l4_shell.specs.Refusals.{script_refusal, plan_refusal, lacks_memory, call_refusal, region_refusal};
+ghost use Rattle.l4_shell.specs.Refusals.{script_refusal, plan_refusal, too_many_names, lacks_memory, call_refusal, region_refusal};
 ghost use Rattle.l4_answers.specs.Refusals.{plainly};
 ghost use Rattle.l4_pager.specs.Regions.{code_of};
 
@@ -35,6 +35,13 @@ pub(crate) fn plan_code(refusal: &PlanRefusal) -> Code
         PlanRefusal::Several(messages) => Code::numbered(b"N5", *messages),
         PlanRefusal::NoPart(messages) => Code::numbered(b"N6", *messages),
     }
+}
+
+/// Returns the code of a name that is one more than a script can have.
+pub(crate) fn too_many_names_code() -> Code
+    ensures { result ≡ too_many_names }
+{
+    Code::plain(b"S5")
 }
 
 /// Returns the code for lack of memory.

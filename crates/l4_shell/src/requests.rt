@@ -11,6 +11,7 @@ use arrayvec::ArrayVec;
 use l4_fpage::Rights;
 use l4_ipc::{Call, Control, Create, FaultCall, IpcCall, SetPager, UnmapCall};
 use l4_msg::{MAX_WORDS, Region};
+use l4_names::Name;
 use l4_pager::{Entry, wait};
 use l4_threads::ThreadId;
 use std::marker::Model;
@@ -51,7 +52,7 @@ impl<'a> Model for LentCall<'a> {
     ghost view = { λ c. c.call.now };
 }
 
-/// What a line requests. Threads are named by their numbers, below 2^18.
+/// What a line requests. A thread is given by its number, below 2^18.
 #[derive(Drop)]
 pub(crate) enum Request<'a> {
     /// Enters the call of the thread.
@@ -70,6 +71,8 @@ pub(crate) enum Request<'a> {
     AddRegion(u32, Entry),
     /// The thread receives from any thread, and is served from then on.
     ServeThread(u32),
+    /// Gives the name to the thread.
+    GiveName(Name, u32),
     /// Prints the number of entries of the history.
     TellSteps,
 }

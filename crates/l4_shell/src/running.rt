@@ -3,7 +3,7 @@ ghost use Rattle.std.specs.Prelude.{◌≡◌, ◌≤◌, IfSome};
 ghost use Rattle.l4_fpage.specs.Pages.{max_frames};
 ghost use Rattle.l4_shell.specs.Scripts.{Runs};
 ghost use Rattle.l4_shell.specs.Inside.Scripts.{TellsScript, HasFirstSeats};
-ghost use Rattle.l4_shell.specs.Sessions.{session};
+ghost use Rattle.l4_shell.specs.Sessions.{state};
 
 use crate::answering::Script;
 use crate::requests::ROOT;
@@ -42,7 +42,7 @@ impl Script {
         reader: &mut R,
         sink: &mut S,
     ) -> Result<u64, RunFault>
-        ensures { TellsScript (session self.old.session.kernel self.old.session.servers) (session self.new.session.kernel self.new.session.servers)
+        ensures { TellsScript (state self.old.session.kernel self.old.session.servers self.old.names) (state self.new.session.kernel self.new.session.servers self.new.names)
             (R.remaining reader.old) (R.remaining reader.new)
             S.has_told S.closed sink.old sink.new result }
     {

@@ -1,13 +1,14 @@
 //! A script's kernel and its servers, and the execution of a line's request on them.
 ghost use Rattle.std.specs.Prelude.{◌≡◌, ◌⊎◌, ◌∷◌, List, [], false, MatchOption};
 ghost use Rattle.l4_answers.specs.Reports.{Report, AddsAll};
-ghost use Rattle.l4_shell.specs.Sessions.{session, Enters, Creates, ServesThread, AddsRegion, place_reports, ListsBelow, Shows, parent_answer, Delegates, TellsCount, CarriesOut, Refuses, LacksRoom};
+ghost use Rattle.l4_shell.specs.Sessions.{session, Enters, Creates, ServesThread, AddsRegion, place_reports, ListsBelow, Shows, parent_answer, Delegates, TellsCount, CarriesOut, names_after, Refuses, LacksRoom};
 ghost use Rattle.l4_shell.specs.Inside.Telling.{TellsCall, TellsRefusal};
 ghost use Rattle.l4_pager.specs.Serving.{waiting};
 ghost use Rattle.l4_servers.specs.Servers.{Servers as AllServers, is_served, without};
 ghost use Rattle.l4_shell.specs.Calls.{root, delete_call};
 
 use crate::delegations::{Which, plan_words};
+use crate::naming::give_name;
 use crate::partners::Partner;
 use crate::refusals::{call_code, memory_code, plan_code, region_code};
 use crate::requests::{ROOT, Request, delete_call, send_call};
@@ -16,6 +17,7 @@ use l4_answers::{Sink, refused_code};
 use l4_fpage::PageSize;
 use l4_ipc::{Call, Kernel, Refused};
 use l4_msg::Region;
+use l4_names::Names;
 use l4_pager::{Entry, wait};
 use l4_record::{Appended, History, SeatedKernel};
 use l4_servers::Servers;
@@ -283,10 +285,17 @@ impl Session {
         }
     }
 
-    /// Carries out the request of a line.
-    pub(crate) fn carry_out<S: Sink>(&mut self, line: u64, request: Request<'_>, sink: &mut S)
-        ensures { (told : List Report) × CarriesOut (session self.old.kernel self.old.servers) line request.entry told (session self.new.kernel self.new.servers)
+    /// Carries out the request of a line, where threads have these names.
+    pub(crate) fn carry_out<S: Sink>(
+        &mut self,
+        line: u64,
+        request: Request<'_>,
+        names: &mut Names,
+        sink: &mut S,
+    )
+        ensures told { (told : List Report) × CarriesOut names.old (session self.old.kernel self.old.servers) line request.entry told (session self.new.kernel self.new.servers)
             × AddsAll S.has_told sink.old sink.new told }
+        ensures names { names.new ≡ names_after names.old request.entry }
     {
         match request {
             Request::Enter(thread, call) => self.enter_and_follow(line, thread, call.call, sink),
@@ -305,6 +314,7 @@ impl Session {
             }
             Request::AddRegion(thread, entry) => self.add_region(line, thread, entry, sink),
             Request::ServeThread(thread) => self.serve_thread(line, thread, sink),
+            Request::GiveName(name, number) => give_name(line, name, number, names, sink),
             Request::TellSteps => tell_count(&mut self.kernel, sink),
         }
     }

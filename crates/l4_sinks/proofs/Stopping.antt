@@ -9,6 +9,7 @@ use Rattle.std.specs.Result.{result_ok}
 use Rattle.l4_fpage.specs.Rights.{RightsSet}
 use Rattle.l4_fpage.specs.declared.sizes.PageSize.{PageSize}
 use Rattle.l4_msg.specs.declared.regions.Region.{Region as Delegated}
+use Rattle.l4_names.specs.Names.{Names, is_name}
 use Rattle.l4_symbols.specs.Computed.{word_in}
 use Rattle.l4_symbols.specs.Rows.{Row, row_begun, row_added, all_added, row_words, message_words_in}
 use Rattle.l4_symbols.specs.Spelling.{◌>>=◌}
@@ -17,8 +18,8 @@ use Rattle.l4_symbols.specs.declared.words.WordKind.{WordKind}
 use Rattle.l4_symbols.specs.declared.words.WordKind.TheVariants.{Fpage, Window, Timeouts}
 use Rattle.l4_text.specs.Numbers.{number_of, decimal_of}
 use Rattle.l4_shell.specs.declared.kinds.TokenKind.{TokenKind}
-use Rattle.l4_shell.specs.declared.kinds.TokenKind.TheVariants.{ThreadNumber, ThreadOrNew, ThreadOrNil, ThreadNilOrAny, Number, Symbol, Rights}
-use Rattle.l4_shell.specs.Commands.{thread_of, nil_or_thread_of, partner_of, new_space_of, rights_of, symbol_of, each_fpage, fpages_of, words_of, ◌▹◌, no_more, all_by, last_rights_of, region_of, command_of, is_word}
+use Rattle.l4_shell.specs.declared.kinds.TokenKind.TheVariants.{ThreadNumber, ThreadOrNew, ThreadOrNil, ThreadNilOrAny, Number, Symbol, Rights, NewName}
+use Rattle.l4_shell.specs.Commands.{thread_of, nil_or_thread_of, partner_of, new_space_of, rights_of, symbol_of, new_name_of, is_language_word, each_fpage, fpages_of, words_of, ◌▹◌, no_more, all_by, last_rights_of, region_of, command_of, is_word}
 use Rattle.l4_shell.specs.Kinds.{is_of}
 use Rattle.l4_sinks.specs.declared.stops.Expected.{Expected}
 use Rattle.l4_sinks.specs.declared.stops.Expected.TheVariants.{TagOrEnd, WordOrEnd, FpageOrEnd, LineEnd}
@@ -34,38 +35,38 @@ ends None = true
 ends (Some place) = false
 
 -- where pages have this size, a reader reads just what has tokens of these kinds, and then the rest
-record Agrees {A : Type 0} (size : PageSize) (asks : List (List ℕ) → Option A) (kinds : List TokenKind) (rest : Rest) : Type 0 where
-  pub agrees : (tokens : List (List ℕ)) (number : ℕ) → is_some (asks tokens) ≡ ends (kinds_stop size number kinds rest tokens)
+record Agrees {A : Type 0} (size : PageSize) (names : Names) (asks : List (List ℕ) → Option A) (kinds : List TokenKind) (rest : Rest) : Type 0 where
+  pub agrees : (tokens : List (List ℕ)) (number : ℕ) → is_some (asks tokens) ≡ ends (kinds_stop size names number kinds rest tokens)
 
 ends_there : {A : Type 0} (a : A) (tokens : List (List ℕ)) (number : ℕ) → is_some (no_more a tokens) ≡ ends (end_stop number tokens)
 ends_there a [] number = refl
 ends_there a (token ∷ tokens) number = refl
 
-agrees_end : {A : Type 0} (size : PageSize) (a : A) → Agrees size (no_more a) [] Nothing
-agrees_end size a = record { agrees = λ tokens number. ends_there a tokens number }
+agrees_end : {A : Type 0} (size : PageSize) (names : Names) (a : A) → Agrees size names (no_more a) [] Nothing
+agrees_end size names a = record { agrees = λ tokens number. ends_there a tokens number }
 
 one_read : {A B : Type 0} (o : Option A) (f : Bool) (tokens : List (List ℕ)) (asks : A → List (List ℕ) → Option B) (stop : Option Place) (other : Place) → is_some o ≡ f → ((a : A) → is_some (asks a tokens) ≡ ends stop)
     → is_some (option_and_then (λ (p : A × List (List ℕ)). asks p.0 p.1) (option_and_then (λ a. Some (a, tokens)) o)) ≡ ends (cond f stop (Some other))
 one_read None f tokens asks stop other same rest = ap (λ b. ends (cond b stop (Some other))) same
 one_read (Some a) f tokens asks stop other same rest = rest a ∙ ap (λ b. ends (cond b stop (Some other))) same
 
-step_there : {A B C : Type 0} (size : PageSize) (read : List ℕ → Option A) (rest : B → List (List ℕ) → Option C) (make : A → B) (kind : TokenKind) (kinds : List TokenKind) (last : Rest) → ((token : List ℕ) → is_some (read token) ≡ is_of size kind token)
-    → ((b : B) → Agrees size (rest b) kinds last) → (tokens : List (List ℕ)) (number : ℕ) → is_some ((read ▹ rest) make tokens) ≡ ends (kinds_stop size number (kind ∷ kinds) last tokens)
-step_there size read rest make kind kinds last same agree [] number = refl
-step_there size read rest make kind kinds last same agree (token ∷ tokens) number =
-    one_read (read token) (is_of size kind token) tokens (λ a. rest (make a)) (kinds_stop size (number + 1) kinds last tokens) (record { number = number; token = Some token; expected = expected_at size kind token }) (same token)
+step_there : {A B C : Type 0} (size : PageSize) (names : Names) (read : List ℕ → Option A) (rest : B → List (List ℕ) → Option C) (make : A → B) (kind : TokenKind) (kinds : List TokenKind) (last : Rest) → ((token : List ℕ) → is_some (read token) ≡ is_of size names kind token)
+    → ((b : B) → Agrees size names (rest b) kinds last) → (tokens : List (List ℕ)) (number : ℕ) → is_some ((read ▹ rest) make tokens) ≡ ends (kinds_stop size names number (kind ∷ kinds) last tokens)
+step_there size names read rest make kind kinds last same agree [] number = refl
+step_there size names read rest make kind kinds last same agree (token ∷ tokens) number =
+    one_read (read token) (is_of size names kind token) tokens (λ a. rest (make a)) (kinds_stop size names (number + 1) kinds last tokens) (record { number = number; token = Some token; expected = expected_at size kind token }) (same token)
     (λ a. (agree (make a)).agrees tokens (number + 1))
 
-agrees_step : {A B C : Type 0} {size : PageSize} (read : List ℕ → Option A) (kind : TokenKind) → ((token : List ℕ) → is_some (read token) ≡ is_of size kind token) → {rest : B → List (List ℕ) → Option C} {kinds : List TokenKind} {last : Rest}
-    → ((b : B) → Agrees size (rest b) kinds last) → (make : A → B) → Agrees size ((read ▹ rest) make) (kind ∷ kinds) last
-agrees_step {size} read kind same {rest} {kinds} {last} agree make = record { agrees = λ tokens number. step_there size read rest make kind kinds last same agree tokens number }
+agrees_step : {A B C : Type 0} {size : PageSize} {names : Names} (read : List ℕ → Option A) (kind : TokenKind) → ((token : List ℕ) → is_some (read token) ≡ is_of size names kind token) → {rest : B → List (List ℕ) → Option C} {kinds : List TokenKind} {last : Rest}
+    → ((b : B) → Agrees size names (rest b) kinds last) → (make : A → B) → Agrees size names ((read ▹ rest) make) (kind ∷ kinds) last
+agrees_step {size} {names} read kind same {rest} {kinds} {last} agree make = record { agrees = λ tokens number. step_there size names read rest make kind kinds last same agree tokens number }
 
 made : {A B : Type 0} (o : Option A) (f : A → B) → is_some (option_and_then (λ a. Some (f a)) o) ≡ is_some o
 made None f = refl
 made (Some a) f = refl
 
-agrees_all : {A B : Type 0} (size : PageSize) (read : List (List ℕ) → Option A) (make : A → B) (kinds : List TokenKind) (last : Rest) → Agrees size read kinds last → Agrees size (all_by read make) kinds last
-agrees_all size read make kinds last h = record { agrees = λ tokens number. made (read tokens) make ∙ h.agrees tokens number }
+agrees_all : {A B : Type 0} (size : PageSize) (names : Names) (read : List (List ℕ) → Option A) (make : A → B) (kinds : List TokenKind) (last : Rest) → Agrees size names read kinds last → Agrees size names (all_by read make) kinds last
+agrees_all size names read make kinds last h = record { agrees = λ tokens number. made (read tokens) make ∙ h.agrees tokens number }
 
 -- FPAGES
 
@@ -78,31 +79,31 @@ one_fpage : (o : Option ℕ) (f le : Bool) (size : PageSize) (tokens : List (Lis
 one_fpage None f le size tokens stop other same rest = and_false le ∙ ap (λ b. ends (cond b stop (Some other))) same
 one_fpage (Some n) f le size tokens stop other same rest = ap (λ b. le && b) (made (each_fpage size tokens) (λ ns. n ∷ ns)) ∙ rest ∙ ap (λ b. ends (cond b stop (Some other))) same
 
-same_symbol : (kind : WordKind) (size : PageSize) (token : List ℕ) → is_some (symbol_of kind size token) ≡ is_of size (Symbol kind) token
+same_symbol : (kind : WordKind) (size : PageSize) (names : Names) (token : List ℕ) → is_some (symbol_of kind size token) ≡ is_of size names (Symbol kind) token
 unfolding is_of
-same_symbol kind size token = refl
+same_symbol kind size names token = refl
 
-counted : (size : PageSize) (most : ℕ) (tokens : List (List ℕ)) (number : ℕ) → (nat_le (length tokens) most && is_some (each_fpage size tokens)) ≡ ends (fpages_stop size number most tokens)
-counted size most [] number =
+counted : (size : PageSize) (names : Names) (most : ℕ) (tokens : List (List ℕ)) (number : ℕ) → (nat_le (length tokens) most && is_some (each_fpage size tokens)) ≡ ends (fpages_stop size names number most tokens)
+counted size names most [] number =
     let t : nat_le 0 most ≡ true = grind (arith, nat_tests) in
     ap (λ b. b && true) t
-counted size zero (token ∷ tokens) number =
+counted size names zero (token ∷ tokens) number =
     let f : nat_le (length (token ∷ tokens)) 0 ≡ false = grind (arith, nat_tests) in
     ap (λ b. b && is_some (each_fpage size (token ∷ tokens))) f
-counted size (suc most) (token ∷ tokens) number =
+counted size names (suc most) (token ∷ tokens) number =
     let e : nat_le (length (token ∷ tokens)) (suc most) ≡ nat_le (length tokens) most = grind (arith, nat_tests) in
     ap (λ b. b && is_some (each_fpage size (token ∷ tokens))) e
-    ∙ one_fpage (symbol_of Fpage size token) (is_of size (Symbol Fpage) token) (nat_le (length tokens) most) size tokens (fpages_stop size (number + 1) most tokens)
-    (record { number = number; token = Some token; expected = symbol_expected FpageOrEnd (word_in Fpage size token) }) (same_symbol Fpage size token) (counted size most tokens (number + 1))
+    ∙ one_fpage (symbol_of Fpage size token) (is_of size names (Symbol Fpage) token) (nat_le (length tokens) most) size tokens (fpages_stop size names (number + 1) most tokens)
+    (record { number = number; token = Some token; expected = symbol_expected FpageOrEnd (word_in Fpage size token) }) (same_symbol Fpage size names token) (counted size names most tokens (number + 1))
 
 if_some : {A : Type 0} (b : Bool) (o : Option A) → is_some (cond b o None) ≡ (b && is_some o)
 if_some true o = refl
 if_some false o = refl
 
-agrees_fpages : {B : Type 0} {size : PageSize} (make : List ℕ → B) → Agrees size (all_by (fpages_of size) make) [] Fpages
+agrees_fpages : {B : Type 0} {size : PageSize} {names : Names} (make : List ℕ → B) → Agrees size names (all_by (fpages_of size) make) [] Fpages
 unfolding fpages_of
-agrees_fpages {size} make =
-    record { agrees = λ tokens number. made (fpages_of size tokens) make ∙ if_some (nat_le (length tokens) 64) (each_fpage size tokens) ∙ counted size 64 tokens number }
+agrees_fpages {size} {names} make =
+    record { agrees = λ tokens number. made (fpages_of size tokens) make ∙ if_some (nat_le (length tokens) 64) (each_fpage size tokens) ∙ counted size names 64 tokens number }
 
 -- MESSAGES
 
@@ -124,130 +125,139 @@ message_ends size (token ∷ tokens) number =
       | Err reason ↦ refl
     ]
 
-agrees_message : {B : Type 0} {size : PageSize} (make : List ℕ → B) → Agrees size (all_by (words_of size) make) [] Message
-agrees_message {size} make = record { agrees = λ tokens number. made (words_of size tokens) make ∙ message_ends size tokens number }
+agrees_message : {B : Type 0} {size : PageSize} {names : Names} (make : List ℕ → B) → Agrees size names (all_by (words_of size) make) [] Message
+agrees_message {size} {names} make = record { agrees = λ tokens number. made (words_of size tokens) make ∙ message_ends size tokens number }
 
 -- KINDS
 
-same_thread : (size : PageSize) (token : List ℕ) → is_some (thread_of token) ≡ is_of size ThreadNumber token
+same_thread : (size : PageSize) (names : Names) (token : List ℕ) → is_some (thread_of names token) ≡ is_of size names ThreadNumber token
 unfolding is_of
-same_thread size token = refl
+same_thread size names token = refl
 
-same_space : (size : PageSize) (token : List ℕ) → is_some (new_space_of token) ≡ is_of size ThreadOrNew token
+same_space : (size : PageSize) (names : Names) (token : List ℕ) → is_some (new_space_of names token) ≡ is_of size names ThreadOrNew token
 unfolding is_of
-same_space size token = refl
+same_space size names token = refl
 
-same_pager : (size : PageSize) (token : List ℕ) → is_some (nil_or_thread_of token) ≡ is_of size ThreadOrNil token
+same_pager : (size : PageSize) (names : Names) (token : List ℕ) → is_some (nil_or_thread_of names token) ≡ is_of size names ThreadOrNil token
 unfolding is_of
-same_pager size token = refl
+same_pager size names token = refl
 
-same_partner : (size : PageSize) (token : List ℕ) → is_some (partner_of token) ≡ is_of size ThreadNilOrAny token
+same_partner : (size : PageSize) (names : Names) (token : List ℕ) → is_some (partner_of names token) ≡ is_of size names ThreadNilOrAny token
 unfolding is_of
-same_partner size token = refl
+same_partner size names token = refl
 
-same_number : (size : PageSize) (token : List ℕ) → is_some (number_of token) ≡ is_of size Number token
+same_number : (size : PageSize) (names : Names) (token : List ℕ) → is_some (number_of token) ≡ is_of size names Number token
 unfolding is_of
-same_number size token = refl
+same_number size names token = refl
 
-same_rights : (size : PageSize) (token : List ℕ) → is_some (rights_of token) ≡ is_of size Rights token
+same_name : (size : PageSize) (names : Names) (token : List ℕ) → is_some (new_name_of token) ≡ is_of size names NewName token
 unfolding is_of
-same_rights size token = refl
+same_name size names token = refl
+
+same_rights : (size : PageSize) (names : Names) (token : List ℕ) → is_some (rights_of token) ≡ is_of size names Rights token
+unfolding is_of
+same_rights size names token = refl
 
 -- COMMANDS
 
-last_rights : (size : PageSize) → Agrees size last_rights_of (Rights ∷ []) Nothing
-last_rights size = record { agrees = λ tokens number. (agrees_step rights_of Rights (same_rights size) (agrees_end size) (λ r. r)).agrees tokens number }
+last_rights : (size : PageSize) (names : Names) → Agrees size names last_rights_of (Rights ∷ []) Nothing
+last_rights size names = record { agrees = λ tokens number. (agrees_step rights_of Rights (same_rights size names) (agrees_end size names) (λ r. r)).agrees tokens number }
 
-by_rights : {B : Type 0} {size : PageSize} (make : RightsSet → B) → Agrees size (all_by last_rights_of make) (Rights ∷ []) Nothing
-by_rights {B} {size} make = agrees_all size last_rights_of make _ Nothing (last_rights size)
+by_rights : {B : Type 0} {size : PageSize} {names : Names} (make : RightsSet → B) → Agrees size names (all_by last_rights_of make) (Rights ∷ []) Nothing
+by_rights {B} {size} {names} make = agrees_all size names last_rights_of make _ Nothing (last_rights size names)
 
-by_thread : {B C : Type 0} {size : PageSize} {rest : B → List (List ℕ) → Option C} {kinds : List TokenKind} {last : Rest} → ((b : B) → Agrees size (rest b) kinds last) → (make : ℕ → B) → Agrees size ((thread_of ▹ rest) make) (ThreadNumber ∷ kinds) last
-by_thread {B} {C} {size} agree make = agrees_step thread_of ThreadNumber (same_thread size) agree make
+by_thread : {B C : Type 0} {size : PageSize} {names : Names} {rest : B → List (List ℕ) → Option C} {kinds : List TokenKind} {last : Rest} → ((b : B) → Agrees size names (rest b) kinds last) → (make : ℕ → B) → Agrees size names ((thread_of names ▹ rest) make) (ThreadNumber ∷ kinds) last
+by_thread {B} {C} {size} {names} agree make = agrees_step (thread_of names) ThreadNumber (same_thread size names) agree make
 
-by_space : {B C : Type 0} {size : PageSize} {rest : B → List (List ℕ) → Option C} {kinds : List TokenKind} {last : Rest} → ((b : B) → Agrees size (rest b) kinds last) → (make : _ → B) → Agrees size ((new_space_of ▹ rest) make) (ThreadOrNew ∷ kinds) last
-by_space {B} {C} {size} agree make = agrees_step new_space_of ThreadOrNew (same_space size) agree make
+by_space : {B C : Type 0} {size : PageSize} {names : Names} {rest : B → List (List ℕ) → Option C} {kinds : List TokenKind} {last : Rest} → ((b : B) → Agrees size names (rest b) kinds last) → (make : _ → B) → Agrees size names ((new_space_of names ▹ rest) make) (ThreadOrNew ∷ kinds) last
+by_space {B} {C} {size} {names} agree make = agrees_step (new_space_of names) ThreadOrNew (same_space size names) agree make
 
-by_pager : {B C : Type 0} {size : PageSize} {rest : B → List (List ℕ) → Option C} {kinds : List TokenKind} {last : Rest} → ((b : B) → Agrees size (rest b) kinds last) → (make : _ → B) → Agrees size ((nil_or_thread_of ▹ rest) make) (ThreadOrNil ∷ kinds) last
-by_pager {B} {C} {size} agree make = agrees_step nil_or_thread_of ThreadOrNil (same_pager size) agree make
+by_pager : {B C : Type 0} {size : PageSize} {names : Names} {rest : B → List (List ℕ) → Option C} {kinds : List TokenKind} {last : Rest} → ((b : B) → Agrees size names (rest b) kinds last) → (make : _ → B) → Agrees size names ((nil_or_thread_of names ▹ rest) make) (ThreadOrNil ∷ kinds) last
+by_pager {B} {C} {size} {names} agree make = agrees_step (nil_or_thread_of names) ThreadOrNil (same_pager size names) agree make
 
-by_partner : {B C : Type 0} {size : PageSize} {rest : B → List (List ℕ) → Option C} {kinds : List TokenKind} {last : Rest} → ((b : B) → Agrees size (rest b) kinds last) → (make : _ → B) → Agrees size ((partner_of ▹ rest) make) (ThreadNilOrAny ∷ kinds) last
-by_partner {B} {C} {size} agree make = agrees_step partner_of ThreadNilOrAny (same_partner size) agree make
+by_partner : {B C : Type 0} {size : PageSize} {names : Names} {rest : B → List (List ℕ) → Option C} {kinds : List TokenKind} {last : Rest} → ((b : B) → Agrees size names (rest b) kinds last) → (make : _ → B) → Agrees size names ((partner_of names ▹ rest) make) (ThreadNilOrAny ∷ kinds) last
+by_partner {B} {C} {size} {names} agree make = agrees_step (partner_of names) ThreadNilOrAny (same_partner size names) agree make
 
-by_number : {B C : Type 0} {size : PageSize} {rest : B → List (List ℕ) → Option C} {kinds : List TokenKind} {last : Rest} → ((b : B) → Agrees size (rest b) kinds last) → (make : ℕ → B) → Agrees size ((number_of ▹ rest) make) (Number ∷ kinds) last
-by_number {B} {C} {size} agree make = agrees_step number_of Number (same_number size) agree make
+by_name : {B C : Type 0} {size : PageSize} {names : Names} {rest : B → List (List ℕ) → Option C} {kinds : List TokenKind} {last : Rest} → ((b : B) → Agrees size names (rest b) kinds last) → (make : _ → B)
+    → Agrees size names ((new_name_of ▹ rest) make) (NewName ∷ kinds) last
+by_name {B} {C} {size} {names} agree make = agrees_step new_name_of NewName (same_name size names) agree make
 
-by_symbol : {B C : Type 0} {size : PageSize} (kind : WordKind) {rest : B → List (List ℕ) → Option C} {kinds : List TokenKind} {last : Rest} → ((b : B) → Agrees size (rest b) kinds last) → (make : ℕ → B)
-    → Agrees size ((symbol_of kind size ▹ rest) make) (Symbol kind ∷ kinds) last
-by_symbol {B} {C} {size} kind agree make = agrees_step (symbol_of kind size) (Symbol kind) (same_symbol kind size) agree make
+by_number : {B C : Type 0} {size : PageSize} {names : Names} {rest : B → List (List ℕ) → Option C} {kinds : List TokenKind} {last : Rest} → ((b : B) → Agrees size names (rest b) kinds last) → (make : ℕ → B) → Agrees size names ((number_of ▹ rest) make) (Number ∷ kinds) last
+by_number {B} {C} {size} {names} agree make = agrees_step number_of Number (same_number size names) agree make
+
+by_symbol : {B C : Type 0} {size : PageSize} {names : Names} (kind : WordKind) {rest : B → List (List ℕ) → Option C} {kinds : List TokenKind} {last : Rest} → ((b : B) → Agrees size names (rest b) kinds last) → (make : ℕ → B)
+    → Agrees size names ((symbol_of kind size ▹ rest) make) (Symbol kind ∷ kinds) last
+by_symbol {B} {C} {size} {names} kind agree make = agrees_step (symbol_of kind size) (Symbol kind) (same_symbol kind size names) agree make
 
 abbrev region_from : ℕ → ℕ → ℕ → RightsSet → Delegated
 region_from s t c r = record { source = s; target = t; count = c; rights = r }
 
-region_kinds : (size : PageSize) → Agrees size region_of (Number ∷ Number ∷ Number ∷ Rights ∷ []) Nothing
+region_kinds : (size : PageSize) (names : Names) → Agrees size names region_of (Number ∷ Number ∷ Number ∷ Rights ∷ []) Nothing
 unfolding region_of
-region_kinds size = record { agrees = λ tokens number. (by_number (by_number (by_number by_rights)) region_from).agrees tokens number }
+region_kinds size names = record { agrees = λ tokens number. (by_number (by_number (by_number by_rights)) region_from).agrees tokens number }
 
-by_region : {B : Type 0} {size : PageSize} (make : Delegated → B) → Agrees size (all_by region_of make) (Number ∷ Number ∷ Number ∷ Rights ∷ []) Nothing
-by_region {B} {size} make = agrees_all size region_of make _ Nothing (region_kinds size)
+by_region : {B : Type 0} {size : PageSize} {names : Names} (make : Delegated → B) → Agrees size names (all_by region_of make) (Number ∷ Number ∷ Number ∷ Rights ∷ []) Nothing
+by_region {B} {size} {names} make = agrees_all size names region_of make _ Nothing (region_kinds size names)
 
 -- LINES
 
 -- a command reads just what its form lets through
-abbrev Reads : {A E : Type 0} → PageSize → List ℕ → List (List ℕ) → Result A E → Option Shape → Type 0
-Reads size name tokens asked shape = is_ok asked ≡ ends (shape_stop size shape name tokens)
+abbrev Reads : {A E : Type 0} → PageSize → Names → List ℕ → List (List ℕ) → Result A E → Option Shape → Type 0
+Reads size names name tokens asked shape = is_ok asked ≡ ends (shape_stop size names shape name tokens)
 
-choose : {A E : Type 0} (size : PageSize) (name : List ℕ) (tokens : List (List ℕ)) (b : Bool) (x y : Result A E) (f g : Option Shape) → Reads size name tokens x f → Reads size name tokens y g → Reads size name tokens (cond b x y) (cond b f g)
-choose size name tokens true x y f g p q = p
-choose size name tokens false x y f g p q = q
+choose : {A E : Type 0} (size : PageSize) (names : Names) (name : List ℕ) (tokens : List (List ℕ)) (b : Bool) (x y : Result A E) (f g : Option Shape) → Reads size names name tokens x f → Reads size names name tokens y g → Reads size names name tokens (cond b x y) (cond b f g)
+choose size names name tokens true x y f g p q = p
+choose size names name tokens false x y f g p q = q
 
 one : {A E : Type 0} (o : Option A) (fault : E) (stop : Option Place) → is_some o ≡ ends stop → is_ok (ok_or o fault) ≡ ends stop
 one None fault stop same = same
 one (Some a) fault stop same = same
 
-reads : (size : PageSize) (name : List ℕ) (tokens : List (List ℕ)) → is_ok (command_of size (name ∷ tokens)) ≡ ends (shape_stop size (shape_of name) name tokens)
+reads : (size : PageSize) (names : Names) (name : List ℕ) (tokens : List (List ℕ)) → is_ok (command_of size names (name ∷ tokens)) ≡ ends (shape_stop size names (shape_of name) name tokens)
 unfolding command_of
-reads size name tokens =
-    choose size name tokens (is_word (codes "thread") name) _ _ _ _ (one _ _ _ ((by_thread (by_space (by_pager (agrees_end size))) _).agrees tokens 2))
-    (choose size name tokens (is_word (codes "setpager") name) _ _ _ _ (one _ _ _ ((by_thread (by_pager (agrees_end size)) _).agrees tokens 2))
-    (choose size name tokens (is_word (codes "delete") name) _ _ _ _ (one _ _ _ ((by_thread (agrees_end size) _).agrees tokens 2))
-    (choose size name tokens (is_word (codes "recv") name) _ _ _ _ (one _ _ _ ((by_thread (by_partner (by_symbol Window (agrees_end size))) _).agrees tokens 2))
-    (choose size name tokens (is_word (codes "send") name) _ _ _ _ (one _ _ _ ((by_thread (by_partner agrees_message) _).agrees tokens 2))
-    (choose size name tokens (is_word (codes "ipc") name) _ _ _ _ (one _ _ _ ((by_thread (by_partner (by_partner (by_symbol Timeouts (by_symbol Window agrees_message)))) _).agrees tokens 2))
-    (choose size name tokens (is_word (codes "delegate") name) _ _ _ _ (one _ _ _ ((by_thread (by_partner by_region) _).agrees tokens 2))
-    (choose size name tokens (is_word (codes "part") name) _ _ _ _ (one _ _ _ ((by_thread (by_partner (by_number by_region)) _).agrees tokens 2))
-    (choose size name tokens (is_word (codes "unmap") name) _ _ _ _ (one _ _ _ ((by_thread (by_number agrees_fpages) _).agrees tokens 2))
-    (choose size name tokens (is_word (codes "show") name) _ _ _ _ (one _ _ _ ((by_thread (by_number (by_number (agrees_end size))) _).agrees tokens 2))
-    (choose size name tokens (is_word (codes "parent") name) _ _ _ _ (one _ _ _ ((by_thread (by_number (agrees_end size)) _).agrees tokens 2))
-    (choose size name tokens (is_word (codes "fault") name) _ _ _ _ (one _ _ _ ((by_thread (by_number (by_number by_rights)) _).agrees tokens 2))
-    (choose size name tokens (is_word (codes "region") name) _ _ _ _ (one _ _ _ ((by_thread (by_number (by_number (by_number by_rights))) _).agrees tokens 2))
-    (choose size name tokens (is_word (codes "serve") name) _ _ _ _ (one _ _ _ ((by_thread (agrees_end size) _).agrees tokens 2))
-    (choose size name tokens (is_word (codes "steps") name) _ _ _ None (one _ _ _ ((agrees_end size _).agrees tokens 2)) refl))))))))))))))
+reads size names name tokens =
+    choose size names name tokens (is_word (codes "thread") name) _ _ _ _ (one _ _ _ ((by_thread (by_space (by_pager (agrees_end size names))) _).agrees tokens 2))
+    (choose size names name tokens (is_word (codes "setpager") name) _ _ _ _ (one _ _ _ ((by_thread (by_pager (agrees_end size names)) _).agrees tokens 2))
+    (choose size names name tokens (is_word (codes "delete") name) _ _ _ _ (one _ _ _ ((by_thread (agrees_end size names) _).agrees tokens 2))
+    (choose size names name tokens (is_word (codes "recv") name) _ _ _ _ (one _ _ _ ((by_thread (by_partner (by_symbol Window (agrees_end size names))) _).agrees tokens 2))
+    (choose size names name tokens (is_word (codes "send") name) _ _ _ _ (one _ _ _ ((by_thread (by_partner agrees_message) _).agrees tokens 2))
+    (choose size names name tokens (is_word (codes "ipc") name) _ _ _ _ (one _ _ _ ((by_thread (by_partner (by_partner (by_symbol Timeouts (by_symbol Window agrees_message)))) _).agrees tokens 2))
+    (choose size names name tokens (is_word (codes "delegate") name) _ _ _ _ (one _ _ _ ((by_thread (by_partner by_region) _).agrees tokens 2))
+    (choose size names name tokens (is_word (codes "part") name) _ _ _ _ (one _ _ _ ((by_thread (by_partner (by_number by_region)) _).agrees tokens 2))
+    (choose size names name tokens (is_word (codes "unmap") name) _ _ _ _ (one _ _ _ ((by_thread (by_number agrees_fpages) _).agrees tokens 2))
+    (choose size names name tokens (is_word (codes "show") name) _ _ _ _ (one _ _ _ ((by_thread (by_number (by_number (agrees_end size names))) _).agrees tokens 2))
+    (choose size names name tokens (is_word (codes "parent") name) _ _ _ _ (one _ _ _ ((by_thread (by_number (agrees_end size names)) _).agrees tokens 2))
+    (choose size names name tokens (is_word (codes "fault") name) _ _ _ _ (one _ _ _ ((by_thread (by_number (by_number by_rights)) _).agrees tokens 2))
+    (choose size names name tokens (is_word (codes "region") name) _ _ _ _ (one _ _ _ ((by_thread (by_number (by_number (by_number by_rights))) _).agrees tokens 2))
+    (choose size names name tokens (is_word (codes "serve") name) _ _ _ _ (one _ _ _ ((by_thread (agrees_end size names) _).agrees tokens 2))
+    (choose size names name tokens (is_word (codes "name") name) _ _ _ _ (one _ _ _ ((by_name (by_thread (agrees_end size names)) _).agrees tokens 2))
+    (choose size names name tokens (is_word (codes "steps") name) _ _ _ None (one _ _ _ ((agrees_end size names _).agrees tokens 2)) refl)))))))))))))))
 
 -- a line is a command just where nothing stops
-command_ends : (size : PageSize) (tokens : List (List ℕ)) → is_ok (command_of size tokens) ≡ ends (stop_of size tokens)
+command_ends : (size : PageSize) (names : Names) (tokens : List (List ℕ)) → is_ok (command_of size names tokens) ≡ ends (stop_of size names tokens)
 unfolding command_of
-command_ends size [] = refl
-command_ends size (name ∷ tokens) = reads size name tokens
+command_ends size names [] = refl
+command_ends size names (name ∷ tokens) = reads size names name tokens
 
 -- WHAT GOES ON
 
 -- each of these kinds has a token that is right
-abbrev AreFit : PageSize → List TokenKind → Type 0
-AreFit size [] = Unit {0}
-AreFit size (kind ∷ kinds) = ((token : List ℕ) × (is_of size kind token ≡ true)) × AreFit size kinds
+abbrev AreFit : PageSize → Names → List TokenKind → Type 0
+AreFit size names [] = Unit {0}
+AreFit size names (kind ∷ kinds) = ((token : List ℕ) × (is_of size names kind token ≡ true)) × AreFit size names kinds
 
 -- the rest may be left out
-rest_free : (size : PageSize) (number : ℕ) (last : Rest) → ends (rest_stop size number last []) ≡ true
-rest_free size number Nothing = refl
-rest_free size number Message = refl
-rest_free size number Fpages = refl
+rest_free : (size : PageSize) (names : Names) (number : ℕ) (last : Rest) → ends (rest_stop size names number last []) ≡ true
+rest_free size names number Nothing = refl
+rest_free size names number Message = refl
+rest_free size names number Fpages = refl
 
 -- tokens that are right to the end
-fill : (size : PageSize) (kinds : List TokenKind) (number : ℕ) (last : Rest) → AreFit size kinds → (more : List (List ℕ)) × (ends (kinds_stop size number kinds last more) ≡ true)
-fill size [] number last given = ([], rest_free size number last)
-fill size (kind ∷ kinds) number last given =
-    let rest = fill size kinds (number + 1) last given.1 in
-    (given.0.0 ∷ rest.0, ap (λ b. ends (cond b (kinds_stop size (number + 1) kinds last rest.0) (wrong number given.0.0 (expected_at size kind given.0.0)))) given.0.1 ∙ rest.1)
+fill : (size : PageSize) (names : Names) (kinds : List TokenKind) (number : ℕ) (last : Rest) → AreFit size names kinds → (more : List (List ℕ)) × (ends (kinds_stop size names number kinds last more) ≡ true)
+fill size names [] number last given = ([], rest_free size names number last)
+fill size names (kind ∷ kinds) number last given =
+    let rest = fill size names kinds (number + 1) last given.1 in
+    (given.0.0 ∷ rest.0, ap (λ b. ends (cond b (kinds_stop size names (number + 1) kinds last rest.0) (wrong number given.0.0 (expected_at size kind given.0.0)))) given.0.1 ∙ rest.1)
 
 -- Of what a function says of tokens, it stops at this one, the first of which has this number: tokens may go on before it, and not with it.
 record StopsIn (S : List (List ℕ) → Option Place) (first : ℕ) (tokens : List (List ℕ)) (place : Place) (token : List ℕ) : Type 0 where
@@ -294,22 +304,22 @@ end_at : (first : ℕ) (tokens : List (List ℕ)) (place : Place) → end_stop f
 end_at first [] place is = absurd (no_stop place is)
 end_at first (token ∷ tokens) place is = stop_here (end_stop first) first token tokens LineEnd place is ([], refl) (λ more. refl)
 
-fpage_case : (b : Bool) (size : PageSize) (most first : ℕ) (token : List ℕ) (tokens : List (List ℕ)) (place : Place) → is_of size (Symbol Fpage) token ≡ b
-    → cond b (fpages_stop size (first + 1) most tokens) (wrong first token (symbol_expected FpageOrEnd (word_in Fpage size token))) ≡ Some place
-    → (fpages_stop size (first + 1) most tokens ≡ Some place → IsAt place.token (fpages_stop size (first + 1) most) (first + 1) tokens place)
-    → IsAt place.token (fpages_stop size first (suc most)) first (token ∷ tokens) place
-fpage_case true size most first token tokens place fit is rest =
-    later place.token (fpages_stop size first (suc most)) (fpages_stop size (first + 1) most) first token tokens place
-    (λ xs. ap (λ b. cond b (fpages_stop size (first + 1) most xs) (wrong first token (symbol_expected FpageOrEnd (word_in Fpage size token)))) fit) (rest is)
-fpage_case false size most first token tokens place fit is rest =
-    stop_here (fpages_stop size first (suc most)) first token tokens _ place is ([], refl)
-    (λ more. ap (λ b. ends (cond b (fpages_stop size (first + 1) most more) (wrong first token (symbol_expected FpageOrEnd (word_in Fpage size token))))) fit)
+fpage_case : (b : Bool) (size : PageSize) (names : Names) (most first : ℕ) (token : List ℕ) (tokens : List (List ℕ)) (place : Place) → is_of size names (Symbol Fpage) token ≡ b
+    → cond b (fpages_stop size names (first + 1) most tokens) (wrong first token (symbol_expected FpageOrEnd (word_in Fpage size token))) ≡ Some place
+    → (fpages_stop size names (first + 1) most tokens ≡ Some place → IsAt place.token (fpages_stop size names (first + 1) most) (first + 1) tokens place)
+    → IsAt place.token (fpages_stop size names first (suc most)) first (token ∷ tokens) place
+fpage_case true size names most first token tokens place fit is rest =
+    later place.token (fpages_stop size names first (suc most)) (fpages_stop size names (first + 1) most) first token tokens place
+    (λ xs. ap (λ b. cond b (fpages_stop size names (first + 1) most xs) (wrong first token (symbol_expected FpageOrEnd (word_in Fpage size token)))) fit) (rest is)
+fpage_case false size names most first token tokens place fit is rest =
+    stop_here (fpages_stop size names first (suc most)) first token tokens _ place is ([], refl)
+    (λ more. ap (λ b. ends (cond b (fpages_stop size names (first + 1) most more) (wrong first token (symbol_expected FpageOrEnd (word_in Fpage size token))))) fit)
 
-fpages_at : (size : PageSize) (most first : ℕ) (tokens : List (List ℕ)) (place : Place) → fpages_stop size first most tokens ≡ Some place → IsAt place.token (fpages_stop size first most) first tokens place
-fpages_at size most first [] place is = absurd (no_stop place is)
-fpages_at size zero first (token ∷ tokens) place is = stop_here (fpages_stop size first zero) first token tokens LineEnd place is ([], refl) (λ more. refl)
-fpages_at size (suc most) first (token ∷ tokens) place is =
-    fpage_case (is_of size (Symbol Fpage) token) size most first token tokens place refl is (λ h. fpages_at size most (first + 1) tokens place h)
+fpages_at : (size : PageSize) (names : Names) (most first : ℕ) (tokens : List (List ℕ)) (place : Place) → fpages_stop size names first most tokens ≡ Some place → IsAt place.token (fpages_stop size names first most) first tokens place
+fpages_at size names most first [] place is = absurd (no_stop place is)
+fpages_at size names zero first (token ∷ tokens) place is = stop_here (fpages_stop size names first zero) first token tokens LineEnd place is ([], refl) (λ more. refl)
+fpages_at size names (suc most) first (token ∷ tokens) place is =
+    fpage_case (is_of size names (Symbol Fpage) token) size names most first token tokens place refl is (λ h. fpages_at size names most (first + 1) tokens place h)
 
 row_case : (r : Result Row Reason) (size : PageSize) (otherwise : Expected) (S : List (List ℕ) → Option Place) (first : ℕ) (token : List ℕ) (tokens : List (List ℕ)) (place : Place)
     → ((xs : List (List ℕ)) → S (token ∷ xs) ≡ row_or_stop first token otherwise r (λ next. row_stop size (first + 1) xs next))
@@ -330,168 +340,173 @@ message_at size first [] place is = absurd (no_stop place is)
 message_at size first (token ∷ tokens) place is =
     row_case (row_begun token) size TagOrEnd (message_stop size first) first token tokens place (λ xs. refl) refl is (λ next h. row_at size (first + 1) tokens next place h)
 
-rest_at : (size : PageSize) (last : Rest) (first : ℕ) (tokens : List (List ℕ)) (place : Place) → rest_stop size first last tokens ≡ Some place → IsAt place.token (rest_stop size first last) first tokens place
-rest_at size Nothing first tokens place is = end_at first tokens place is
-rest_at size Message first tokens place is = message_at size first tokens place is
-rest_at size Fpages first tokens place is = fpages_at size 64 first tokens place is
+rest_at : (size : PageSize) (names : Names) (last : Rest) (first : ℕ) (tokens : List (List ℕ)) (place : Place) → rest_stop size names first last tokens ≡ Some place → IsAt place.token (rest_stop size names first last) first tokens place
+rest_at size names Nothing first tokens place is = end_at first tokens place is
+rest_at size names Message first tokens place is = message_at size first tokens place is
+rest_at size names Fpages first tokens place is = fpages_at size names 64 first tokens place is
 
-kind_case : (b : Bool) (size : PageSize) (kind : TokenKind) (kinds : List TokenKind) (last : Rest) (first : ℕ) (token : List ℕ) (tokens : List (List ℕ)) (place : Place) → AreFit size (kind ∷ kinds) → is_of size kind token ≡ b
-    → cond b (kinds_stop size (first + 1) kinds last tokens) (wrong first token (expected_at size kind token)) ≡ Some place
-    → (kinds_stop size (first + 1) kinds last tokens ≡ Some place → IsAt place.token (kinds_stop size (first + 1) kinds last) (first + 1) tokens place)
-    → IsAt place.token (kinds_stop size first (kind ∷ kinds) last) first (token ∷ tokens) place
-kind_case true size kind kinds last first token tokens place given fit is rest =
-    later place.token (kinds_stop size first (kind ∷ kinds) last) (kinds_stop size (first + 1) kinds last) first token tokens place
-    (λ xs. ap (λ b. cond b (kinds_stop size (first + 1) kinds last xs) (wrong first token (expected_at size kind token))) fit) (rest is)
-kind_case false size kind kinds last first token tokens place given fit is rest =
-    stop_here (kinds_stop size first (kind ∷ kinds) last) first token tokens _ place is (fill size (kind ∷ kinds) first last given)
-    (λ more. ap (λ b. ends (cond b (kinds_stop size (first + 1) kinds last more) (wrong first token (expected_at size kind token)))) fit)
+kind_case : (b : Bool) (size : PageSize) (names : Names) (kind : TokenKind) (kinds : List TokenKind) (last : Rest) (first : ℕ) (token : List ℕ) (tokens : List (List ℕ)) (place : Place) → AreFit size names (kind ∷ kinds) → is_of size names kind token ≡ b
+    → cond b (kinds_stop size names (first + 1) kinds last tokens) (wrong first token (expected_at size kind token)) ≡ Some place
+    → (kinds_stop size names (first + 1) kinds last tokens ≡ Some place → IsAt place.token (kinds_stop size names (first + 1) kinds last) (first + 1) tokens place)
+    → IsAt place.token (kinds_stop size names first (kind ∷ kinds) last) first (token ∷ tokens) place
+kind_case true size names kind kinds last first token tokens place given fit is rest =
+    later place.token (kinds_stop size names first (kind ∷ kinds) last) (kinds_stop size names (first + 1) kinds last) first token tokens place
+    (λ xs. ap (λ b. cond b (kinds_stop size names (first + 1) kinds last xs) (wrong first token (expected_at size kind token))) fit) (rest is)
+kind_case false size names kind kinds last first token tokens place given fit is rest =
+    stop_here (kinds_stop size names first (kind ∷ kinds) last) first token tokens _ place is (fill size names (kind ∷ kinds) first last given)
+    (λ more. ap (λ b. ends (cond b (kinds_stop size names (first + 1) kinds last more) (wrong first token (expected_at size kind token)))) fit)
 
-kinds_at : (size : PageSize) (kinds : List TokenKind) (last : Rest) (first : ℕ) (tokens : List (List ℕ)) (place : Place) → AreFit size kinds → kinds_stop size first kinds last tokens ≡ Some place → IsAt place.token (kinds_stop size first kinds last) first tokens place
-kinds_at size [] last first tokens place given is = rest_at size last first tokens place is
-kinds_at size (kind ∷ kinds) last first [] place given is =
+kinds_at : (size : PageSize) (names : Names) (kinds : List TokenKind) (last : Rest) (first : ℕ) (tokens : List (List ℕ)) (place : Place) → AreFit size names kinds → kinds_stop size names first kinds last tokens ≡ Some place → IsAt place.token (kinds_stop size names first kinds last) first tokens place
+kinds_at size names [] last first tokens place given is = rest_at size names last first tokens place is
+kinds_at size names (kind ∷ kinds) last first [] place given is =
     let n : first ≡ first + length {A = List ℕ} [] = omega arith in
-    subst (λ (p : Place). IsAt p.token (kinds_stop size first (kind ∷ kinds) last) first [] p) (same_Some _ _ is) (n, fill size (kind ∷ kinds) first last given)
-kinds_at size (kind ∷ kinds) last first (token ∷ tokens) place given is =
-    kind_case (is_of size kind token) size kind kinds last first token tokens place given refl is (λ h. kinds_at size kinds last (first + 1) tokens place given.1 h)
+    subst (λ (p : Place). IsAt p.token (kinds_stop size names first (kind ∷ kinds) last) first [] p) (same_Some _ _ is) (n, fill size names (kind ∷ kinds) first last given)
+kinds_at size names (kind ∷ kinds) last first (token ∷ tokens) place given is =
+    kind_case (is_of size names kind token) size names kind kinds last first token tokens place given refl is (λ h. kinds_at size names kinds last (first + 1) tokens place given.1 h)
 
 -- THE FORMS
 
-abbrev Fit : PageSize → TokenKind → Type 0
-Fit size kind = (token : List ℕ) × (is_of size kind token ≡ true)
+abbrev Fit : PageSize → Names → TokenKind → Type 0
+Fit size names kind = (token : List ℕ) × (is_of size names kind token ≡ true)
 
-fit_thread : (size : PageSize) → Fit size ThreadNumber
+fit_thread : (size : PageSize) (names : Names) → Fit size names ThreadNumber
 unfolding is_of thread_of number_of decimal_of
-fit_thread size = (codes "1", refl)
+fit_thread size names = (codes "1", refl)
 
-fit_new : (size : PageSize) → Fit size ThreadOrNew
+fit_new : (size : PageSize) (names : Names) → Fit size names ThreadOrNew
 unfolding is_of new_space_of
-fit_new size = (codes "new", refl)
+fit_new size names = (codes "new", refl)
 
-fit_nil : (size : PageSize) → Fit size ThreadOrNil
+fit_nil : (size : PageSize) (names : Names) → Fit size names ThreadOrNil
 unfolding is_of nil_or_thread_of
-fit_nil size = (codes "nil", refl)
+fit_nil size names = (codes "nil", refl)
 
-fit_any : (size : PageSize) → Fit size ThreadNilOrAny
+fit_any : (size : PageSize) (names : Names) → Fit size names ThreadNilOrAny
 unfolding is_of partner_of
-fit_any size = (codes "any", refl)
+fit_any size names = (codes "any", refl)
 
-fit_number : (size : PageSize) → Fit size Number
+fit_number : (size : PageSize) (names : Names) → Fit size names Number
 unfolding is_of number_of decimal_of
-fit_number size = (codes "0", refl)
+fit_number size names = (codes "0", refl)
 
-fit_rights : (size : PageSize) → Fit size Rights
+fit_name : (size : PageSize) (names : Names) → Fit size names NewName
+unfolding is_of new_name_of is_language_word is_name
+fit_name size names = (codes "a", refl)
+
+fit_rights : (size : PageSize) (names : Names) → Fit size names Rights
 unfolding is_of rights_of
-fit_rights size = (codes "rwx", refl)
+fit_rights size names = (codes "rwx", refl)
 
 -- a number fits wherever a symbolic token does
-fit_symbol : (kind : WordKind) (size : PageSize) → Fit size (Symbol kind)
+fit_symbol : (kind : WordKind) (size : PageSize) (names : Names) → Fit size names (Symbol kind)
 unfolding is_of symbol_of number_of decimal_of
-fit_symbol kind size = (codes "0", refl)
+fit_symbol kind size names = (codes "0", refl)
 
-abbrev IsFit : PageSize → Option Shape → Type 0
-IsFit size None = Unit {0}
-IsFit size (Some shape) = AreFit size shape.kinds
+abbrev IsFit : PageSize → Names → Option Shape → Type 0
+IsFit size names None = Unit {0}
+IsFit size names (Some shape) = AreFit size names shape.kinds
 
-fit_choose : (size : PageSize) (b : Bool) (f g : Option Shape) → IsFit size f → IsFit size g → IsFit size (cond b f g)
-fit_choose size true f g p q = p
-fit_choose size false f g p q = q
+fit_choose : (size : PageSize) (names : Names) (b : Bool) (f g : Option Shape) → IsFit size names f → IsFit size names g → IsFit size names (cond b f g)
+fit_choose size names true f g p q = p
+fit_choose size names false f g p q = q
 
-pager_fit : (size : PageSize) (name : List ℕ) → IsFit size (pager_shape_of name)
-pager_fit size name =
-    fit_choose size (is_word (codes "fault") name) _ _ (fit_thread size, (fit_number size, (fit_number size, (fit_rights size, tt))))
-    (fit_choose size (is_word (codes "region") name) _ _ (fit_thread size, (fit_number size, (fit_number size, (fit_number size, (fit_rights size, tt)))))
-    (fit_choose size (is_word (codes "serve") name) _ _ (fit_thread size, tt)
-    (fit_choose size (is_word (codes "steps") name) _ None tt tt)))
+pager_fit : (size : PageSize) (names : Names) (name : List ℕ) → IsFit size names (pager_shape_of name)
+pager_fit size names name =
+    fit_choose size names (is_word (codes "fault") name) _ _ (fit_thread size names, (fit_number size names, (fit_number size names, (fit_rights size names, tt))))
+    (fit_choose size names (is_word (codes "region") name) _ _ (fit_thread size names, (fit_number size names, (fit_number size names, (fit_number size names, (fit_rights size names, tt)))))
+    (fit_choose size names (is_word (codes "serve") name) _ _ (fit_thread size names, tt)
+    (fit_choose size names (is_word (codes "name") name) _ _ (fit_name size names, (fit_thread size names, tt))
+    (fit_choose size names (is_word (codes "steps") name) _ None tt tt))))
 
-all_fit : (size : PageSize) (name : List ℕ) → IsFit size (shape_of name)
-all_fit size name =
-    fit_choose size (is_word (codes "thread") name) _ _ (fit_thread size, (fit_new size, (fit_nil size, tt)))
-    (fit_choose size (is_word (codes "setpager") name) _ _ (fit_thread size, (fit_nil size, tt))
-    (fit_choose size (is_word (codes "delete") name) _ _ (fit_thread size, tt)
-    (fit_choose size (is_word (codes "recv") name) _ _ (fit_thread size, (fit_any size, (fit_symbol Window size, tt)))
-    (fit_choose size (is_word (codes "send") name) _ _ (fit_thread size, (fit_any size, tt))
-    (fit_choose size (is_word (codes "ipc") name) _ _ (fit_thread size, (fit_any size, (fit_any size, (fit_symbol Timeouts size, (fit_symbol Window size, tt)))))
-    (fit_choose size (is_word (codes "delegate") name) _ _ (fit_thread size, (fit_any size, (fit_number size, (fit_number size, (fit_number size, (fit_rights size, tt))))))
-    (fit_choose size (is_word (codes "part") name) _ _ (fit_thread size, (fit_any size, (fit_number size, (fit_number size, (fit_number size, (fit_number size, (fit_rights size, tt)))))))
-    (fit_choose size (is_word (codes "unmap") name) _ _ (fit_thread size, (fit_number size, tt))
-    (fit_choose size (is_word (codes "show") name) _ _ (fit_thread size, (fit_number size, (fit_number size, tt)))
-    (fit_choose size (is_word (codes "parent") name) _ _ (fit_thread size, (fit_number size, tt))
-    (pager_fit size name)))))))))))
+all_fit : (size : PageSize) (names : Names) (name : List ℕ) → IsFit size names (shape_of name)
+all_fit size names name =
+    fit_choose size names (is_word (codes "thread") name) _ _ (fit_thread size names, (fit_new size names, (fit_nil size names, tt)))
+    (fit_choose size names (is_word (codes "setpager") name) _ _ (fit_thread size names, (fit_nil size names, tt))
+    (fit_choose size names (is_word (codes "delete") name) _ _ (fit_thread size names, tt)
+    (fit_choose size names (is_word (codes "recv") name) _ _ (fit_thread size names, (fit_any size names, (fit_symbol Window size names, tt)))
+    (fit_choose size names (is_word (codes "send") name) _ _ (fit_thread size names, (fit_any size names, tt))
+    (fit_choose size names (is_word (codes "ipc") name) _ _ (fit_thread size names, (fit_any size names, (fit_any size names, (fit_symbol Timeouts size names, (fit_symbol Window size names, tt)))))
+    (fit_choose size names (is_word (codes "delegate") name) _ _ (fit_thread size names, (fit_any size names, (fit_number size names, (fit_number size names, (fit_number size names, (fit_rights size names, tt))))))
+    (fit_choose size names (is_word (codes "part") name) _ _ (fit_thread size names, (fit_any size names, (fit_number size names, (fit_number size names, (fit_number size names, (fit_number size names, (fit_rights size names, tt)))))))
+    (fit_choose size names (is_word (codes "unmap") name) _ _ (fit_thread size names, (fit_number size names, tt))
+    (fit_choose size names (is_word (codes "show") name) _ _ (fit_thread size names, (fit_number size names, (fit_number size names, tt)))
+    (fit_choose size names (is_word (codes "parent") name) _ _ (fit_thread size names, (fit_number size names, tt))
+    (pager_fit size names name)))))))))))
 
 -- LINES
 
-begins : (size : PageSize) (tokens more : List (List ℕ)) → is_ok (command_of size (tokens ++ more)) ≡ true → BeginsCommand size tokens
-begins size tokens more is = (more, is)
+begins : (size : PageSize) (names : Names) (tokens more : List (List ℕ)) → is_ok (command_of size names (tokens ++ more)) ≡ true → BeginsCommand size names tokens
+begins size names tokens more is = (more, is)
 
-begins_nothing : (size : PageSize) → BeginsCommand size []
+begins_nothing : (size : PageSize) (names : Names) → BeginsCommand size names []
 unfolding command_of
-begins_nothing size = (codes "steps" ∷ [], refl)
+begins_nothing size names = (codes "steps" ∷ [], refl)
 
-not_begun : (size : PageSize) (tokens : List (List ℕ)) → ((more : List (List ℕ)) → is_ok (command_of size (tokens ++ more)) ≡ false) → BeginsCommand size tokens → ⊥
-not_begun size tokens never b = false≢true (sym (never b.0) ∙ b.1)
+not_begun : (size : PageSize) (names : Names) (tokens : List (List ℕ)) → ((more : List (List ℕ)) → is_ok (command_of size names (tokens ++ more)) ≡ false) → BeginsCommand size names tokens → ⊥
+not_begun size names tokens never b = false≢true (sym (never b.0) ∙ b.1)
 
-stops_there : (size : PageSize) (o : Option (List ℕ)) (S : List (List ℕ) → Option Place) (name : List ℕ) (tokens : List (List ℕ)) (place : Place) → ((xs : List (List ℕ)) → is_ok (command_of size (name ∷ xs)) ≡ ends (S xs)) → S tokens ≡ Some place
-    → IsAt o S 2 tokens place → StopsThere size (name ∷ tokens) place o
-stops_there size None S name tokens place same is at = (
+stops_there : (size : PageSize) (names : Names) (o : Option (List ℕ)) (S : List (List ℕ) → Option Place) (name : List ℕ) (tokens : List (List ℕ)) (place : Place) → ((xs : List (List ℕ)) → is_ok (command_of size names (name ∷ xs)) ≡ ends (S xs)) → S tokens ≡ Some place
+    → IsAt o S 2 tokens place → StopsThere size names (name ∷ tokens) place o
+stops_there size names None S name tokens place same is at = (
   omega (arith, at.0),
-  begins size (name ∷ tokens) at.1.0 (same (tokens ++ at.1.0) ∙ at.1.1),
+  begins size names (name ∷ tokens) at.1.0 (same (tokens ++ at.1.0) ∙ at.1.1),
   λ h. false≢true (sym (same tokens ∙ ap ends is) ∙ h),
 )
-stops_there size (Some token) S name tokens place same is at = (
+stops_there size names (Some token) S name tokens place same is at = (
   name ∷ at.before,
   at.after,
   ap (λ xs. name ∷ xs) at.parts,
   omega (arith, at.number_is),
-  begins size (name ∷ at.before) at.goes_on.0 (same (at.before ++ at.goes_on.0) ∙ at.goes_on.1),
-  not_begun size ((name ∷ at.before) ++ token ∷ [])
-      (λ more. ap (λ xs. is_ok (command_of size (name ∷ xs))) (append_assoc at.before (token ∷ []) more) ∙ same (at.before ++ token ∷ more) ∙ at.stops more),
+  begins size names (name ∷ at.before) at.goes_on.0 (same (at.before ++ at.goes_on.0) ∙ at.goes_on.1),
+  not_begun size names ((name ∷ at.before) ++ token ∷ [])
+      (λ more. ap (λ xs. is_ok (command_of size names (name ∷ xs))) (append_assoc at.before (token ∷ []) more) ∙ same (at.before ++ token ∷ more) ∙ at.stops more),
 )
 
-shape_at : (size : PageSize) (o : Option Shape) (name : List ℕ) (tokens : List (List ℕ)) (place : Place) → shape_of name ≡ o → IsFit size o → shape_stop size o name tokens ≡ Some place → StopsThere size (name ∷ tokens) place place.token
-shape_at size None name tokens place form fit is =
-    subst (λ (p : Place). StopsThere size (name ∷ tokens) p p.token) (same_Some _ _ is)
-    ([], tokens, refl, refl, begins_nothing size, not_begun size (name ∷ []) (λ more. reads size name more ∙ ap (λ f. ends (shape_stop size f name more)) form))
-shape_at size (Some shape) name tokens place form fit is =
-    stops_there size place.token (kinds_stop size 2 shape.kinds shape.rest) name tokens place (λ xs. reads size name xs ∙ ap (λ f. ends (shape_stop size f name xs)) form) is
-    (kinds_at size shape.kinds shape.rest 2 tokens place fit is)
+shape_at : (size : PageSize) (names : Names) (o : Option Shape) (name : List ℕ) (tokens : List (List ℕ)) (place : Place) → shape_of name ≡ o → IsFit size names o → shape_stop size names o name tokens ≡ Some place → StopsThere size names (name ∷ tokens) place place.token
+shape_at size names None name tokens place form fit is =
+    subst (λ (p : Place). StopsThere size names (name ∷ tokens) p p.token) (same_Some _ _ is)
+    ([], tokens, refl, refl, begins_nothing size names, not_begun size names (name ∷ []) (λ more. reads size names name more ∙ ap (λ f. ends (shape_stop size names f name more)) form))
+shape_at size names (Some shape) name tokens place form fit is =
+    stops_there size names place.token (kinds_stop size names 2 shape.kinds shape.rest) name tokens place (λ xs. reads size names name xs ∙ ap (λ f. ends (shape_stop size names f name xs)) form) is
+    (kinds_at size names shape.kinds shape.rest 2 tokens place fit is)
 
-stop_case : (size : PageSize) (tokens : List (List ℕ)) (o : Option Place) → stop_of size tokens ≡ o → IsStop size tokens o
+stop_case : (size : PageSize) (names : Names) (tokens : List (List ℕ)) (o : Option Place) → stop_of size names tokens ≡ o → IsStop size names tokens o
 unfolding command_of
-stop_case size tokens None is = command_ends size tokens ∙ ap ends is
-stop_case size [] (Some place) is =
-    subst (λ (p : Place). StopsThere size [] p p.token) (same_Some _ _ is) (refl, begins_nothing size, λ h. false≢true h)
-stop_case size (name ∷ tokens) (Some place) is = shape_at size (shape_of name) name tokens place refl (all_fit size name) is
+stop_case size names tokens None is = command_ends size names tokens ∙ ap ends is
+stop_case size names [] (Some place) is =
+    subst (λ (p : Place). StopsThere size names [] p p.token) (same_Some _ _ is) (refl, begins_nothing size names, λ h. false≢true h)
+stop_case size names (name ∷ tokens) (Some place) is = shape_at size names (shape_of name) name tokens place refl (all_fit size names name) is
 
 -- A line's stop is where no command goes on.
-pub stop_right : (size : PageSize) (tokens : List (List ℕ)) (o : Option Place) → o ≡ stop_of size tokens → IsStop size tokens o
-stop_right size tokens o is = stop_case size tokens o (sym is)
+pub stop_right : (size : PageSize) (names : Names) (tokens : List (List ℕ)) (o : Option Place) → o ≡ stop_of size names tokens → IsStop size names tokens o
+stop_right size names tokens o is = stop_case size names tokens o (sym is)
 
 -- THE LOOPS
 
 -- an fpage more than there may be
-pub fpages_over : (size : PageSize) (first most : ℕ) (line rest : List (List ℕ)) (at left number : ℕ) → fpages_stop size first most line ≡ fpages_stop size at left rest → left ≡ 0 → at ≡ number
-    → end_stop number rest ≡ fpages_stop size first most line
-fpages_over size first most line [] at left number is none there = sym is
-fpages_over size first most line (token ∷ tokens) at left number is none there =
-    sym (is ∙ ap (λ m. fpages_stop size at m (token ∷ tokens)) none ∙ ap (λ (n : ℕ). wrong n token LineEnd) there)
+pub fpages_over : (size : PageSize) (names : Names) (first most : ℕ) (line rest : List (List ℕ)) (at left number : ℕ) → fpages_stop size names first most line ≡ fpages_stop size names at left rest → left ≡ 0 → at ≡ number
+    → end_stop number rest ≡ fpages_stop size names first most line
+fpages_over size names first most line [] at left number is none there = sym is
+fpages_over size names first most line (token ∷ tokens) at left number is none there =
+    sym (is ∙ ap (λ m. fpages_stop size names at m (token ∷ tokens)) none ∙ ap (λ (n : ℕ). wrong n token LineEnd) there)
 
 -- a token that is no fpage
-pub fpages_wrong : (size : PageSize) (first most : ℕ) (line rest tokens : List (List ℕ)) (token : List ℕ) (at left more number : ℕ) → fpages_stop size first most line ≡ fpages_stop size at left rest → rest ≡ token ∷ tokens → left ≡ suc more
-    → at ≡ number → is_of size (Symbol Fpage) token ≡ false → wrong number token (symbol_expected FpageOrEnd (word_in Fpage size token)) ≡ fpages_stop size first most line
-fpages_wrong size first most line rest tokens token at left more number is parts some there not =
+pub fpages_wrong : (size : PageSize) (names : Names) (first most : ℕ) (line rest tokens : List (List ℕ)) (token : List ℕ) (at left more number : ℕ) → fpages_stop size names first most line ≡ fpages_stop size names at left rest → rest ≡ token ∷ tokens → left ≡ suc more
+    → at ≡ number → is_of size names (Symbol Fpage) token ≡ false → wrong number token (symbol_expected FpageOrEnd (word_in Fpage size token)) ≡ fpages_stop size names first most line
+fpages_wrong size names first most line rest tokens token at left more number is parts some there not =
     sym (
-    is ∙ ap (fpages_stop size at left) parts ∙ ap (λ m. fpages_stop size at m (token ∷ tokens)) some
-    ∙ ap (λ b. cond b (fpages_stop size (at + 1) more tokens) (wrong at token (symbol_expected FpageOrEnd (word_in Fpage size token)))) not
+    is ∙ ap (fpages_stop size names at left) parts ∙ ap (λ m. fpages_stop size names at m (token ∷ tokens)) some
+    ∙ ap (λ b. cond b (fpages_stop size names (at + 1) more tokens) (wrong at token (symbol_expected FpageOrEnd (word_in Fpage size token)))) not
     ∙ ap (λ (n : ℕ). wrong n token (symbol_expected FpageOrEnd (word_in Fpage size token))) there
     )
 
 -- an fpage
-pub fpages_next : (size : PageSize) (first most : ℕ) (line rest tokens : List (List ℕ)) (token : List ℕ) (at left more next : ℕ) → fpages_stop size first most line ≡ fpages_stop size at left rest → rest ≡ token ∷ tokens → left ≡ suc more
-    → at + 1 ≡ next → is_of size (Symbol Fpage) token ≡ true → fpages_stop size first most line ≡ fpages_stop size next more tokens
-fpages_next size first most line rest tokens token at left more next is parts some there fit =
-    is ∙ ap (fpages_stop size at left) parts ∙ ap (λ m. fpages_stop size at m (token ∷ tokens)) some
-    ∙ ap (λ b. cond b (fpages_stop size (at + 1) more tokens) (wrong at token (symbol_expected FpageOrEnd (word_in Fpage size token)))) fit
-    ∙ ap (λ (n : ℕ). fpages_stop size n more tokens) there
+pub fpages_next : (size : PageSize) (names : Names) (first most : ℕ) (line rest tokens : List (List ℕ)) (token : List ℕ) (at left more next : ℕ) → fpages_stop size names first most line ≡ fpages_stop size names at left rest → rest ≡ token ∷ tokens → left ≡ suc more
+    → at + 1 ≡ next → is_of size names (Symbol Fpage) token ≡ true → fpages_stop size names first most line ≡ fpages_stop size names next more tokens
+fpages_next size names first most line rest tokens token at left more next is parts some there fit =
+    is ∙ ap (fpages_stop size names at left) parts ∙ ap (λ m. fpages_stop size names at m (token ∷ tokens)) some
+    ∙ ap (λ b. cond b (fpages_stop size names (at + 1) more tokens) (wrong at token (symbol_expected FpageOrEnd (word_in Fpage size token)))) fit
+    ∙ ap (λ (n : ℕ). fpages_stop size names n more tokens) there
 
 -- a token of a message
 pub row_next : (size : PageSize) (first number : ℕ) (begun row next : Row) (line rest tokens : List (List ℕ)) (token : List ℕ) → row_stop size first line begun ≡ row_stop size number rest row → rest ≡ token ∷ tokens

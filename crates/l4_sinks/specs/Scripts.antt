@@ -60,10 +60,10 @@ RunsScript frames size strict explain old new written now (Err Memory) = (new �
 -- Where a read failed, it is the history of the whole lines.
 abbrev pub RecordsScript : ℕ → PageSize → Bool → Option (List ℕ) → Option (List ℕ) → List Entry → Result Ended RunFault → Type 0
 RecordsScript frames size strict old new history (Ok ended) =
-    (a : AnswersFirst frames size strict old new) × (history ≡ a.is_answered.last.history) × (ended.lines ≡ length a.lines)
+    (a : AnswersFirst frames size strict old new) × (history ≡ a.is_answered.last.session.history) × (ended.lines ≡ length a.lines)
     × (ended.refused ≡ (if strict then last_refusal None a.told else None))
     × ((IsAtEnd new × (a.lines ≡ lines_of a.read)) ⊎ (is_some ended.refused ≡ true))
 RecordsScript frames size strict old new history (Err Read) =
-    (a : AnswersFirst frames size strict old new) × (history ≡ a.is_answered.last.history) × (a.lines ≡ filter (λ line. line.whole) (lines_of a.read))
+    (a : AnswersFirst frames size strict old new) × (history ≡ a.is_answered.last.session.history) × (a.lines ≡ filter (λ line. line.whole) (lines_of a.read))
 RecordsScript frames size strict old new history (Err Write) = ⊥
 RecordsScript frames size strict old new history (Err Memory) = ⊥

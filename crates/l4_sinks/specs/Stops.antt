@@ -2,17 +2,18 @@
 use Rattle.std.specs.Prelude.{◌≡◌, ℕ, zero, suc, ◌+◌, List, [], ◌∷◌, ◌++◌, length, Option, Some, None, Result, Ok, Err, IsOk, option_map, if◌then◌else◌, codes}
 use Rattle.l4_fpage.specs.declared.sizes.PageSize.{PageSize}
 use Rattle.l4_msg.specs.Sizes.{max_words}
+use Rattle.l4_names.specs.Names.{Names, is_name}
 use Rattle.l4_symbols.specs.Computed.{word_in}
 use Rattle.l4_symbols.specs.Rows.{Row, row_begun, row_added}
 use Rattle.l4_symbols.specs.declared.reasons.Reason.{Reason}
 use Rattle.l4_symbols.specs.declared.reasons.Reason.TheVariants.{NoTag, Unknown, Window as NoWindow, Fpage as NoFpage, Timeouts as NoTimeouts}
 use Rattle.l4_symbols.specs.declared.words.WordKind.TheVariants.{Fpage, Window, Timeouts}
 use Rattle.l4_shell.specs.declared.kinds.TokenKind.{TokenKind}
-use Rattle.l4_shell.specs.declared.kinds.TokenKind.TheVariants.{ThreadNumber, ThreadOrNew, ThreadOrNil, ThreadNilOrAny, Number, Symbol, Rights}
+use Rattle.l4_shell.specs.declared.kinds.TokenKind.TheVariants.{ThreadNumber, ThreadOrNew, ThreadOrNil, ThreadNilOrAny, Number, Symbol, Rights, NewName}
 use Rattle.l4_shell.specs.Commands.{is_word, command_of}
 use Rattle.l4_shell.specs.Kinds.{is_of}
 use Rattle.l4_sinks.specs.declared.stops.Expected.{Expected}
-use Rattle.l4_sinks.specs.declared.stops.Expected.TheVariants.{CommandName, Token, Because, TagOrEnd, WordOrEnd, FpageOrEnd, LineEnd}
+use Rattle.l4_sinks.specs.declared.stops.Expected.TheVariants.{CommandName, Token, Because, OtherName, TagOrEnd, WordOrEnd, FpageOrEnd, LineEnd}
 use Rattle.l4_sinks.specs.declared.stops.Form.{Form}
 use Rattle.l4_sinks.specs.declared.stops.Rest.{Rest}
 use Rattle.l4_sinks.specs.declared.stops.Rest.TheVariants.{Nothing, Message, Fpages}
@@ -42,8 +43,9 @@ pager_shape_of name =
     if is_word (codes "fault") name then just (ThreadNumber ∷ Number ∷ Number ∷ Rights ∷ [])
     else (if is_word (codes "region") name then just (ThreadNumber ∷ Number ∷ Number ∷ Number ∷ Rights ∷ [])
     else (if is_word (codes "serve") name then just (ThreadNumber ∷ [])
+    else (if is_word (codes "name") name then just (NewName ∷ ThreadNumber ∷ [])
     else (if is_word (codes "steps") name then just []
-    else None)))
+    else None))))
 
 -- by the command's name; None where there is no such command
 abbrev pub shape_of : List ℕ → Option Shape
@@ -83,9 +85,14 @@ abbrev pub symbol_expected : Expected → Result ℕ Reason → Expected
 symbol_expected otherwise (Ok word) = otherwise
 symbol_expected otherwise (Err reason) = expected_for otherwise reason
 
+-- what would be right in place of a token that may not become a name
+abbrev pub expected_name : List ℕ → Expected
+expected_name token = if is_name token then OtherName else Token NewName
+
 -- what would be right in place of a token that is not of this kind
 abbrev pub expected_at : PageSize → TokenKind → List ℕ → Expected
 expected_at size (Symbol word) token = symbol_expected (Token (Symbol word)) (word_in word size token)
+expected_at size NewName token = expected_name token
 expected_at size kind token = Token kind
 
 -- no more tokens
@@ -94,11 +101,11 @@ end_stop number [] = None
 end_stop number (token ∷ tokens) = wrong number token LineEnd
 
 -- at most so many fpages, the first of which is the token of this number; None where that is right to the end
-abbrev pub fpages_stop : PageSize → ℕ → ℕ → List (List ℕ) → Option Place
-fpages_stop size number most [] = None
-fpages_stop size number zero (token ∷ tokens) = wrong number token LineEnd
-fpages_stop size number (suc most) (token ∷ tokens) =
-    if is_of size (Symbol Fpage) token then fpages_stop size (number + 1) most tokens
+abbrev pub fpages_stop : PageSize → Names → ℕ → ℕ → List (List ℕ) → Option Place
+fpages_stop size names number most [] = None
+fpages_stop size names number zero (token ∷ tokens) = wrong number token LineEnd
+fpages_stop size names number (suc most) (token ∷ tokens) =
+    if is_of size names (Symbol Fpage) token then fpages_stop size names (number + 1) most tokens
     else wrong number token (symbol_expected FpageOrEnd (word_in Fpage size token))
 
 -- behind a token of this number: what follows it, or that it is wrong
@@ -116,44 +123,44 @@ abbrev pub message_stop : PageSize → ℕ → List (List ℕ) → Option Place
 message_stop size number [] = None
 message_stop size number (token ∷ tokens) = row_or_stop number token TagOrEnd (row_begun token) (λ row. row_stop size (number + 1) tokens row)
 
-abbrev pub rest_stop : PageSize → ℕ → Rest → List (List ℕ) → Option Place
-rest_stop size number Nothing tokens = end_stop number tokens
-rest_stop size number Message tokens = message_stop size number tokens
-rest_stop size number Fpages tokens = fpages_stop size number max_words tokens
+abbrev pub rest_stop : PageSize → Names → ℕ → Rest → List (List ℕ) → Option Place
+rest_stop size names number Nothing tokens = end_stop number tokens
+rest_stop size names number Message tokens = message_stop size number tokens
+rest_stop size names number Fpages tokens = fpages_stop size names number max_words tokens
 
 -- tokens of these kinds, and then the rest
-abbrev pub kinds_stop : PageSize → ℕ → List TokenKind → Rest → List (List ℕ) → Option Place
-kinds_stop size number [] rest tokens = rest_stop size number rest tokens
-kinds_stop size number (kind ∷ kinds) rest [] = missing number (Token kind)
-kinds_stop size number (kind ∷ kinds) rest (token ∷ tokens) =
-    if is_of size kind token then kinds_stop size (number + 1) kinds rest tokens else wrong number token (expected_at size kind token)
+abbrev pub kinds_stop : PageSize → Names → ℕ → List TokenKind → Rest → List (List ℕ) → Option Place
+kinds_stop size names number [] rest tokens = rest_stop size names number rest tokens
+kinds_stop size names number (kind ∷ kinds) rest [] = missing number (Token kind)
+kinds_stop size names number (kind ∷ kinds) rest (token ∷ tokens) =
+    if is_of size names kind token then kinds_stop size names (number + 1) kinds rest tokens else wrong number token (expected_at size kind token)
 
-abbrev pub shape_stop : PageSize → Option Shape → List ℕ → List (List ℕ) → Option Place
-shape_stop size None name tokens = wrong 1 name CommandName
-shape_stop size (Some shape) name tokens = kinds_stop size 2 shape.kinds shape.rest tokens
+abbrev pub shape_stop : PageSize → Names → Option Shape → List ℕ → List (List ℕ) → Option Place
+shape_stop size names None name tokens = wrong 1 name CommandName
+shape_stop size names (Some shape) name tokens = kinds_stop size names 2 shape.kinds shape.rest tokens
 
--- the first token that is not right where pages have this size, or the first that is missing; None where the tokens are a command
-abbrev pub stop_of : PageSize → List (List ℕ) → Option Place
-stop_of size [] = missing 1 CommandName
-stop_of size (name ∷ tokens) = shape_stop size (shape_of name) name tokens
+-- the first token that is not right where pages have this size and threads these names, or the first that is missing; None where the tokens are a command
+abbrev pub stop_of : PageSize → Names → List (List ℕ) → Option Place
+stop_of size names [] = missing 1 CommandName
+stop_of size names (name ∷ tokens) = shape_stop size names (shape_of name) name tokens
 
 -- WHAT THIS SAYS OF THE LANGUAGE
 
 -- these tokens are a command, or begin one
-abbrev pub BeginsCommand : PageSize → List (List ℕ) → Type 0
-BeginsCommand size tokens = (more : List (List ℕ)) × IsOk (command_of size (tokens ++ more))
+abbrev pub BeginsCommand : PageSize → Names → List (List ℕ) → Type 0
+BeginsCommand size names tokens = (more : List (List ℕ)) × IsOk (command_of size names (tokens ++ more))
 
 -- the tokens before the stop begin a command, and with the token there they begin none
-abbrev pub StopsThere : PageSize → List (List ℕ) → Place → Option (List ℕ) → Type 0
-StopsThere size tokens place None = (place.number ≡ length tokens + 1) × BeginsCommand size tokens × (¬ IsOk (command_of size tokens))
-StopsThere size tokens place (Some token) =
+abbrev pub StopsThere : PageSize → Names → List (List ℕ) → Place → Option (List ℕ) → Type 0
+StopsThere size names tokens place None = (place.number ≡ length tokens + 1) × BeginsCommand size names tokens × (¬ IsOk (command_of size names tokens))
+StopsThere size names tokens place (Some token) =
     (before : List (List ℕ)) × (after : List (List ℕ)) × (tokens ≡ before ++ token ∷ after) × (place.number ≡ length before + 1)
-    × BeginsCommand size before × (BeginsCommand size (before ++ token ∷ []) → ⊥)
+    × BeginsCommand size names before × (BeginsCommand size names (before ++ token ∷ []) → ⊥)
 
 -- A LINE'S STOP: none of a command; of any other line the one token, or the end, that no command has there
-abbrev pub IsStop : PageSize → List (List ℕ) → Option Place → Type 0
-IsStop size tokens None = IsOk (command_of size tokens)
-IsStop size tokens (Some place) = StopsThere size tokens place place.token
+abbrev pub IsStop : PageSize → Names → List (List ℕ) → Option Place → Type 0
+IsStop size names tokens None = IsOk (command_of size names tokens)
+IsStop size names tokens (Some place) = StopsThere size names tokens place place.token
 
 -- AS VALUES OF THE CODE
 

@@ -9,16 +9,17 @@ use Rattle.l4_threads.specs.declared.IpcReply.{IpcReply}
 use Rattle.l4_threads.specs.declared.Reply.{Reply}
 use Rattle.l4_threads.specs.declared.Reply.TheVariants.{Ipc, Hit, Answered, FaultFailed, Unmapped, Controlled, Gone}
 use Rattle.l4_answers.specs.Refusals.{Refusal}
-use Rattle.l4_answers.specs.Reports.{Report, RefusedLine, UnreadLine, RefusedAct, Transferred, TimedOut, Waits, Ended, Page, Shown, Parent, AddedRegion, StepCount}
+use Rattle.l4_answers.specs.Reports.{Report, RefusedLine, UnreadLine, RefusedAct, Transferred, TimedOut, Waits, Ended, Page, Shown, Parent, AddedRegion, Named, StepCount}
+use Rattle.l4_names.specs.Names.{Names}
 use Rattle.l4_refusals.specs.Texts.{texts, text_in, spelled}
 use Rattle.l4_reasons.specs.Reasons.{line_says, token_says, symbol_says, missing_says}
 use Rattle.l4_symbols.specs.Reasons.{reason_text}
 use Rattle.l4_symbols.specs.declared.words.WordKind.TheVariants.{Fpage, Window, Timeouts}
 use Rattle.l4_text.specs.Tokens.{tokens_of}
 use Rattle.l4_shell.specs.declared.kinds.TokenKind.{TokenKind}
-use Rattle.l4_shell.specs.declared.kinds.TokenKind.TheVariants.{ThreadNumber, ThreadOrNew, ThreadOrNil, ThreadNilOrAny, Number, Symbol, Rights}
+use Rattle.l4_shell.specs.declared.kinds.TokenKind.TheVariants.{ThreadNumber, ThreadOrNew, ThreadOrNil, ThreadNilOrAny, Number, Symbol, Rights, NewName}
 use Rattle.l4_sinks.specs.declared.stops.Expected.{Expected}
-use Rattle.l4_sinks.specs.declared.stops.Expected.TheVariants.{CommandName, Token, Because, TagOrEnd, WordOrEnd, FpageOrEnd, LineEnd}
+use Rattle.l4_sinks.specs.declared.stops.Expected.TheVariants.{CommandName, Token, Because, OtherName, TagOrEnd, WordOrEnd, FpageOrEnd, LineEnd}
 use Rattle.l4_sinks.specs.Stops.{Place as Stopped, stop_of}
 
 unfoldable pub transfer_says : Outcome → List ℕ
@@ -77,7 +78,8 @@ code_says code =
     else (if bytes_eq code (codes "S2") then codes "the line has too few tokens, too many, or an invalid one"
     else (if bytes_eq code (codes "S3") then codes "the line is longer than 4,096 bytes"
     else (if bytes_eq code (codes "S4") then codes "the line does not end with a newline"
-    else (text_in texts (spelled code)).1)))
+    else (if bytes_eq code (codes "S5") then codes "the script already has 64 names"
+    else (text_in texts (spelled code)).1))))
 
 -- what the number that a code carries is: of an item, of a word, or of the messages of a plan
 unfoldable pub number_name : List ℕ → List ℕ
@@ -109,26 +111,31 @@ shown_says = codes "the number of requested pages that are present"
 unfoldable pub region_says : List ℕ
 region_says = codes "the region was added to the table"
 
+unfoldable pub named_says : List ℕ
+named_says = codes "from the next line on, the name stands for this thread"
+
 unfoldable pub steps_says : List ℕ
 steps_says = codes "the number of steps so far: calls that started, transfers and expiries"
 
 -- what a token of this kind is
 unfoldable pub kind_says : TokenKind → List ℕ
-kind_says ThreadNumber = codes "a thread number"
-kind_says ThreadOrNew = codes "a thread number or \"new\""
-kind_says ThreadOrNil = codes "a thread number or \"nil\""
-kind_says ThreadNilOrAny = codes "a thread number, \"nil\" or \"any\""
+kind_says ThreadNumber = codes "a thread number or a name"
+kind_says ThreadOrNew = codes "a thread number, a name or \"new\""
+kind_says ThreadOrNil = codes "a thread number, a name or \"nil\""
+kind_says ThreadNilOrAny = codes "a thread number, a name, \"nil\" or \"any\""
 kind_says Number = codes "a number from 0 to 0xffffffff"
 kind_says (Symbol Window) = codes "a number, \"all\", \"none\" or pages, as \"32+4\""
 kind_says (Symbol Timeouts) = codes "a number, \"never\", \"zero\" or two of these, as \"zero,never\""
 kind_says (Symbol Fpage) = codes "a number or an fpage, as \"16+4:rwx\""
 kind_says Rights = codes "rights, as \"rwx\" or \"r--\""
+kind_says NewName = codes "a name: a letter, then letters, digits or hyphens, at most 24 in all"
 
 -- what is right at a place of a line
 unfoldable pub expected_says : Expected → List ℕ
 expected_says CommandName = codes "a command"
 expected_says (Token kind) = kind_says kind
 expected_says (Because reason) = reason_text reason
+expected_says OtherName = codes "a name that is not a word of the language"
 expected_says TagOrEnd = codes "a number from 0 to 0xffffffff, a tag, as \"tag:7\", or the end of the line"
 expected_says WordOrEnd = codes "a number from 0 to 0xffffffff, an item, as \"map:16+4>32:rwx\", or the end of the line"
 expected_says FpageOrEnd = codes "a number from 0 to 0xffffffff, an fpage, as \"16+4:rwx\", or the end of the line"
@@ -154,13 +161,13 @@ stopped_says line refusal None = line_refusal_says line refusal
 stopped_says line refusal (Some place) = stop_says line place.number place.token place.expected
 
 -- why a line can't be read; of a line that is cut or too long there are no bytes
-abbrev pub unread_says : PageSize → ℕ → Refusal → List ℕ → List ℕ
-unread_says size line refusal bytes = if length bytes == 0 then line_refusal_says line refusal else stopped_says line refusal (stop_of size (tokens_of bytes))
+abbrev pub unread_says : PageSize → Names → ℕ → Refusal → List ℕ → List ℕ
+unread_says size names line refusal bytes = if length bytes == 0 then line_refusal_says line refusal else stopped_says line refusal (stop_of size names (tokens_of bytes))
 
 -- WHAT AN ANSWER MEANS, but for a message that was received
 abbrev pub says : Report → List ℕ
 says (RefusedLine line refusal) = line_refusal_says line refusal
-says (UnreadLine size line refusal bytes) = unread_says size line refusal bytes
+says (UnreadLine size names line refusal bytes) = unread_says size names line refusal bytes
 says (RefusedAct thread refusal) = refusal_says refusal
 says (Transferred sender receiver outcome) = transfer_says outcome
 says (TimedOut thread) = expired_says
@@ -170,6 +177,7 @@ says (Page page mapping) = page_says
 says (Shown count) = shown_says
 says (Parent mapping) = parent_says mapping
 says AddedRegion = region_says
+says (Named number) = named_says
 says (StepCount count) = steps_says
 
 -- the words of the message that an Ipc without an error received from a thread

@@ -9,6 +9,7 @@ use crate::sentences::{code_says, expected_says, number_name};
 use crate::stops::{Expected, Stop, stop_of};
 use l4_answers::Code;
 use l4_fpage::PageSize;
+use l4_names::Names;
 use l4_reasons::{Reason, line_reason, missing_reason, symbol_reason, token_reason};
 
 /// Adds the meaning of the number that a code carries.
@@ -78,21 +79,27 @@ fn stop_reason(line: u64, stop: Stop<'_>) -> Reason
 }
 
 /// Where a line stops being a command, or else why it is refused.
-fn stopped_reason(line: u64, code: &Code, bytes: &[u8], size: PageSize) -> Reason
-    ensures { result ≡ stopped_says line code.now (stop_of size (tokens_of bytes.now)) }
+fn stopped_reason(line: u64, code: &Code, bytes: &[u8], size: PageSize, names: &Names) -> Reason
+    ensures { result ≡ stopped_says line code.now (stop_of size names.now (tokens_of bytes.now)) }
 {
-    match stop_of(bytes, size) {
+    match stop_of(bytes, size, names) {
         None => refusal_reason(line, code),
         Some(stop) => stop_reason(line, stop),
     }
 }
 
-/// Why a line cannot be read, where pages have this size. No bytes are passed if it is cut or too long.
-pub(crate) fn unread_reason(line: u64, code: &Code, bytes: &[u8], size: PageSize) -> Reason
-    ensures { result ≡ unread_says size line code.now bytes.now }
+/// Why a line cannot be read, where pages have this size and threads these names. No bytes are passed if it is cut or too long.
+pub(crate) fn unread_reason(
+    line: u64,
+    code: &Code,
+    bytes: &[u8],
+    size: PageSize,
+    names: &Names,
+) -> Reason
+    ensures { result ≡ unread_says size names.now line code.now bytes.now }
 {
     if bytes.is_empty() {
         return refusal_reason(line, code);
     }
-    stopped_reason(line, code, bytes, size)
+    stopped_reason(line, code, bytes, size, names)
 }

@@ -1,6 +1,6 @@
 //! What answers mean, each in a sentence.
 ghost use Rattle.std.specs.Prelude.{◌≡◌, ◌≤◌, length, bytes_eq};
-ghost use Rattle.l4_sinks.specs.Words.{transfer_says, origin_says, parent_says, failed_says, ipc_says, gone_says, reply_says, code_says, number_name, kind_says, expected_says, expired_says, waits_says, page_says, shown_says, region_says, steps_says};
+ghost use Rattle.l4_sinks.specs.Words.{transfer_says, origin_says, parent_says, failed_says, ipc_says, gone_says, reply_says, code_says, number_name, kind_says, expected_says, expired_says, waits_says, page_says, shown_says, region_says, named_says, steps_says};
 
 use crate::stops::Expected;
 use l4_ipc::Outcome;
@@ -175,6 +175,15 @@ pub(crate) fn region_says() -> &'static [u8]
     b"the region was added to the table"
 }
 
+/// The meaning of a `named` line.
+#[tactic(auto, unfolding(crate::specs::Words::named_says))]
+pub(crate) fn named_says() -> &'static [u8]
+    ensures says { result.now ≡ named_says }
+    ensures short { length result.now ≤ 160 }
+{
+    b"from the next line on, the name stands for this thread"
+}
+
 /// The meaning of a `steps` line.
 #[tactic(auto, unfolding(crate::specs::Words::steps_says))]
 pub(crate) fn steps_says() -> &'static [u8]
@@ -191,10 +200,10 @@ fn kind_says(kind: TokenKind) -> &'static [u8]
     ensures short { length result.now ≤ 160 }
 {
     match kind {
-        TokenKind::ThreadNumber => b"a thread number",
-        TokenKind::ThreadOrNew => b"a thread number or \"new\"",
-        TokenKind::ThreadOrNil => b"a thread number or \"nil\"",
-        TokenKind::ThreadNilOrAny => b"a thread number, \"nil\" or \"any\"",
+        TokenKind::ThreadNumber => b"a thread number or a name",
+        TokenKind::ThreadOrNew => b"a thread number, a name or \"new\"",
+        TokenKind::ThreadOrNil => b"a thread number, a name or \"nil\"",
+        TokenKind::ThreadNilOrAny => b"a thread number, a name, \"nil\" or \"any\"",
         TokenKind::Number => b"a number from 0 to 0xffffffff",
         TokenKind::Symbol(WordKind::Window) => {
             b"a number, \"all\", \"none\" or pages, as \"32+4\""
@@ -204,6 +213,9 @@ fn kind_says(kind: TokenKind) -> &'static [u8]
         }
         TokenKind::Symbol(WordKind::Fpage) => b"a number or an fpage, as \"16+4:rwx\"",
         TokenKind::Rights => b"rights, as \"rwx\" or \"r--\"",
+        TokenKind::NewName => {
+            b"a name: a letter, then letters, digits or hyphens, at most 24 in all"
+        }
     }
 }
 
@@ -217,6 +229,7 @@ pub(crate) fn expected_says(expected: Expected) -> &'static [u8]
         Expected::CommandName => b"a command",
         Expected::Token(kind) => kind_says(kind),
         Expected::Because(reason) => reason.text(),
+        Expected::OtherName => b"a name that is not a word of the language",
         Expected::TagOrEnd => {
             b"a number from 0 to 0xffffffff, a tag, as \"tag:7\", or the end of the line"
         }
@@ -254,6 +267,9 @@ pub(crate) fn code_says(code: &[u8]) -> &'static [u8]
     }
     if is(code, b"S4") {
         return b"the line does not end with a newline";
+    }
+    if is(code, b"S5") {
+        return b"the script already has 64 names";
     }
     text_of(number_of(code)).line
 }

@@ -8,6 +8,7 @@ use l4_answers::{Code, Sink};
 use l4_fpage::PageSize;
 use l4_ipc::Outcome;
 use l4_mapdb::Mapping;
+use l4_names::Names;
 use l4_reasons::Reason;
 use l4_text::{LineReader, RunFault};
 use l4_threads::Reply;
@@ -43,11 +44,11 @@ impl Silent {
     /// Keeps why a line cannot be read. It is a function of its own, so that its reason is built only in a strict run.
     #[cold]
     #[inline(never)]
-    fn keep_unread(&mut self, line: u64, code: &Code, bytes: &[u8], size: PageSize)
+    fn keep_unread(&mut self, line: u64, code: &Code, bytes: &[u8], size: PageSize, names: &Names)
         ensures strict { self.new.strict ≡ self.old.strict }
-        ensures refused { self.new.refused ≡ Some (unread_says size line code.now bytes.now) }
+        ensures refused { self.new.refused ≡ Some (unread_says size names.now line code.now bytes.now) }
     {
-        self.refused = Some(unread_reason(line, code, bytes, size));
+        self.refused = Some(unread_reason(line, code, bytes, size, names));
     }
 
     /// Keeps why a line is refused.
@@ -74,9 +75,9 @@ impl Sink for Silent {
         }
     }
 
-    fn unread_line(&mut self, line: u64, code: &Code, bytes: &[u8], size: PageSize) {
+    fn unread_line(&mut self, line: u64, code: &Code, bytes: &[u8], size: PageSize, names: &Names) {
         if self.strict {
-            self.keep_unread(line, code, bytes, size);
+            self.keep_unread(line, code, bytes, size, names);
         }
     }
 
@@ -97,6 +98,8 @@ impl Sink for Silent {
     fn parent(&mut self, mapping: Option<Mapping>) {}
 
     fn region_added(&mut self) {}
+
+    fn named(&mut self, number: u32) {}
 
     fn steps(&mut self, count: u64) {}
 

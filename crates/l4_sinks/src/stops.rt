@@ -4,11 +4,12 @@ ghost use Rattle.l4_msg.specs.Sizes.{max_words};
 ghost use Rattle.l4_symbols.specs.Computed.{word_in};
 ghost use Rattle.l4_symbols.specs.Rows.{row_in};
 ghost use Rattle.l4_text.specs.Tokens.{tokens_of};
-ghost use Rattle.l4_sinks.specs.Stops.{with_rest, pager_shape_of, shape_of, shape_in, expected_for, expected_at, symbol_expected, end_stop, fpages_stop, row_stop, message_stop, rest_stop, kinds_stop, stop_of, place_in, IsStop};
+ghost use Rattle.l4_sinks.specs.Stops.{with_rest, pager_shape_of, shape_of, shape_in, expected_for, expected_at, symbol_expected, expected_name, end_stop, fpages_stop, row_stop, message_stop, rest_stop, kinds_stop, stop_of, place_in, IsStop};
 
 use crate::sentences::is;
 use l4_fpage::PageSize;
 use l4_msg::MAX_WORDS;
+use l4_names::{Names, is_name};
 use l4_shell::{TokenKind, is_of_kind};
 use l4_symbols::{MessageTokens, Reason, WordKind, word_of};
 use l4_text::next_token;
@@ -22,6 +23,8 @@ pub enum Expected {
     Token(TokenKind),
     /// What this reason says: the token is almost right.
     Because(Reason),
+    /// A name that is not a word of the language.
+    OtherName,
     /// A number, a tag, or the end of the line.
     TagOrEnd,
     /// A number, an item, or the end of the line.
@@ -118,6 +121,8 @@ const REGION_KINDS: &[TokenKind] = &[
     TokenKind::Rights,
 ];
 
+const NAME_KINDS: &[TokenKind] = &[TokenKind::NewName, TokenKind::ThreadNumber];
+
 /// Where a line stops being a command.
 #[derive(Clone, Copy)]
 pub struct Stop<'a> {
@@ -138,7 +143,7 @@ fn of_kinds(kinds: &'static [TokenKind], rest: Rest) -> Option<Form>
     Some(Form { kinds, rest })
 }
 
-/// The tokens of a command of pagers or of the history.
+/// The tokens of a command of pagers, of names or of the history.
 fn pager_form(name: &[u8]) -> Option<Form>
     ensures form { option_map shape_in result ≡ pager_shape_of name.now }
     ensures few { IfSome result (λ f. length f.kinds.now ≤ 10) }
@@ -151,6 +156,9 @@ fn pager_form(name: &[u8]) -> Option<Form>
     }
     if is(name, b"serve") {
         return of_kinds(ONE_THREAD, Rest::Nothing);
+    }
+    if is(name, b"name") {
+        return of_kinds(NAME_KINDS, Rest::Nothing);
     }
     if is(name, b"steps") {
         return of_kinds(&[], Rest::Nothing);
@@ -223,12 +231,24 @@ fn symbol_expected(otherwise: Expected, kind: WordKind, token: &[u8], size: Page
     }
 }
 
+/// What would be right in place of a token that may not become a name.
+fn name_expected(token: &[u8]) -> Expected
+    ensures { result ≡ expected_name token.now }
+{
+    if is_name(token) {
+        Expected::OtherName
+    } else {
+        Expected::Token(TokenKind::NewName)
+    }
+}
+
 /// What would be right in place of a token that is not of this kind.
 fn expected_at(kind: TokenKind, token: &[u8], size: PageSize) -> Expected
     ensures { result ≡ expected_at size kind token.now }
 {
     match kind {
         TokenKind::Symbol(word) => symbol_expected(Expected::Token(kind), word, token, size),
+        TokenKind::NewName => name_expected(token),
         _ => Expected::Token(kind),
     }
 }
@@ -248,16 +268,16 @@ fn end_stop(number: u64, line: &[u8]) -> Option<Stop<'_>>
 }
 
 /// Where a text stops that has fpages, at most as many as there are message registers, and no more. Its first token has this number.
-fn fpages_stop(first: u64, line: &[u8], size: PageSize) -> Option<Stop<'_>>
+fn fpages_stop<'a>(first: u64, line: &'a [u8], size: PageSize, names: &Names) -> Option<Stop<'a>>
     requires { first ≤ 100 }
-    ensures { option_map place_in result ≡ fpages_stop size first max_words (tokens_of line.now) }
+    ensures { option_map place_in result ≡ fpages_stop size names.now first max_words (tokens_of line.now) }
 {
     let mut rest = line;
     for count in 0..MAX_WORDS {
         let Some((token, after)) = next_token(rest) else {
             return None;
         };
-        if !is_of_kind(TokenKind::Symbol(WordKind::Fpage), token, size) {
+        if !is_of_kind(TokenKind::Symbol(WordKind::Fpage), token, size, names) {
             return Some(Stop {
                 number: first + count as u64,
                 token: Some(token),
@@ -311,14 +331,20 @@ fn message_stop(first: u64, line: &[u8], size: PageSize) -> Option<Stop<'_>>
 }
 
 /// Where a text stops that is the rest of a command. Its first token has this number.
-fn rest_stop(number: u64, rest: Rest, line: &[u8], size: PageSize) -> Option<Stop<'_>>
+fn rest_stop<'a>(
+    number: u64,
+    rest: Rest,
+    line: &'a [u8],
+    size: PageSize,
+    names: &Names,
+) -> Option<Stop<'a>>
     requires { number ≤ 50 }
-    ensures { option_map place_in result ≡ rest_stop size number rest (tokens_of line.now) }
+    ensures { option_map place_in result ≡ rest_stop size names.now number rest (tokens_of line.now) }
 {
     match rest {
         Rest::Nothing => end_stop(number, line),
         Rest::Message => message_stop(number, line, size),
-        Rest::Fpages => fpages_stop(number, line, size),
+        Rest::Fpages => fpages_stop(number, line, size, names),
     }
 }
 
@@ -328,9 +354,10 @@ fn kinds_stop<'a>(
     last: Rest,
     line: &'a [u8],
     size: PageSize,
+    names: &Names,
 ) -> Option<Stop<'a>>
     requires { length kinds.now ≤ 10 }
-    ensures { option_map place_in result ≡ kinds_stop size 2 kinds.now last (tokens_of line.now) }
+    ensures { option_map place_in result ≡ kinds_stop size names.now 2 kinds.now last (tokens_of line.now) }
 {
     let mut rest = line;
     let mut number = 2u64;
@@ -342,7 +369,7 @@ fn kinds_stop<'a>(
                 expected: Expected::Token(*kind),
             });
         };
-        if !is_of_kind(*kind, token, size) {
+        if !is_of_kind(*kind, token, size, names) {
             return Some(Stop {
                 number,
                 token: Some(token),
@@ -352,12 +379,12 @@ fn kinds_stop<'a>(
         rest = after;
         number += 1;
     }
-    rest_stop(number, last, rest, size)
+    rest_stop(number, last, rest, size, names)
 }
 
 /// Where a line stops, by one token after another.
-fn first_stop(line: &[u8], size: PageSize) -> Option<Stop<'_>>
-    ensures { option_map place_in result ≡ stop_of size (tokens_of line.now) }
+fn first_stop<'a>(line: &'a [u8], size: PageSize, names: &Names) -> Option<Stop<'a>>
+    ensures { option_map place_in result ≡ stop_of size names.now (tokens_of line.now) }
 {
     let Some((name, rest)) = next_token(line) else {
         return Some(Stop {
@@ -372,15 +399,15 @@ fn first_stop(line: &[u8], size: PageSize) -> Option<Stop<'_>>
             token: Some(name),
             expected: Expected::CommandName,
         }),
-        Some(form) => kinds_stop(form.kinds, form.rest, rest, size),
+        Some(form) => kinds_stop(form.kinds, form.rest, rest, size, names),
     }
 }
 
-/// Returns the token at which a line stops being a command, where pages have this size: those before it begin a command, and with it they begin
+/// Returns the token at which a line stops being a command, where pages have this size and threads these names: those before it begin a command, and with it they begin
 /// none. Returns None for a command.
-pub fn stop_of(line: &[u8], size: PageSize) -> Option<Stop<'_>>
-    ensures value { option_map place_in result ≡ stop_of size (tokens_of line.now) }
-    ensures right { IsStop size (tokens_of line.now) (option_map place_in result) }
+pub fn stop_of<'a>(line: &'a [u8], size: PageSize, names: &Names) -> Option<Stop<'a>>
+    ensures value { option_map place_in result ≡ stop_of size names.now (tokens_of line.now) }
+    ensures right { IsStop size names.now (tokens_of line.now) (option_map place_in result) }
 {
-    first_stop(line, size)
+    first_stop(line, size, names)
 }

@@ -12,18 +12,19 @@ ghost use Rattle.l4_sinks.specs.Inside.Tellers.{HasReported, HasWritten, is_over
 
 use crate::reasons::{act_reason, refusal_reason, unread_reason};
 use crate::sentences::{
-    expired_says, gone_says, known_says, page_says, parent_says, region_says, shown_says,
-    steps_says, transfer_says, waits_says,
+    expired_says, gone_says, known_says, named_says, page_says, parent_says, region_says,
+    shown_says, steps_says, transfer_says, waits_says,
 };
 use arrayvec::ArrayVec;
 use l4_answers::{
-    Code, Sink, put_expire, put_page, put_parent, put_refused_act, put_refused_line, put_region,
-    put_reply, put_shown, put_steps, put_transfer, put_waits,
+    Code, Sink, put_expire, put_named, put_page, put_parent, put_refused_act, put_refused_line,
+    put_region, put_reply, put_shown, put_steps, put_transfer, put_waits,
 };
 use l4_decode::put_message;
 use l4_fpage::PageSize;
 use l4_ipc::Outcome;
 use l4_mapdb::Mapping;
+use l4_names::Names;
 use l4_reasons::Reason;
 use l4_text::{LineReader, Output, RunFault};
 use l4_threads::{IpcReply, Reply};
@@ -303,10 +304,10 @@ impl<W: Write> Sink for Teller<W> {
     }
 
     #[inline(never)]
-    fn unread_line(&mut self, line: u64, code: &Code, bytes: &[u8], size: PageSize) {
+    fn unread_line(&mut self, line: u64, code: &Code, bytes: &[u8], size: PageSize, names: &Names) {
         put_refused_line(line, code, &mut self.out, &mut self.writer);
         if self.wants_reasons() {
-            self.take_reason(unread_reason(line, code, bytes, size));
+            self.take_reason(unread_reason(line, code, bytes, size, names));
         }
     }
 
@@ -376,6 +377,12 @@ impl<W: Write> Sink for Teller<W> {
             &mut self.out,
             &mut self.writer,
         );
+    }
+
+    #[inline(never)]
+    fn named(&mut self, number: u32) {
+        put_named(number, &mut self.out, &mut self.writer);
+        say(self.explains, named_says(), &mut self.out, &mut self.writer);
     }
 
     #[inline(never)]

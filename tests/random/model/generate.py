@@ -11,6 +11,12 @@ ROOT = 2
 COMPLETE = 0x10
 NEVER, SEND_AT_ONCE, RECEIVE_AT_ONCE = 0, 0x04000000, 0x0400
 LONGEST_MESSAGE = 31
+# how many tokens after a command's name stand for threads
+THREAD_PLACES = {"thread": 3, "setpager": 2, "delete": 1, "recv": 2, "send": 2, "ipc": 3, "delegate": 2, "part": 2, "unmap": 1, "show": 1, "parent": 1,
+                 "fault": 1, "region": 1, "serve": 1}
+COMMON_NAMES = ["pager", "a", "B", "worker-1", "Worker-1", "x" * 24]
+OTHER_NAMES = ["nil", "any", "new", "all", "none", "never", "zero", "tag", "map", "grant", "rwx", "r--", "-w-", "send", "name", "steps", "x" * 25, "4", "a_b",
+               "1a", "a:b", "-", "a-", "sends", "Nil", "r-w", "rwxr", "sigma0", "root"]
 MOST_REFUSALS = 30
 
 
@@ -423,11 +429,34 @@ class StepMaker(Maker):
 class ScriptMaker(Maker):
     """Makes scripts."""
 
-    PLANS = {"chain": 2, "tree": 1, "grants": 2, "family": 3, "ranges": 2, "queue": 0.2, "serve": 2, "pagers": 4, "regions": 0.3, "spaces": 1}
+    PLANS = {"chain": 2, "tree": 1, "grants": 2, "family": 3, "ranges": 2, "queue": 0.2, "serve": 2, "pagers": 4, "regions": 0.3, "spaces": 1, "names": 0.1}
 
     def line(self):
-        """Returns the next line, often with symbolic tokens in place of words, and now and then with a damaged token."""
-        line = super().line()
+        """Returns the next line, often with symbolic tokens in place of words and with names in place of threads."""
+        if not self.planned and self.random.random() < 0.04:
+            return self.naming()
+        return self.with_names(self.with_symbols(super().line()))
+
+    def naming(self):
+        """Returns a line that gives a name to a thread."""
+        name = self.random.choice(COMMON_NAMES if self.random.random() < 0.8 else OTHER_NAMES)
+        return self.with_names(f"name {name} {self.thread()}", first=2)
+
+    def with_names(self, line, first=1):
+        """The line with names in place of some threads, and now and then with a name in another place."""
+        tokens, names = line.split(), self.model.names
+        for place in range(first, 1 + max(first, THREAD_PLACES.get(tokens[0], 0) if tokens else 0)):
+            own = [name for name, number in names.items() if place < len(tokens) and tokens[place] == str(number)]
+            if own and self.random.random() < 0.6:
+                tokens[place] = self.random.choice(own)
+                line = " ".join(tokens)
+        if len(tokens) > 1 and self.random.random() < 0.004:
+            tokens[self.random.randrange(1, len(tokens))] = self.random.choice(COMMON_NAMES + OTHER_NAMES)
+            line = " ".join(tokens)
+        return line
+
+    def with_symbols(self, line):
+        """The line, often with symbolic tokens in place of words, and now and then with a damaged token."""
         tokens = line.split()
         if self.random.random() < 0.5 or not all(map(symbols.is_number, tokens[4 if tokens[:1] == ["ipc"] else 3 :])):
             return line
@@ -619,6 +648,11 @@ class ScriptMaker(Maker):
             yield self.random.choice([f"region {first} {pages[first]} {self.page()} 2 rwx", f"show {first} 0 1"])
             yield f"serve {first}"
             yield f"fault {users[0]} {pages[first] << self.page_log:#x} 0 {self.rights_text()}"
+
+    def plan_names(self):
+        """Gives as many names as a script can have, and some more."""
+        for k in self.random.sample(range(70), 70):
+            yield f"name n{k} {self.thread()}"
 
     def plan_regions(self):
         """Fills a table of regions."""

@@ -18,6 +18,10 @@ LONGEST_LINE = 4096
 NO_SPACE = (1 << 64) - 1
 DIGITS = {10: set("0123456789"), 16: set("0123456789abcdefABCDEF")}
 LONGEST_NUMBER = {10: 10, 16: 8}
+NAMES = 64
+LONGEST_NAME = 24
+LETTERS = set("abcdefghijklmnopqrstuvwxyzABCDEFGHIJKLMNOPQRSTUVWXYZ")
+WORDS_IN_PLACES = {"nil", "any", "new", "all", "none", "never", "zero", "tag", "map", "grant"} | set(RIGHTS.values())
 
 
 def ident(number):
@@ -113,9 +117,10 @@ class BadTokens(Exception):
 class Tokens:
     """The tokens of a line after its command, taken one by one."""
 
-    def __init__(self, tokens, page_log):
+    def __init__(self, tokens, page_log, names):
         self.left = list(tokens)
         self.page_log = page_log
+        self.names = names
 
     def take(self):
         if not self.left:
@@ -133,7 +138,18 @@ class Tokens:
         return number
 
     def thread(self):
+        if self.left and self.left[0] in self.names:
+            return self.names[self.take()]
         return self.number(NUMBERS)
+
+    def new_name(self):
+        token = self.take()
+        letters_and_more = LETTERS | DIGITS[10] | {"-"}
+        if not 1 <= len(token) <= LONGEST_NAME or token[0] not in LETTERS or not set(token) <= letters_and_more:
+            raise BadTokens
+        if token in COMMANDS or token in WORDS_IN_PLACES:
+            raise BadTokens
+        return token
 
     def word_or(self, names):
         if self.left and self.left[0] in names:
@@ -187,6 +203,7 @@ class Shell:
         self.sigma0 = Sigma0(frames, page_log)
         self.served = set()
         self.regions = {}
+        self.names = {}
         self.steps = 0
         self.line = 0
         self.out = []
@@ -217,7 +234,7 @@ class Shell:
         command = getattr(self, "do_" + tokens[0], None) if tokens[0] in COMMANDS else None
         if command is None:
             raise Refused("S1")
-        command(Tokens(tokens[1:], self.machine.page_log))
+        command(Tokens(tokens[1:], self.machine.page_log, self.names))
 
     # commands
 
@@ -319,6 +336,14 @@ class Shell:
             self.out.append("parent none")
         else:
             self.out.append(f"parent {mapping.parent[0]} {mapping.parent[1]}")
+
+    def do_name(self, tokens):
+        name, number = tokens.new_name(), tokens.thread()
+        tokens.end()
+        if name not in self.names and len(self.names) == NAMES:
+            raise Refused("S5")
+        self.names[name] = number
+        self.out.append(f"named {number}")
 
     def do_steps(self, tokens):
         tokens.end()

@@ -4,12 +4,13 @@ const COMMANDS = {
   thread: "thread new|thread pager", setpager: "thread pager", delete: "thread", recv: "thread partner window", send: "thread partner message",
   ipc: "thread partner partner timeouts window message", delegate: "thread partner number number number rights", part: "thread partner number number number number rights",
   unmap: "thread number fpages", fault: "thread number number rights", region: "thread number number number rights", serve: "thread",
-  show: "thread number number", parent: "thread number", steps: "",
+  show: "thread number number", parent: "thread number", name: "name thread", steps: "",
 };
 const MOST_WORDS = 64, MOST_THREADS = 1 << 18, MOST_LABELS = 1 << 16;
+const WORDS = ["nil", "any", "new", "all", "none", "never", "zero", "tag", "map", "grant"];
 
 const isNumber = (token) => /^(0x[0-9A-Fa-f]{1,8}|[0-9]{1,10})$/.test(token) && Number(token) < 2 ** 32;
-const isThread = (token) => isNumber(token) && Number(token) < MOST_THREADS;
+const isThread = (token, names) => (isNumber(token) ? Number(token) < MOST_THREADS : names.includes(token));
 const isRights = (token) => /^[r-][w-][x-]$/.test(token);
 
 /** Whether a text is FIRST+COUNT or FIRST: a power of two of pages, from a multiple of it on. The end of the space is the program's to check. */
@@ -23,6 +24,10 @@ function arePages(text) {
 function cut(text, character) {
   const place = text.indexOf(character);
   return place < 0 ? [text, ""] : [text.slice(0, place), text.slice(place + 1)];
+}
+
+function isNewName(token) {
+  return /^[A-Za-z][A-Za-z0-9-]{0,23}$/.test(token) && !WORDS.includes(token) && !isRights(token) && !Object.hasOwn(COMMANDS, token);
 }
 
 function isFpage(token) {
@@ -41,10 +46,11 @@ function isItem(token) {
 }
 
 const KINDS = {
-  thread: [isThread, "a thread number below 262,144"],
-  "new|thread": [(token) => token === "new" || isThread(token), "`new` or a thread number"],
-  pager: [(token) => token === "nil" || isThread(token), "a thread number or `nil`"],
-  partner: [(token) => token === "nil" || token === "any" || isThread(token), "a thread number, `any` or `nil`"],
+  thread: [isThread, "a thread number below 262,144 or a name"],
+  "new|thread": [(token, names) => token === "new" || isThread(token, names), "`new`, a thread number or a name"],
+  pager: [(token, names) => token === "nil" || isThread(token, names), "a thread number, a name or `nil`"],
+  partner: [(token, names) => token === "nil" || token === "any" || isThread(token, names), "a thread number, a name, `any` or `nil`"],
+  name: [isNewName, "a new name: a letter, then letters, digits or hyphens, and no word of the language"],
   number: [isNumber, "a number, decimal or after 0x"],
   window: [(token) => isNumber(token) || token === "all" || token === "none" || (token.includes("+") && arePages(token)), "a number, `all`, `none` or pages such as 32+4"],
   timeouts: [(token) => isNumber(token) || /^(never|zero)(,(never|zero))?$/.test(token), "a number, `never`, `zero` or two of these such as zero,never"],
@@ -54,8 +60,8 @@ const KINDS = {
   rights: [isRights, "rights such as rwx or r--"],
 };
 
-/** What is wrong with a line, or "" where nothing is found. */
-export function wrongToken(line) {
+/** What is wrong with a line, or "" where nothing is found. Threads have these names. */
+export function wrongToken(line, names = []) {
   const [command, ...tokens] = line.split(" ").filter((token) => token !== "");
   const kinds = Object.hasOwn(COMMANDS, command ?? "") ? COMMANDS[command].split(" ").filter((kind) => kind !== "") : null;
   if (kinds === null) return `“${command}”`;
@@ -64,7 +70,7 @@ export function wrongToken(line) {
     if (kind === "fpages") return wrongIn(tokens.slice(place), () => "fpage") || tooMany(tokens.length - place);
     const [isRight, name] = KINDS[kind], token = tokens[place];
     if (token === undefined) return `after “${[command, ...tokens].pop()}”: ${name} is missing`;
-    if (!isRight(token)) return `“${token}” is not ${name}`;
+    if (!isRight(token, names)) return `“${token}” is not ${name}`;
   }
   return tokens.length > kinds.length ? `“${tokens[kinds.length]}” is one token too many` : "";
 }

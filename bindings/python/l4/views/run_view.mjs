@@ -25,9 +25,9 @@ function answerRow(answer, line, refusals) {
 }
 
 /** A refusal in words, with the token that is wrong if the line can't be read. The program names that token itself. */
-function refusalText({ code, means }, text) {
+function refusalText({ code, means, names }, text) {
   if (means.startsWith("token ")) return `${means}; see “Commands of a script”`;
-  const token = code === "S1" || code === "S2" ? wrongToken(text) : "";
+  const token = code === "S1" || code === "S2" ? wrongToken(text, names) : "";
   return token ? `${means}: ${token}; see “Commands of a script”` : means;
 }
 

@@ -6,7 +6,7 @@ use Rattle.l4_answers.specs.Reports.{Report}
 use Rattle.l4_answers.specs.Lines.{first_line, later_lines, is_next}
 use Rattle.l4_text.specs.Grammar.{TextLine, lines_of, is_silent, ending_of}
 use Rattle.l4_shell.specs.Requests.{asked_at}
-use Rattle.l4_shell.specs.Sessions.{Session, AnswersLine}
+use Rattle.l4_shell.specs.Sessions.{State, AnswersLine}
 use Rattle.l4_sinks.specs.Texts.{AreAnswerTexts}
 use Rattle.l4_text.specs.declared.lines.Ending.{Ending}
 use Rattle.l4_text.specs.declared.lines.Ending.TheVariants.{Whole}
@@ -50,8 +50,8 @@ Closes due (Ok u) = has_surplus due ≡ false
 Closes due (Err failure) = SurplusReported due failure
 
 -- the line of this number was answered, and this is the text of its answers
-abbrev pub Answered : Session → ℕ → List ℕ → List ℕ → Session → Type 0
-Answered m number line text n = (told : List Report) × AnswersLine m number (asked_at m.machine.size Whole line) told n × AreAnswerTexts None told text
+abbrev pub Answered : State → ℕ → List ℕ → List ℕ → State → Type 0
+Answered m number line text n = (told : List Report) × AnswersLine m number (asked_at m.session.machine.size m.names Whole line) told n × AreAnswerTexts None told text
 
 -- an expected answer was compared, and agrees
 pub record Compared (old : Tested) (answer : List ℕ) (new : Tested) : Type 0 where
@@ -75,25 +75,25 @@ ComparesAnswer old number answer new (Ok u) = Compared old answer new
 ComparesAnswer old number answer new (Err failure) = Fails (ExpectationFails old.due number answer) failure
 
 -- a line was answered, after the answers of the line above it were compared
-pub record Goes (m : Session) (old : Tested) (number : ℕ) (line : List ℕ) (n : Session) (new : Tested) : Type 0 where
+pub record Goes (m : State) (old : Tested) (number : ℕ) (line : List ℕ) (n : State) (new : Tested) : Type 0 where
   pub closed : has_surplus old.due ≡ false
   pub text : List ℕ
   pub answered : Answered m number line text n
   pub due_is : new.due ≡ Some (record { number = number; left = text; stage = Untouched })
   pub same : new.expectations ≡ old.expectations
 
-abbrev pub AnswersNext : Session → Tested → ℕ → List ℕ → Session → Tested → Result (Unit {0}) Failure → Type 0
+abbrev pub AnswersNext : State → Tested → ℕ → List ℕ → State → Tested → Result (Unit {0}) Failure → Type 0
 AnswersNext m old number line n new (Ok u) = Goes m old number line n new
 AnswersNext m old number line n new (Err failure) = Fails (FailsNext old.due number []) failure
 
 -- a line was tested: it was answered, or it is silent and expects an answer or doesn't
-abbrev pub GoesBy : Session → Tested → ℕ → List ℕ → Bool → Bool → Option (List ℕ) → Session → Tested → Type 0
+abbrev pub GoesBy : State → Tested → ℕ → List ℕ → Bool → Bool → Option (List ℕ) → State → Tested → Type 0
 GoesBy m old number line false marked expected n new = Goes m old number line n new
 GoesBy m old number line true false expected n new = (new ≡ old) × (n ≡ m)
 GoesBy m old number line true true (Some answer) n new = Compared old answer new × (n ≡ m)
 GoesBy m old number line true true None n new = ⊥
 
-abbrev pub TestsLine : Session → Tested → ℕ → List ℕ → Session → Tested → Result (Unit {0}) Failure → Type 0
+abbrev pub TestsLine : State → Tested → ℕ → List ℕ → State → Tested → Result (Unit {0}) Failure → Type 0
 TestsLine m old number line n new (Ok u) = GoesBy m old number line (is_silent line) (is_marked line) (expected_in line) n new
 TestsLine m old number line n new (Err failure) = Fails (FailsAt old.due number Whole line) failure
 
@@ -112,30 +112,30 @@ pub record IsFirst (tested : Tested) : Type 0 where
   pub expectations : tested.expectations ≡ 0
 
 -- of the lines that were read the first agree as far as they go
-pub record AgreesSome (first : Session) (old new : Option (List ℕ)) : Type 0 where
+pub record AgreesSome (first : State) (old new : Option (List ℕ)) : Type 0 where
   pub read : List ℕ
   pub from : Consumes old new read
   pub lines : List TextLine
   pub later : List TextLine
   pub parts : lines_of read ≡ lines ++ later
   pub whole : All (λ line. ending_of line ≡ Whole) lines
-  pub last : Session
+  pub last : State
   pub due : Option Due
   pub agrees : AgreesSoFar first lines due last
 
 -- all lines were answered as expected
-pub record PassesAll (first : Session) (old new : Option (List ℕ)) (passed : Passed) : Type 0 where
+pub record PassesAll (first : State) (old new : Option (List ℕ)) (passed : Passed) : Type 0 where
   pub read : List ℕ
   pub from : Consumes old new read
   pub ended : IsAtEnd new
   pub whole : All (λ line. ending_of line ≡ Whole) (lines_of read)
-  pub last : Session
+  pub last : State
   pub expected : AreAsExpected first 1 (lines_of read) last
   pub top : expected_below (lines_of read) ≡ []
   pub lines : passed.lines ≡ length (lines_of read)
   pub expectations : passed.expectations ≡ length (expected_by (lines_of read))
 
-abbrev pub TestsLines : Session → Option (List ℕ) → Option (List ℕ) → Result Passed Failure → Type 0
+abbrev pub TestsLines : State → Option (List ℕ) → Option (List ℕ) → Result Passed Failure → Type 0
 TestsLines first old new (Ok passed) = PassesAll first old new passed
 TestsLines first old new (Err (Stopped Read)) = (a : AgreesSome first old new) × (filter (λ line. line.whole) a.later ≡ [])
 TestsLines first old new (Err (Stopped Write)) = ⊥

@@ -1,6 +1,7 @@
 -- What a line's command comes to.
 use Rattle.std.specs.Prelude.{ℕ, List, [], ◌∷◌, Option, None, drop, if◌then◌else◌}
 use Rattle.l4_fpage.specs.declared.sizes.PageSize.{PageSize}
+use Rattle.l4_names.specs.Names.{Names}
 use Rattle.l4_shell.specs.Commands.{is_word, commands}
 use Rattle.l4_shell.specs.declared.requests.Request.{Request}
 
@@ -9,10 +10,10 @@ abbrev pub asked_in : List (List ℕ × (List (List ℕ) → Option Request)) �
 asked_in [] name tokens = None
 asked_in (row ∷ rows) name tokens = if is_word row.0 name then row.1 tokens else asked_in rows name tokens
 
--- what the tokens after a command's name ask for, where pages have this size
-abbrev pub asked : PageSize → List ℕ → List (List ℕ) → Option Request
-asked size name tokens = asked_in (commands size) name tokens
+-- what the tokens after a command's name ask for, where pages have this size and threads these names
+abbrev pub asked : PageSize → Names → List ℕ → List (List ℕ) → Option Request
+asked size names name tokens = asked_in (commands size names) name tokens
 
--- the rows of pagers and of the history
-abbrev pub pager_commands : PageSize → List (List ℕ × (List (List ℕ) → Option Request))
-pager_commands size = drop 11 (commands size)
+-- the rows of pagers, of names and of the history
+abbrev pub pager_commands : PageSize → Names → List (List ℕ × (List (List ℕ) → Option Request))
+pager_commands size names = drop 11 (commands size names)

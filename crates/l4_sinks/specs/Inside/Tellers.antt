@@ -1,7 +1,6 @@
 -- What is known of a teller, the sink that writes answers.
 use Rattle.std.specs.Prelude.{ℕ, ◌≡◌, ◌||◌, Bool, false, List, Option, None, is_some, if◌then◌else◌}
 use Rattle.std.specs.Io.KnownBytes.{Appends}
-use Rattle.l4_fpage.specs.declared.sizes.PageSize.{PageSize}
 use Rattle.l4_text.specs.Streams.{HasTold}
 use Rattle.l4_answers.specs.Reports.{Report}
 use Rattle.l4_sinks.specs.declared.teller.Teller.{Teller}

@@ -1,5 +1,5 @@
 use Rattle.std.proofs.Common.{ap, []}
-use Rattle.l4_shell.specs.ByLines.{session_of}
+use Rattle.l4_shell.specs.ByLines.{state_of}
 use Rattle.l4_expectations.proofs.TestedLines.{so_far_none, so_far_on, stops_read, ends_all, ends_by, ends_at}
 use Rattle.l4_expectations.proofs.testing.test_lines.Goals as goal
 
@@ -17,7 +17,7 @@ returns-in-Err-check_ending g c = ends_by c.in-Some.ending _ _ _ _ _ _ _ _ _ _ _
 
 pub returns-in-Err-test_line : goal.returns-in-Err-test_line
 returns-in-Err-test_line g c =
-    ends_at _ _ _ _ _ _ _ _ _ (session_of c.test_line.new.run) _ c.test_line.new.tested _ c.in-Some.ending _ _ c.loop-number.invariant c.in-Ok.ensures c.in-Some.is (c.in-Ok-check_ending.ensures []) c.line.ensures c.in-Err-test_line.ensures
+    ends_at _ _ _ _ _ _ _ _ _ (state_of c.test_line.new.run) _ c.test_line.new.tested _ c.in-Some.ending _ _ c.loop-number.invariant c.in-Ok.ensures c.in-Some.is (c.in-Ok-check_ending.ensures []) c.line.ensures c.in-Err-test_line.ensures
 
 pub loop-number-preserved : goal.loop-number-preserved
 loop-number-preserved g c =

@@ -4,4 +4,4 @@ use Rattle.l4_shell.proofs.partners.next_partner.Goals as goal
 
 pub returns-in-Some : goal.returns-in-Some
 unfolding partner_of
-returns-in-Some c = sym (ap (first_by partner_of) c.in-Some.ensures)
+returns-in-Some c = sym (ap (first_by (partner_of c.args.names.now)) c.in-Some.ensures)

@@ -1,5 +1,5 @@
 use Rattle.std.proofs.Common.{◌∙◌}
-use Rattle.l4_sinks.proofs.Running.{IsNew, runs_ok, runs_err}
+use Rattle.l4_sinks.proofs.Running.{runs_ok, runs_err}
 use Rattle.l4_sinks.proofs.scripts.answer_script.Goals as goal
 
 pub returns-in-Ok : goal.returns-in-Ok

@@ -5,4 +5,4 @@ use Rattle.l4_sinks.proofs.stops.fpages_stop.Given as goal
 
 abbrev pub invariant-loop-count : goal.invariant-loop-count
 invariant-loop-count l =
-    fpages_stop l.size l.first 64 (tokens_of l.line) ≡ fpages_stop l.size (l.first + l.count) (64 - l.count) (tokens_of l.rest)
+    fpages_stop l.size l.names l.first 64 (tokens_of l.line) ≡ fpages_stop l.size l.names (l.first + l.count) (64 - l.count) (tokens_of l.rest)

@@ -7,4 +7,4 @@ use Rattle.l4_shell.proofs.by_lines.ScriptRun.new.Goals as goal
 pub returns : goal.returns
 returns c =
     let has = subst (λ (k : Seated). HasFirstSeats c.args.frames c.args.size k) (sym c.new-2.ensures.0) c.in-Some.ensures in
-    (_, has.0, has.4, first_is _ _ _ _ has (c.new-2.ensures.1 ∙ c.new.ensures))
+    (_, has.0, has.4, first_is _ _ _ _ _ has (c.new-2.ensures.1 ∙ c.new.ensures) c.new-2.ensures.2)
