@@ -73,6 +73,7 @@ class Answers {
     const script = ended(linesIn(asked.script)), machine = machineOf(asked), words = asked.words;
     const texts = {
       "run": () => this.program.run(script, machine), "run --explain": () => this.program.explain(script, machine),
+      "run --number --moves": () => this.program.annotate(script, machine),
       "history": () => this.program.history(script, machine, false), "history --answers": () => this.program.history(script, machine, true),
       "why": () => this.program.why(script, machine, words[0], words[1]).text, "decode": () => this.program.decode(words, READINGS.message, machine),
       "plan": () => this.program.plan(asked.region, machine).text, "check": () => this.program.check(asked.region, machine, asked.claim).text,

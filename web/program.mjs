@@ -103,6 +103,11 @@ export class Program {
     return this.call("page_explain", script, frames, pageBytes).text;
   }
 
+  /** The answers with the number of each line and the pages that each transfer moved. */
+  annotate(script, { frames, pageBytes }) {
+    return this.call("page_annotate", script, frames, pageBytes).text;
+  }
+
   history(script, { frames, pageBytes }, answers) {
     return this.call("page_history", script, frames, pageBytes, answers ? 1 : 0).text;
   }

@@ -1,4 +1,4 @@
-// The page's module in node. What it writes for the files of tests/scripts, explained, histories, steps, whys, plans and decodes must be
+// The page's module in node. What it writes for the files of tests/scripts, explained, annotated, histories, steps, whys, plans and decodes must be
 // NAME.out, byte for byte. Then come cases on standard input, one per line in JSON: the words of `l4`, or `steps` for `l4_steps`, with the input,
 // and what the program wrote with its status; or what a model knows after a script, which must be what the page's views are made from.
 //
@@ -12,7 +12,7 @@ import { changesBetween } from "../../bindings/python/l4/views/changes.mjs";
 import { threadsAfter } from "../../bindings/python/l4/views/shown.mjs";
 
 const TESTS = path.dirname(import.meta.dirname);
-const KINDS = { scripts: ["run"], explained: ["run", "--explain"], histories: ["history", "--answers"], steps: ["steps"], whys: ["why"], plans: [], decodes: [] };
+const KINDS = { scripts: ["run"], explained: ["run", "--explain"], annotated: ["run"], histories: ["history", "--answers"], steps: ["steps"], whys: ["why"], plans: [], decodes: [] };
 let passed = 0, failed = 0, left = 0;
 
 const read = (file) => (fs.existsSync(file) ? fs.readFileSync(file) : Buffer.alloc(0));
@@ -38,7 +38,9 @@ const regionOf = ([source, target, count, rights]) => ({
 function written(program, [command, ...words], input) {
   const { rest, options, machine } = parsed(words), done = (text) => ({ text, found: true });
   switch (command) {
-    case "run": return done(options.explain ? program.explain(input, machine) : program.run(input, machine));
+    case "run":
+      if (options.number && options.moves) return done(program.annotate(input, machine));
+      return done(options.explain ? program.explain(input, machine) : program.run(input, machine));
     case "steps": return program.call("page_steps", input, machine.frames, machine.pageBytes);
     case "history": return done(program.history(input, machine, options.answers === true));
     case "why": return program.why(input, machine, Number(rest[0]), Number(rest[1]));
@@ -66,8 +68,9 @@ function tried(program, words, input) {
 
 function file(program, folder, name) {
   const place = path.join(TESTS, folder, name), words = [...KINDS[folder], ...wordsOf(read(`${place}.words`))];
-  // a command line that is an error, and a strict run, are the program's alone
-  if ((folder !== "steps" && wordsOf(read(`${place}.status`))[0] === "2") || words.includes("--strict") || words.includes("--help")) {
+  // a command line that is an error, a strict run, and numbers without moves or moves without numbers, are the program's alone
+  const isRefused = folder !== "steps" && wordsOf(read(`${place}.status`))[0] === "2";
+  if (isRefused || words.includes("--strict") || words.includes("--help") || words.includes("--number") !== words.includes("--moves")) {
     left += 1;
     return;
   }

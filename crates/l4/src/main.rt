@@ -15,7 +15,10 @@ ghost use Rattle.l4_options.specs.Ranges.{IsFrameCount};
 
 use l4_decode::{Reading, decode};
 use l4_fpage::PageSize;
-use l4_history::{Presence, Question, ThreadPage, WhyResult, answered_history, history, why};
+use l4_history::{
+    Annotations, Presence, Question, ThreadPage, WhyResult, annotated_script, answered_history,
+    history, why,
+};
 use l4_msg::Region;
 use l4_options::{Options, ScriptOptions, misread, options};
 use l4_plan::plan;
@@ -34,7 +37,7 @@ use std::io::{Read, Write};
 use std::process::ExitCode;
 use std::rt::Files;
 use std::{fs, io};
-use tested::test_files;
+use tested::{copy_files, test_files};
 
 const NOT_FOUND: u8 = 1;
 
@@ -201,8 +204,7 @@ fn text_ended<W: Write>(
 fn run<R: AllocGlobal + Files + Input + Print + Eprint>(
     rt: &R,
     script: &ScriptOptions,
-    strict: bool,
-    explain: bool,
+    notes: Annotations,
 ) -> u8
     requires { IsFrameCount script.now.frames }
 {
@@ -212,14 +214,26 @@ fn run<R: AllocGlobal + Files + Input + Print + Eprint>(
         Err(status) => return status,
     };
     let mut output = WatchedWriter::new(io::writer(rt));
-    let (_, answered) = answer_script(
-        rt.alloc(),
-        script.frames,
-        script.size,
-        Style { strict, explain },
-        &mut reader,
-        &mut output,
-    );
+    let answered = if notes.number || notes.moves {
+        annotated_script(
+            rt.alloc(),
+            script.frames,
+            script.size,
+            notes,
+            &mut reader,
+            &mut output,
+        )
+    } else {
+        let (_, answered) = answer_script(
+            rt.alloc(),
+            script.frames,
+            script.size,
+            notes.style,
+            &mut reader,
+            &mut output,
+        );
+        answered
+    };
     script_ended(rt, answered, file, &reader, &output)
 }
 
@@ -352,8 +366,18 @@ fn obey<R: AllocGlobal + Files + Input + Print + Eprint>(rt: &R, words: &[String
                 script,
                 strict,
                 explain,
+                number,
+                moves,
             },
-        ) => run(rt, &script, strict, explain),
+        ) => run(
+            rt,
+            &script,
+            Annotations {
+                style: Style { strict, explain },
+                number,
+                moves,
+            },
+        ),
         Ok(
             Options::History {
                 script,
@@ -386,7 +410,13 @@ fn obey<R: AllocGlobal + Files + Input + Print + Eprint>(rt: &R, words: &[String
                 size,
             },
         ) => tell_words(rt, words.as_slice(), reading, size),
-        Ok(Options::Test { files, tap }) => test_files(rt, files.as_slice(), tap),
+        Ok(Options::Test { files, tap, write }) => {
+            if write {
+                copy_files(rt, files.as_slice())
+            } else {
+                test_files(rt, files.as_slice(), tap)
+            }
+        }
         Ok(Options::Encode(words)) => print_words(rt, words.as_slice()),
         Ok(Options::Show(text)) => show(rt, text.as_str()),
         Err(fault) => misread(rt, &fault),

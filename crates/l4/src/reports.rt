@@ -3,14 +3,11 @@ use l4_plan::PlanRefusal;
 use l4_plan_check::Fault;
 use l4_plan_lines::{Answer, LineFault, WrongLine};
 use l4_reasons::Reason;
-use l4_refusals::text_of;
-
-/// The code of a thread that is not there.
-const K2: u32 = 0x4b32;
+use l4_refusals::{number_of, text_of};
 
 /// Says what a code means.
-fn report_code(rt: &impl Eprint, code: u32) {
-    let text = text_of(code);
+fn report_code(rt: &impl Eprint, code: &[u8]) {
+    let text = text_of(number_of(code));
     if let Ok(code) = str::from_utf8(text.code) {
         if let Ok(line) = str::from_utf8(text.line) {
             let _ = eprintln!(rt; "error: {code}: {line}");
@@ -25,15 +22,15 @@ pub(crate) fn report_refused(rt: &impl Eprint, reason: &Reason) {
 
 /// Reports that no thread has the requested number.
 pub(crate) fn report_no_thread(rt: &impl Eprint) {
-    report_code(rt, K2);
+    report_code(rt, b"K2");
 }
 
 /// Says why a region has no plan. The text of a plan that is too long says so itself.
 pub(crate) fn report_no_plan(rt: &impl Eprint, refusal: &PlanRefusal) {
     match refusal {
-        PlanRefusal::Empty => report_code(rt, 0x4e31),
-        PlanRefusal::OutOfSpace => report_code(rt, 0x4e32),
-        PlanRefusal::NoRights => report_code(rt, 0x4e33),
+        PlanRefusal::Empty => report_code(rt, b"N1"),
+        PlanRefusal::OutOfSpace => report_code(rt, b"N2"),
+        PlanRefusal::NoRights => report_code(rt, b"N3"),
         PlanRefusal::TooLong(_) | PlanRefusal::Several(_) | PlanRefusal::NoPart(_) => {}
     }
 }
@@ -41,12 +38,12 @@ pub(crate) fn report_no_plan(rt: &impl Eprint, refusal: &PlanRefusal) {
 /// Says why a plan is not proved.
 fn report_fault(rt: &impl Eprint, fault: Fault) {
     match fault {
-        Fault::Item(_) => report_code(rt, 0x4331),
-        Fault::Gap(_) => report_code(rt, 0x4332),
-        Fault::Page(_) => report_code(rt, 0x4333),
-        Fault::Pair(_) => report_code(rt, 0x4334),
-        Fault::Count => report_code(rt, 0x4335),
-        Fault::Region => report_code(rt, 0x4336),
+        Fault::Item(_) => report_code(rt, b"C1"),
+        Fault::Gap(_) => report_code(rt, b"C2"),
+        Fault::Page(_) => report_code(rt, b"C3"),
+        Fault::Pair(_) => report_code(rt, b"C4"),
+        Fault::Count => report_code(rt, b"C5"),
+        Fault::Region => report_code(rt, b"C6"),
     }
 }
 

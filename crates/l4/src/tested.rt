@@ -4,12 +4,13 @@ ghost use Rattle.l4.specs.Statuses.{test_status};
 ghost use Rattle.l4_options.specs.Ranges.{IsFrameCount};
 
 use crate::DIFFERS;
-use l4_expectations::{Difference, Failure, Fault, Passed, test_script};
+use l4_expectations::{Copied, Difference, Failure, Fault, Passed, copy_script, test_script};
 use l4_options::{OptionFault, Options, ScriptOptions, options};
-use l4_programs::{NOT_UNDERSTOOD, WatchedReader, not_opened, stopped};
+use l4_programs::{NOT_UNDERSTOOD, WatchedReader, not_created, not_opened, stopped};
 use l4_text::{Ending, LineReader, RunFault, next_token};
 use std::alloc::Global;
-use std::io::{ErrorKind, Read};
+use std::fs::File;
+use std::io::{ErrorKind, Read, Write};
 use std::rt::Files;
 use std::{fs, io, str};
 
@@ -139,6 +140,8 @@ fn options_in(alloc: Global, words: &[&str]) -> Result<Option<ScriptOptions>, Ru
                 script,
                 strict: false,
                 explain: false,
+                number: false,
+                moves: false,
             },
         ) => {
             if script.file.is_some() {
@@ -223,20 +226,34 @@ fn report<Q: Read, R: Print + Eprint>(
     }
 }
 
+/// Reads the first bytes of a script, and the options in its first line. Reports why they cannot be had, and returns the exit status.
+fn begun<Q: Read, R: AllocGlobal + Print + Eprint>(
+    rt: &R,
+    place: &Place<'_>,
+    reader: &mut WatchedReader<Q>,
+) -> Result<(Vec<u8>, ScriptOptions), u8>
+    ensures { IfOk result (λ r. IsFrameCount r.1.frames) }
+{
+    let front = match front_of(rt.alloc(), reader) {
+        Ok(front) => front,
+        Err(fault) => return Err(report(rt, place, Err(Failure::Stopped(fault)), reader)),
+    };
+    match options_of(rt.alloc(), front.as_slice()) {
+        Ok(Some(script)) => Ok((front, script)),
+        Ok(None) => Err(report_malformed(rt, place, 1, WRONG_OPTIONS)),
+        Err(fault) => Err(report(rt, place, Err(Failure::Stopped(fault)), reader)),
+    }
+}
+
 /// Tests the script that a reader gives, and prints the result. Returns the exit status.
 fn test_reader<Q: Read, R: AllocGlobal + Print + Eprint>(
     rt: &R,
     place: &Place<'_>,
     reader: &mut WatchedReader<Q>,
 ) -> u8 {
-    let front = match front_of(rt.alloc(), reader) {
-        Ok(front) => front,
-        Err(fault) => return report(rt, place, Err(Failure::Stopped(fault)), reader),
-    };
-    let script = match options_of(rt.alloc(), front.as_slice()) {
-        Ok(Some(script)) => script,
-        Ok(None) => return report_malformed(rt, place, 1, WRONG_OPTIONS),
-        Err(fault) => return report(rt, place, Err(Failure::Stopped(fault)), reader),
+    let (front, script) = match begun(rt, place, reader) {
+        Ok(parts) => parts,
+        Err(status) => return status,
     };
     let mut whole = front.as_slice().chain(&mut *reader);
     let tested = test_script(rt.alloc(), script.frames, script.size, &mut whole);
@@ -271,6 +288,99 @@ pub(crate) fn test_files<R: AllocGlobal + Files + Print + Eprint>(
             number: index + 1,
         };
         greatest = greatest.max(test_file(rt, &place));
+    }
+    greatest
+}
+
+/// Returns the name of the copy of a file. None if there is not enough memory.
+fn copy_name(alloc: Global, file: &str) -> Option<String> {
+    let Ok(mut name) = String::from_str(alloc, file) else {
+        return None;
+    };
+    match name.push_str(".new") {
+        Ok(()) => Some(name),
+        Err(_) => None,
+    }
+}
+
+/// Creates a file with these bytes. A file that exists stays as it is, which is an error. After a failed write, there is no file.
+fn create<R: Files>(rt: &R, name: &str, bytes: &[u8]) -> io::Result<()> {
+    let mut file = match File::create_new(rt, name) {
+        Ok(file) => file,
+        Err(error) => return Err(error),
+    };
+    match file.write_all(bytes) {
+        Ok(()) => Ok(()),
+        Err(error) => {
+            let _ = fs::remove_file(rt, name);
+            Err(error)
+        }
+    }
+}
+
+/// Prints that a copy was written.
+fn report_copied<R: Print + Eprint>(rt: &R, file: &str, name: &str, size: Passed) -> u8
+    ensures { (result ≡ 0) ⊎ (result ≡ 3) }
+{
+    let Passed {
+        lines,
+        expectations,
+    } = size;
+    let written = println!(rt;
+        "{file}: {lines} lines, {expectations} expectations, written to {name}"
+    );
+    printed(rt, written, 0)
+}
+
+/// Writes the copy of a script to a file, and prints its size. Returns the exit status.
+fn write_copy<R: AllocGlobal + Files + Print + Eprint>(rt: &R, file: &str, copy: &Copied) -> u8
+    ensures { (result ≡ 0) ⊎ ((result ≡ 3) ⊎ (result ≡ 4)) }
+{
+    let Some(name) = copy_name(rt.alloc(), file) else {
+        return stopped(rt, RunFault::Memory, None, None);
+    };
+    match create(rt, name.as_str(), copy.text.as_slice()) {
+        Ok(()) => report_copied(rt, file, name.as_str(), copy.size),
+        Err(error) => not_created(rt, name.as_str(), error),
+    }
+}
+
+/// Writes a copy of the script that a reader gives. Returns the exit status.
+fn copy_reader<Q: Read, R: AllocGlobal + Files + Print + Eprint>(
+    rt: &R,
+    place: &Place<'_>,
+    reader: &mut WatchedReader<Q>,
+) -> u8 {
+    let (front, script) = match begun(rt, place, reader) {
+        Ok(parts) => parts,
+        Err(status) => return status,
+    };
+    let mut whole = front.as_slice().chain(&mut *reader);
+    match copy_script(rt.alloc(), script.frames, script.size, &mut whole) {
+        Ok(copy) => write_copy(rt, place.file, &copy),
+        Err(failure) => report(rt, place, Err(failure), reader),
+    }
+}
+
+/// Writes a copy of the script in a file. Returns the exit status.
+fn copy_file<R: AllocGlobal + Files + Print + Eprint>(rt: &R, place: &Place<'_>) -> u8 {
+    match fs::open(rt, place.file) {
+        Ok(file) => copy_reader(rt, place, &mut WatchedReader::new(file)),
+        Err(error) => not_opened(rt, place.file, error),
+    }
+}
+
+/// Writes a copy of each script in these files, with the actual answers. Returns the greatest of the exit statuses.
+#[inline(never)]
+pub(crate) fn copy_files<R: AllocGlobal + Files + Print + Eprint>(rt: &R, files: &[String]) -> u8 {
+    let mut greatest = 0;
+    for index in 0..files.len() {
+        let place = Place {
+            file: files[index].as_str(),
+            tap: false,
+            number: index + 1,
+        };
+        greatest = greatest.max(copy_file(rt, &place));
     }
     greatest
 }

@@ -1,3 +1,4 @@
 mod Agreeing
 mod Answering
 mod TestedLines
+mod CopiedLines

@@ -1,3 +1,4 @@
+pub mod Copies
 pub mod Expectations
 pub mod Tests
 pub mod Inside

@@ -1,10 +1,12 @@
 //! Scripts that state the answers that they expect: what `l4 test` does.
 #![tactic(auto)]
 
+mod copying;
 mod due;
 mod marks;
 mod outcomes;
 mod testing;
 
+pub use copying::{Copied, copy_script};
 pub use outcomes::{Difference, Failure, Fault, Passed};
 pub use testing::test_script;

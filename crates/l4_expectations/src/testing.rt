@@ -85,7 +85,12 @@ fn close(alloc: Global, due: Option<&Due>) -> Result<(), Failure>
 }
 
 /// The text of the answers to a line. None if there is not enough memory.
-fn answered(alloc: Global, run: &mut ScriptRun, number: u64, line: &[u8]) -> Option<Vec<u8>>
+pub(crate) fn answered(
+    alloc: Global,
+    run: &mut ScriptRun,
+    number: u64,
+    line: &[u8],
+) -> Option<Vec<u8>>
     ensures { IfSome result
         (λ text. Answered (state_of run.old) number line.now text.items (state_of run.new)) }
 {
@@ -162,7 +167,7 @@ fn test_line(
 }
 
 /// Checks the ending of the line of this number.
-fn check_ending(number: u64, ending: Ending) -> Result<(), Failure>
+pub(crate) fn check_ending(number: u64, ending: Ending) -> Result<(), Failure>
     ensures { (bytes : List ℕ) → EndsWhole number ending bytes result }
 {
     match ending {

@@ -1,2 +1,3 @@
+pub mod Annotating
 pub mod Finding
 pub mod Telling

@@ -1,4 +1,6 @@
+pub mod Annotations
 pub mod Chains
 pub mod Histories
 pub mod Inside
+pub mod Moves
 pub mod Telling

@@ -1,10 +1,12 @@
-//! What the history of a script shows: its steps as a list, the output of `l4 history`; and how a page got to its place, the output of
-//! `l4 why`.
+//! Answers to scripts with annotations, the history of a script as a step list, and how a page of it got to its place.
 #![tactic(auto)]
 
+mod annotating;
 mod asking;
 mod lines;
+mod moves;
 mod telling;
 
+pub use annotating::{Annotations, annotated_script};
 pub use asking::{Presence, Question, ThreadPage, WhyResult, why};
 pub use telling::{answered_history, history};

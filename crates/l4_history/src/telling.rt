@@ -32,7 +32,7 @@ fn tell_steps<W: Write>(history: &History, out: &mut Output, writer: &mut W)
 }
 
 /// Executes the step of an entry. Returns whether it gets the answer that the entry has.
-fn repeats(kernel: &mut Kernel, entry: &Entry) -> bool
+pub(crate) fn repeats(kernel: &mut Kernel, entry: &Entry) -> bool
     ensures { IsTrue result → Steps kernel.old entry.now.step (Ok entry.now.answer) kernel.new }
 {
     match kernel.step(&entry.step) {

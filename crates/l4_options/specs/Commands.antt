@@ -1,5 +1,5 @@
 -- The commands of the programs, as clap reads them, and what the words of a command line ask for (this profile's own).
-use Rattle.std.specs.Prelude.{◌≡◌, ◌⊎◌, List, [], ◌∷◌, length, map, codes, Some, true, false}
+use Rattle.std.specs.Prelude.{◌≡◌, ◌⊎◌, ◌&&◌, List, [], ◌∷◌, length, map, codes, Some, true, false}
 use Rattle.std.specs.String.{string_bytes}
 use Rattle.clap.specs.Faults.{fault_of}
 use Rattle.clap.specs.Kinds.{IsAmong, Kinds}
@@ -46,7 +46,8 @@ abbrev pub script_rules : List Rule → List Rule
 script_rules rules = word (codes "file") ∷ option (codes "frames") ∷ option (codes "page-size") ∷ rules
 
 abbrev pub run_command : Shape
-run_command = command (codes "run") (script_rules (switch (codes "strict") ∷ switch (codes "explain") ∷ []))
+run_command = command (codes "run") (
+    script_rules (switch (codes "strict") ∷ switch (codes "explain") ∷ switch (codes "number") ∷ switch (codes "moves") ∷ []))
 
 abbrev pub history_command : Shape
 history_command = command (codes "history") (script_rules (switch (codes "strict") ∷ switch (codes "answers") ∷ []))
@@ -70,7 +71,7 @@ abbrev pub encode_command : Shape
 encode_command = command (codes "encode") (needed_words (codes "tokens") ∷ option (codes "as") ∷ option (codes "page-size") ∷ [])
 
 abbrev pub test_command : Shape
-test_command = command (codes "test") (needed_words (codes "files") ∷ switch (codes "tap") ∷ [])
+test_command = command (codes "test") (needed_words (codes "files") ∷ switch (codes "tap") ∷ switch (codes "write") ∷ [])
 
 -- the commands of l4
 abbrev pub l4_commands : List Shape
@@ -93,8 +94,9 @@ l4_steps_program = record {
 
 -- the command of this name asks for this, with what was found behind it
 abbrev pub Asks : Text → List Row → Options → Type 0
-Asks name found (Run script strict explain) =
+Asks name found (Run script strict explain number moves) =
     (name ≡ codes "run") × IsScriptIn found script × (strict ≡ is_on found (codes "strict")) × (explain ≡ is_on found (codes "explain"))
+    × (number ≡ is_on found (codes "number")) × (moves ≡ is_on found (codes "moves"))
 Asks name found (History script strict answers) =
     (name ≡ codes "history") × IsScriptIn found script × (strict ≡ is_on found (codes "strict")) × (answers ≡ is_on found (codes "answers"))
 Asks name found (Judge list all) = (name ≡ codes "judge") × IsScriptIn found list × (all ≡ is_on found (codes "all"))
@@ -106,7 +108,9 @@ Asks name found (Check region size) = (name ≡ codes "check") × IsRegionIn fou
 Asks name found (Decode words reading size) =
     (name ≡ codes "decode") × AreNumbersIn found words.items × IsReadingIn found (length words.items) reading × IsSizeIn found size
 Asks name found (Encode words) = (name ≡ codes "encode") × AreEncodedIn found words.items
-Asks name found (Test files tap) = (name ≡ codes "test") × AreFilesIn found (map string_bytes files.items) × (tap ≡ is_on found (codes "tap"))
+Asks name found (Test files tap write) =
+    (name ≡ codes "test") × AreFilesIn found (map string_bytes files.items) × (tap ≡ is_on found (codes "tap")) × (write ≡ is_on found (codes "write"))
+    × (tap && write ≡ false)
 Asks name found (Show text) = ⊥
 
 -- the words ask for a text: the usage or the version

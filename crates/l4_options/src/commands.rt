@@ -13,8 +13,9 @@ use crate::requests::{OptionFault, Options};
 use crate::testing::{of_files, test_options};
 use crate::values::{
     all_option, answers_option, explain_option, file_argument, frames_option, help_text, is_on,
-    is_strict, is_word, number_of, reading_of, reading_option, region_of, script_of, size_of,
-    size_option, strict_option, without_hyphens, words_argument, words_of,
+    is_strict, is_word, moves_option, number_of, number_option, reading_of, reading_option,
+    region_of, script_of, size_of, size_option, strict_option, without_hyphens, words_argument,
+    words_of,
 };
 use clap::error::ErrorKind;
 use clap::{Arg, ArgAction, ArgMatches, Command, Error};
@@ -101,7 +102,9 @@ fn of_script<'a>(alloc: Global) -> Result<Command<'a>, AllocError>
         .arg(frames_option(alloc))?
         .arg(size_option(alloc))?
         .arg(strict_option(alloc))?
-        .arg(explain_option(alloc))
+        .arg(explain_option(alloc))?
+        .arg(number_option(alloc))?
+        .arg(moves_option(alloc))
 }
 
 /// The command `history`.
@@ -215,6 +218,8 @@ fn run_options(alloc: Global, matches: &ArgMatches<'_>) -> Result<Options, Optio
             script,
             strict: is_strict(matches),
             explain: is_on(matches, "explain"),
+            number: is_on(matches, "number"),
+            moves: is_on(matches, "moves"),
         }),
         Err(fault) => Err(fault),
     }
@@ -358,8 +363,8 @@ fn requested<'a, S: AsStr>(alloc: Global, words: &'a [S]) -> Result<Options, Opt
 }
 
 /// Reads the words of the command line, the program's name first:
-/// `l4 run [FILE] [--frames N] [--strict] [--explain]`, `l4 history [FILE] [--frames N] [--strict] [--answers]`,
-/// `l4 judge [FILE] [--frames N] [--all]`, `l4 why THREAD PAGE [FILE] [--frames N] [--strict]`, `l4 plan SOURCE TARGET COUNT RIGHTS`, `l4 check` with the same words, `l4 decode [--as READING] WORD..`, `l4 encode [--as KIND] TOKEN..`, `l4 test FILE.. [--tap]`, each with
+/// `l4 run [FILE] [--frames N] [--strict] [--explain] [--number] [--moves]`, `l4 history [FILE] [--frames N] [--strict] [--answers]`,
+/// `l4 judge [FILE] [--frames N] [--all]`, `l4 why THREAD PAGE [FILE] [--frames N] [--strict]`, `l4 plan SOURCE TARGET COUNT RIGHTS`, `l4 check` with the same words, `l4 decode [--as READING] WORD..`, `l4 encode [--as KIND] TOKEN..`, `l4 test FILE.. [--tap] [--write]`, each with
 /// `--page-size BYTES` where that is wanted, `--help`, `help` or `--version`. N is 256 and BYTES 4096 where they are left out; READING is
 /// message, fpage, window or id.
 ///

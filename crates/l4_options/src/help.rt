@@ -164,9 +164,18 @@ refused. The refusal of a line is an answer. Prints one line per file:
 
 The second form is the first difference. 'no further answer' stands for an answer
 that is not there. If there are more answers than expected, L is the line that they
-answer.
+answer. Expectations are answers without the additions of --explain, --number and
+--moves.
 
-Exit status: 0 if all scripts pass, 1 if an answer differs, 2 if the command line
+With --write, no script is compared. A copy of each script is written to FILE.new.
+It expects all answers, directly below their lines. It has no other expectations, so
+'#= ..' is replaced too. All other lines are as in FILE, in the same order. The copy
+passes the test. FILE itself is not changed, and a FILE.new that exists is not
+overwritten. Prints one line per file:
+
+  FILE: N lines, M expectations, written to FILE.new
+
+Exit status: 0 if all scripts pass, or all copies are written, 1 if an answer differs, 2 if the command line
 or a script is invalid or FILE cannot be opened, 3 if a read or a write failed, 4
 if there was not enough memory. With several files, the greatest of their statuses.";
 
@@ -330,7 +339,16 @@ In answers, TAG and WORD are hexadecimal without the prefix.
 
 With --explain, each answer is followed by lines that explain it and begin with
 '# '. A received message is explained as by l4 decode, a refusal by the meaning
-of its code.
+of its code. With --number, 'L: ' stands before each answer to line L. With
+--moves, each transfer is followed by a line for each page that it moved:
+
+  # moved SOURCE to TARGET RIGHTS  page SOURCE of the sender's space went to page
+                                   TARGET of the receiver's, which got RIGHTS:
+                                   those that page and item have in common. The
+                                   lines are in the order of the items, and then
+                                   of the pages
+
+Lines that begin with '# ' have no number. All of these options can be combined.
 
 These are the codes. Some carry a number; ITEM, WORD and PLACE count from 0.
 l4 plan, l4 check, l4 decode and l4_steps print these codes too:
@@ -391,7 +409,8 @@ l4 plan, l4 check, l4 decode and l4_steps print these codes too:
 
 Exit status: 0 at the end of the script, 1 if a refused line ended it (with
 --strict), 2 if the command line is invalid or FILE cannot be opened, 3 if a read
-or a write failed, 4 if there is not enough memory.
+or a write failed, 4 if there is not enough memory. With --moves, 4 also if a step
+gets another answer when it is executed again, because memory ran out.
 
 docs/profile.md of the source lists how this kernel differs from the L4 X.2
 manual.";

@@ -19,6 +19,7 @@ pub fn misread(rt: &impl Eprint, fault: &OptionFault) -> u8
         | OptionFault::Number { .. }
         | OptionFault::Rights(_)
         | OptionFault::Hyphens { .. }
+        | OptionFault::Exclude(_, _)
         | OptionFault::Word(_)
         | OptionFault::TooMany(_)
         | OptionFault::TooManyTokens(_)

@@ -18,11 +18,14 @@ pub struct ScriptOptions {
 /// What the command line of `l4` requests.
 #[derive(Debug, Drop)]
 pub enum Options {
-    /// Answers a script: up to its first refused line if `strict`, with an explanation of each answer if `explain`.
+    /// Answers a script: up to its first refused line if `strict`, with an explanation of each answer if `explain`, with the number of its
+    /// line before each answer if `number`, and with the pages that each transfer moved if `moves`.
     Run {
         script: ScriptOptions,
         strict: bool,
         explain: bool,
+        number: bool,
+        moves: bool,
     },
     /// Writes the history of a script, up to its first refused line if `strict`, with the answers to each step if `answers`.
     History {
@@ -58,10 +61,12 @@ pub enum Options {
         reading: Reading,
         size: PageSize,
     },
-    /// Compares the answers to the scripts in these files with those that they expect. Prints the results in TAP if `tap`.
+    /// Compares the answers to the scripts in these files with those that they expect. Prints the results in TAP if `tap`. If `write`, writes
+    /// copies that expect the actual answers instead. Not both are set.
     Test {
         files: Vec<String>,
         tap: bool,
+        write: bool,
     },
     /// Prints these words.
     Encode(ArrayVec<u32, MAX_WORDS>),
@@ -102,6 +107,9 @@ pub enum OptionFault {
     /// Rights that begin with `-` were taken for an option. `instead` is what to write.
     #[error("error: '{word}' was read as an option: for '<RIGHTS>', write {instead}, with _ instead of -")]
     Hyphens { word: String, instead: &'static str },
+    /// These two options exclude each other.
+    #[error("error: the argument '{0}' cannot be used with '{1}'")]
+    Exclude(&'static str, &'static str),
     /// A word is not a number.
     #[error("error: invalid value '{0}' for '<WORD>...': expected a number up to 4294967295, decimal or hexadecimal with a 0x prefix")]
     Word(String),

@@ -20,6 +20,16 @@ fn tap_option<'a>(alloc: Global) -> Arg<'a>
         .action(ArgAction::SetTrue)
 }
 
+/// The option `--write`.
+fn write_option<'a>(alloc: Global) -> Arg<'a>
+    ensures { IsRule (switch (codes "write")) result }
+{
+    Arg::new(alloc, "write")
+        .long("write")
+        .help("Write a copy of each script, FILE.new, that expects the actual answers")
+        .action(ArgAction::SetTrue)
+}
+
 /// The command `test`.
 pub(crate) fn of_files<'a>(alloc: Global) -> Result<Command<'a>, AllocError>
     ensures { IfOk result (IsCommand test_command) }
@@ -33,7 +43,8 @@ pub(crate) fn of_files<'a>(alloc: Global) -> Result<Command<'a>, AllocError>
             "FILE",
             "The scripts with the answers that they expect",
         ))?
-        .arg(tap_option(alloc))
+        .arg(tap_option(alloc))?
+        .arg(write_option(alloc))
 }
 
 /// A copy of these names. None if there is not enough memory.
@@ -64,8 +75,10 @@ pub(crate) fn test_options(alloc: Global, matches: &ArgMatches<'_>) -> Result<Op
     let Some(files) = copied(alloc, names) else {
         return Err(OptionFault::Memory);
     };
-    Ok(Options::Test {
-        files,
-        tap: is_on(matches, "tap"),
-    })
+    let tap = is_on(matches, "tap");
+    let write = is_on(matches, "write");
+    if tap && write {
+        return Err(OptionFault::Exclude("--tap", "--write"));
+    }
+    Ok(Options::Test { files, tap, write })
 }

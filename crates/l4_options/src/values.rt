@@ -76,6 +76,26 @@ pub(crate) fn explain_option<'a>(alloc: Global) -> Arg<'a>
         .action(ArgAction::SetTrue)
 }
 
+/// The option `--number`.
+pub(crate) fn number_option<'a>(alloc: Global) -> Arg<'a>
+    ensures { IsRule (switch (codes "number")) result }
+{
+    Arg::new(alloc, "number")
+        .long("number")
+        .help("Print the number of its line before each answer")
+        .action(ArgAction::SetTrue)
+}
+
+/// The option `--moves`.
+pub(crate) fn moves_option<'a>(alloc: Global) -> Arg<'a>
+    ensures { IsRule (switch (codes "moves")) result }
+{
+    Arg::new(alloc, "moves")
+        .long("moves")
+        .help("Print each page that a transfer moved in a line that begins with #")
+        .action(ArgAction::SetTrue)
+}
+
 /// The option `--answers`.
 pub(crate) fn answers_option<'a>(alloc: Global) -> Arg<'a>
     ensures { IsRule (switch (codes "answers")) result }

@@ -5,6 +5,8 @@ use Rattle.l4_sinks.specs.Scripts.{RunsScript}
 use Rattle.l4_sinks.specs.declared.scripts.Ended.{Ended}
 use Rattle.l4_history.specs.Histories.{HasText}
 use Rattle.l4_history.specs.Telling.{HasWhy}
+use Rattle.l4_history.specs.Annotations.{AnnotatesScript}
+use Rattle.l4_history.specs.declared.annotating.Annotations.{Annotations}
 use Rattle.l4_history.specs.declared.asking.ThreadPage.{ThreadPage}
 use Rattle.l4_history.specs.declared.asking.Presence.{Presence}
 use Rattle.l4_history.specs.declared.asking.Presence.TheVariants.{Present, Absent, NoThread}
@@ -16,6 +18,17 @@ use Rattle.l4_page.specs.Told.{IsTold, TellsNothing}
 abbrev pub TellsAnswers : ℕ → PageSize → Bool → List ℕ → List ℕ → List ℕ → Answer → Type 0
 TellsAnswers frames size explain script old new told =
     ((rest : List ℕ) × (text : List ℕ) × (ended : Ended) × RunsScript frames size false explain (Some script) (Some rest) (Some []) (Some text) (Ok ended)
+    × IsTold text true ended.lines old new told)
+    ⊎ TellsNothing (codes "NoMemory") old new told
+
+-- numbers and moves, in a run that is neither strict nor explained
+abbrev pub numbers_and_moves : Annotations
+numbers_and_moves = record { style = record { strict = false; explain = false }; number = true; moves = true }
+
+-- the text of the answers to all lines, with the numbers of the lines and the pages that transfers moved
+abbrev pub TellsAnnotated : ℕ → PageSize → List ℕ → List ℕ → List ℕ → Answer → Type 0
+TellsAnnotated frames size script old new told =
+    ((rest : List ℕ) × (text : List ℕ) × (ended : Ended) × AnnotatesScript frames size numbers_and_moves (Some script) (Some rest) (Some []) (Some text) (Ok ended)
     × IsTold text true ended.lines old new told)
     ⊎ TellsNothing (codes "NoMemory") old new told
 

@@ -10,7 +10,7 @@ mod tracing;
 mod words;
 
 pub use planning::{page_check, page_plan};
-pub use running::{page_explain, page_history, page_run};
+pub use running::{page_annotate, page_explain, page_history, page_run};
 pub use stepping::page_steps;
 pub use telling::Told;
 pub use tracing::page_why;

@@ -2,12 +2,12 @@
 ghost use Rattle.std.specs.Prelude.{true, false};
 ghost use Rattle.l4_page.specs.Given.{HasFrames, InMachine};
 ghost use Rattle.l4_page.specs.Told.{TellsNothing};
-ghost use Rattle.l4_page.specs.Scripts.{TellsAnswers, TellsHistoryOf};
+ghost use Rattle.l4_page.specs.Scripts.{TellsAnswers, TellsAnnotated, TellsHistoryOf};
 
 use crate::given::machine_of;
 use crate::telling::{NO_MEMORY, Told, refused, tell};
 use l4_fpage::PageSize;
-use l4_history::{answered_history, history};
+use l4_history::{Annotations, annotated_script, answered_history, history};
 use l4_sinks::{Style, answer_script};
 use std::alloc::Global;
 
@@ -69,6 +69,46 @@ pub extern "C" fn page_explain(
 {
     match machine_of(page_bytes, frames) {
         Ok(size) => answered(alloc, script, frames, size, true, out),
+        Err(refusal) => refused(refusal),
+    }
+}
+
+/// Runs a script, and writes its answers with numbers and moves.
+fn annotated(alloc: Global, script: &[u8], frames: u32, size: PageSize, out: &mut [u8]) -> Told
+    requires { HasFrames frames }
+    ensures { TellsAnnotated frames size script.now out.old out.new result }
+{
+    let mut rest = script;
+    let mut text = Vec::new(alloc);
+    let notes = Annotations {
+        style: Style {
+            strict: false,
+            explain: false,
+        },
+        number: true,
+        moves: true,
+    };
+    match annotated_script(alloc, frames, size, notes, &mut rest, &mut text) {
+        Ok(ended) => tell(text.as_slice(), true, ended.lines, out),
+        Err(_) => refused(NO_MEMORY),
+    }
+}
+
+/// Writes what `l4 run --number --moves` writes for a script.
+#[unsafe(no_mangle)]
+pub extern "C" fn page_annotate(
+    alloc: Global,
+    script: &[u8],
+    frames: u32,
+    page_bytes: u32,
+    out: &mut [u8],
+) -> Told
+    ensures { InMachine page_bytes frames
+        (λ size. TellsAnnotated frames size script.now out.old out.new result)
+        (λ code. TellsNothing code out.old out.new result) }
+{
+    match machine_of(page_bytes, frames) {
+        Ok(size) => annotated(alloc, script, frames, size, out),
         Err(refusal) => refused(refusal),
     }
 }

@@ -66,6 +66,18 @@ pub fn not_opened(rt: &impl Eprint, name: &str, error: io::Error) -> u8
     NOT_UNDERSTOOD
 }
 
+/// Prints on standard error that a file cannot be created or written, and returns the exit status.
+pub fn not_created(rt: &impl Eprint, name: &str, error: io::Error) -> u8
+    ensures { result ≡ 3 }
+{
+    let _ = eprintln!(rt;
+        "error: cannot write {}{}",
+        Source(Some(name)),
+        Cause(Some(error))
+    );
+    STREAM_FAILED
+}
+
 /// Prints on standard error that standard output cannot be written, and returns the exit status. Prints nothing for a closed pipe, because
 /// the program that reads it has ended.
 fn not_written(rt: &impl Eprint, cause: Option<io::Error>) -> u8

@@ -2,3 +2,4 @@ pub mod Snoc
 pub mod Sofar
 pub mod Back
 pub mod Given
+pub mod Moving

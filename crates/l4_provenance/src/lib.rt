@@ -2,9 +2,11 @@
 #![tactic(auto)]
 
 mod finding;
+mod moves;
 mod replaying;
 mod writing;
 
 pub use finding::provenance;
 pub use l4_record::{ChainLink, ReplayFault};
+pub use moves::{MovedPage, next_move};
 pub use replaying::replay;

@@ -10,15 +10,15 @@ use l4_record::ChainLink;
 
 /// The items of a transfer, the spaces of its sender and receiver, and the receive window.
 #[derive(Clone, Copy)]
-struct Letter<'a> {
-    from: u64,
-    to: u64,
-    items: &'a [Item],
-    window: Fpage,
+pub(crate) struct Letter<'a> {
+    pub(crate) from: u64,
+    pub(crate) to: u64,
+    pub(crate) items: &'a [Item],
+    pub(crate) window: Fpage,
 }
 
 /// Returns the letter of the step, if it is a transfer from a thread that sends to one that receives.
-fn letter_of<'a>(kernel: &'a Kernel, step: &Step) -> Option<Letter<'a>>
+pub(crate) fn letter_of<'a>(kernel: &'a Kernel, step: &Step) -> Option<Letter<'a>>
     ensures { MatchOption result ((«from» to : ℕ) (items : List AnItem) (window : AnFpage) → ¬ (AreParties kernel.now step.now «from» to items window))
         (λ l. AreParties kernel.now step.now l.«from» l.to l.items.now l.window) }
 {

@@ -61,6 +61,13 @@ impl SeatedKernel {
         self.recorder.kernel()
     }
 
+    /// Returns the history.
+    pub fn history(&self) -> &History
+        ensures { result.now.entries ≡ self.now.history }
+    {
+        self.recorder.history()
+    }
+
     /// Returns whether the number has its seat. Seats are mostly given in the order of their numbers, from 1 on, so the entry at that index
     /// is tested first.
     fn has_seat(&self, number: u32) -> bool

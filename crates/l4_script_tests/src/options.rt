@@ -77,7 +77,9 @@ fn reads_a_plain_run(rt: HostRuntime) {
                     file: None
                 },
                 strict: false,
-                explain: false
+                explain: false,
+                number: false,
+                moves: false
             })
         )
     );

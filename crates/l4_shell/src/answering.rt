@@ -143,6 +143,13 @@ impl Script {
         }
     }
 
+    /// Returns the history of the lines that were answered.
+    pub(crate) fn history(&self) -> &History
+        ensures { result.now.entries ≡ self.now.session.kernel.history }
+    {
+        self.session.kernel.history()
+    }
+
     /// Returns the history.
     pub(crate) fn into_history(self) -> History
         ensures { result.entries ≡ self.session.kernel.history }

@@ -1,5 +1,5 @@
 //! Scripts whose lines the caller reads.
-ghost use Rattle.std.specs.Prelude.{◌≤◌, List, IfSome};
+ghost use Rattle.std.specs.Prelude.{◌≡◌, ◌≤◌, List, IfSome};
 ghost use Rattle.l4_answers.specs.Reports.{Report, AddsAll};
 ghost use Rattle.l4_fpage.specs.Pages.{max_frames};
 ghost use Rattle.l4_shell.specs.ByLines.{state_of, IsFirst};
@@ -10,6 +10,7 @@ use crate::answering::Script;
 use crate::running::booted;
 use l4_answers::Sink;
 use l4_ipc::PageSize;
+use l4_record::History;
 use l4_servers::Servers;
 use l4_text::Ending;
 use std::alloc::Global;
@@ -33,6 +34,13 @@ impl ScriptRun {
         Some(ScriptRun {
             script: Script::new(kernel, Servers::new(alloc, frames, size)),
         })
+    }
+
+    /// Returns the history of the lines that were answered.
+    pub fn history(&self) -> &History
+        ensures { result.now.entries ≡ (state_of self.now).session.history }
+    {
+        self.script.history()
     }
 
     /// Answers the line with this number and this ending.

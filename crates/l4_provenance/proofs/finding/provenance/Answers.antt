@@ -1,4 +1,4 @@
-use Rattle.std.proofs.Common.{◌≡◌, List, sym, subst}
+use Rattle.std.proofs.Common.{List, sym, subst}
 use Rattle.l4_ipc.specs.Machine.{Machine}
 use Rattle.l4_record.specs.Chains.{IsProvenance}
 use Rattle.l4_record.specs.Replays.{IsBootWith}
