@@ -303,7 +303,7 @@ fn copy_name(alloc: Global, file: &str) -> Option<String> {
     }
 }
 
-/// Creates a file with these bytes. A file that exists stays as it is, which is an error. After a failed write, there is no file.
+/// Creates a file with these bytes. If the file exists, returns an error and leaves it unchanged. If a write fails, removes the new file.
 fn create<R: Files>(rt: &R, name: &str, bytes: &[u8]) -> io::Result<()> {
     let mut file = match File::create_new(rt, name) {
         Ok(file) => file,

@@ -1,4 +1,4 @@
-//! Names, and the threads that they stand for.
+//! The names of threads.
 ghost use Rattle.std.specs.Prelude.{◌≡◌, List, [], is_some, option_map};
 ghost use Rattle.std.specs.List.{list_all, position};
 ghost use Rattle.l4_names.specs.Names.{is_letter, is_name_byte, begins_with_letter, is_name, name_of, is_named, thread_named, given, after_giving};
@@ -6,7 +6,7 @@ ghost use Rattle.l4_names.specs.Names.{is_letter, is_name_byte, begins_with_lett
 use arrayvec::ArrayVec;
 use std::marker::Model;
 
-/// The most bytes of a name. An error message quotes so many bytes of a token, so it has every name in full.
+/// The most bytes of a name. An error message quotes up to this many bytes of a token, so it shows every name in full.
 pub const MAX_NAME: usize = 24;
 
 /// The most names of a script: as many as there can be threads.
@@ -104,7 +104,7 @@ impl Name {
     }
 }
 
-/// A name, and the thread that it stands for.
+/// A name, and the number of the thread that has it.
 #[derive(Drop)]
 pub struct NamedThread {
     /// The name.

@@ -14,7 +14,7 @@ pub fn names_hide_no_word()
     ensures { HideNoWord }
 {}
 
-/// Ghost function: gives a proof that a name stands for the thread to which it was given last. It compiles to nothing.
+/// Ghost function: gives a proof that a name is read as the thread to which it was given last. It compiles to nothing.
 pub fn names_stand_for_threads()
     ensures { StandForThreads }
 {}

@@ -32,7 +32,7 @@ const COMMAND_NAMES: &[&[u8]] = &[
     b"steps",
 ];
 
-/// The words that have the form of a name, and that stand for themselves in some place of a line or begin a symbolic token.
+/// The words that have the form of a name, and that a command accepts as keywords or that begin a symbolic token.
 const TOKEN_WORDS: &[&[u8]] = &[
     b"nil", b"any", b"new", b"all", b"none", b"never", b"zero", b"tag", b"map", b"grant", b"rwx",
     b"rw-", b"r-x", b"r--",

@@ -1,4 +1,4 @@
-//! Reads tokens that stand for threads, and the words `nil`, `any` and `new`.
+//! Reads the tokens that name threads, and the words `nil`, `any` and `new`.
 ghost use Rattle.std.specs.Prelude.{◌≡◌, option_map};
 ghost use Rattle.l4_text.specs.Numbers.{below, number_of};
 ghost use Rattle.l4_threads.specs.Sizes.{numbers};
