@@ -18,8 +18,8 @@ mod taking;
 pub use l4_fpage::MAX_FRAMES;
 use l4_fpage::{Block, Rights};
 use l4_links::Links;
+use l4_mapdb::deliver;
 pub use l4_mapdb::{Cause, ItemMove, Mapping, Place};
-use l4_mapdb::{deliver, is_entangled};
 pub use l4_spaces::NoMemory;
 use std::alloc::Global;
 use std::marker::Model;
@@ -131,15 +131,6 @@ impl Forest {
         let keys = self.links.descendants(alloc, key)?;
         let places = listing::places_under(alloc, &self.links, keys.as_slice())?;
         Ok(places)
-    }
-
-    /// Returns whether the used moves of a message from one space to the other conflict: two have the same target, a
-    /// granted page is moved twice, or a present target is itself a source or an ancestor of one (this profile's
-    /// own). Needs no memory.
-    pub fn is_entangled(&self, from: u64, to: u64, moves: &[ItemMove]) -> bool
-        ensures { IsTrue result ↔ IsEntangled (IsUsed self.now from to moves.now) self.now }
-    {
-        is_entangled(&self.links, from, to, moves)
     }
 
     /// Applies the map and grant items of a message from one space to another, or within one space. Both spaces

@@ -20,7 +20,6 @@ mod unmarking;
 pub use delivering::deliver;
 use l4_fpage::{Block, Rights};
 use l4_msg::Move;
-pub use tangles::is_entangled;
 
 /// A page of a space.
 #[derive(Clone, Copy, Debug, PartialEq, Eq)]

@@ -2,8 +2,6 @@
 
 ghost use Rattle.std.specs.Prelude.{◌≡◌, ◌≢◌, ◌↔◌, ◌<◌, ◌≤◌, ◌⊎◌, ℕ, length, IsTrue, MatchOption, true, false};
 ghost use Rattle.l4_links.specs.Entries.{entry_at, IsAt, IsStanding, IsSource, Descends};
-ghost use Rattle.l4_mapdb.specs.Transfer.{IsUsed, IsEntangled};
-ghost use Rattle.l4_mapdb.specs.View.{mappings_of};
 ghost use Rattle.l4_mapdb.specs.Inside.Messages.{IsMoved};
 ghost use Rattle.l4_mapdb.specs.Inside.Tangles.{IsTaken, Clashes, ClashesWith, Tangles, TanglesFrom, HasTangle, AboveSource, SourcesAre, AreApart, NoneReplaced};
 ghost use Rattle.l4_mapdb.specs.declared.sources.UsedMove.{UsedMove as AUsedMove};
@@ -189,16 +187,6 @@ pub(crate) fn has_tangle(links: &Links, from: u64, to: u64, items: &[ItemMove]) 
         }
     }
     false
-}
-
-/// Returns whether the used moves of a message conflict (this profile's own). Needs no memory.
-pub fn is_entangled(links: &Links, from: u64, to: u64, items: &[ItemMove]) -> bool
-    ensures { IsTrue result
-        ↔ IsEntangled (IsUsed (mappings_of links.now) from to items.now) (mappings_of links.now) }
-{
-    links.law_places();
-    links.law_trees();
-    has_tangle(links, from, to, items)
 }
 
 /// Returns whether the node at the place is a source, or above one.

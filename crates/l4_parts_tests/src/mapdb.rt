@@ -1,4 +1,4 @@
-use l4_forest::{Forest, ItemMove, Mapping, NoMemory, Place};
+use l4_forest::{Cause, Forest, ItemMove, Mapping, NoMemory, Place};
 use l4_fpage::{Block, Rights};
 use l4_msg::Move;
 use std::test::Fail;
@@ -50,8 +50,7 @@ fn revokes_and_tangles(rt: HostRuntime) {
         [Some(Place { space: 0, page: 5 }), None]
     );
     let onto_itself = [onto_itself()];
-    assert!(rt; forest.is_entangled(0, 0, &onto_itself));
-    assert!(rt; !forest.is_entangled(0, 2, &onto_itself));
+    assert!(rt; matches!(forest.map_all(0, 0, &onto_itself), Err(Cause::Entangled)));
     forest.revoke(Place { space: 0, page: 5 }, Rights::of_bits(2), true);
     assert_eq!(rt; forest.at(0, 5), Some(root(5, Rights::of_bits(5))));
     forest.revoke(Place { space: 0, page: 5 }, Rights::all(), true);

@@ -75,6 +75,12 @@ fn end(threads: &mut Threads, number: u32) -> Result<(), &'static str> {
     Ok(())
 }
 
+/// Returns the pager of the thread with this number.
+fn pager_of(threads: &Threads, number: u32) -> Option<ThreadId> {
+    let thread = threads.thread(number)?;
+    Some(thread.pager)
+}
+
 #[test]
 fn the_start(rt: HostRuntime) -> Result<(), Fail> {
     let threads = Threads::boot(rt.alloc())?;
@@ -83,7 +89,7 @@ fn the_start(rt: HostRuntime) -> Result<(), Fail> {
         [Some(0), Some(1)]
     );
     assert_eq!(rt;
-        [threads.pager_of(1), threads.pager_of(2)],
+        [pager_of(&threads, 1), pager_of(&threads, 2)],
         [Some(ThreadId::nil()), Some(SIGMA0)]
     );
     assert_eq!(rt;
@@ -201,7 +207,7 @@ fn another_pager(rt: HostRuntime) -> Result<(), Fail> {
             Ok(1)
         ]
     );
-    assert_eq!(rt; threads.pager_of(1), Some(ROOT));
+    assert_eq!(rt; pager_of(&threads, 1), Some(ROOT));
     Ok(())
 }
 

@@ -43,10 +43,6 @@ state_of t n = option_map (λ thread. thread.state) (thread_at t n)
 abbrev pub space_of : Threads → ℕ → Option ℕ
 space_of t n = option_map (λ thread. thread.space) (thread_at t n)
 
--- the pager of the thread with this number
-abbrev pub pager_of : Threads → ℕ → Option ThreadId
-pager_of t n = option_map (λ thread. thread.pager) (thread_at t n)
-
 -- the id that names no thread (L4 X.2 manual, ThreadId: nilthread)
 abbrev pub nilthread : ThreadId
 nilthread = record { 0 = 0 }

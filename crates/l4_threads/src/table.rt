@@ -91,7 +91,7 @@ fn offers(sends: Option<&Activity>, takes: Option<&Activity>, sender: u32, recei
 }
 
 impl Threads {
-    ghost use Rattle.l4_threads.specs.Threads.{thread_at, state_of, space_of, pager_of, named, number_of, runs, sends, may_receive, with_state, sending_of, message_of, start_send, start_receive, end_call, first_threads, IsConsistent, Before};
+    ghost use Rattle.l4_threads.specs.Threads.{thread_at, state_of, space_of, named, number_of, runs, sends, may_receive, with_state, sending_of, message_of, start_send, start_receive, end_call, first_threads, IsConsistent, Before};
     ghost use Rattle.l4_threads.specs.declared.Reply.TheVariants.{Ipc};
     ghost use Rattle.l4_threads.specs.declared.Sending.{Sending as ASending};
     ghost use Rattle.l4_threads.specs.declared.State.TheVariants.{Sending as Sends};
@@ -172,14 +172,6 @@ impl Threads {
     {
         let thread = self.thread(number)?;
         Some(thread.space)
-    }
-
-    /// Returns the pager of the thread with this number.
-    pub fn pager_of(&self, number: u32) -> Option<ThreadId>
-        ensures { result ≡ pager_of self.now number }
-    {
-        let thread = self.thread(number)?;
-        Some(thread.pager)
     }
 
     /// Returns the number of the thread that has exactly this id.
