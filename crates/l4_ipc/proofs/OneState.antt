@@ -28,7 +28,7 @@ use Rattle.l4_threads.proofs.QueuePairs.{pairs_total, exact_number_pairs}
 use Rattle.l4_ipc.specs.declared.calls.Call.{Call}
 use Rattle.l4_ipc.specs.declared.calls.Call.TheVariants.{Ipc, Fault, Unmap, Control as Controls}
 use Rattle.l4_ipc.specs.declared.calls.Control.TheVariants.{Create, SetPager, Delete}
-use Rattle.l4_ipc.specs.declared.sent.Sent.{Sent}
+use Rattle.l4_ipc.specs.declared.turns.Sent.{Sent}
 use Rattle.l4_ipc.specs.declared.steps.Step.{Step}
 use Rattle.l4_ipc.specs.declared.steps.Step.TheVariants.{Start, Transfer, Expire}
 use Rattle.l4_ipc.specs.declared.steps.Outcome.{Outcome}

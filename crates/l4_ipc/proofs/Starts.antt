@@ -24,9 +24,9 @@ use Rattle.l4_ipc.specs.declared.calls.Call.{Call}
 use Rattle.l4_ipc.specs.declared.calls.Call.TheVariants.{Ipc}
 use Rattle.l4_ipc.specs.declared.calls.IpcCall.{IpcCall}
 use Rattle.l4_threads.specs.declared.Source.TheVariants.{Anyone, Thread as One}
-use Rattle.l4_ipc.specs.declared.next.Next.{Next}
-use Rattle.l4_ipc.specs.declared.next.Next.TheVariants.{Ends, Sends, Receives}
-use Rattle.l4_ipc.specs.declared.sent.Sent.{Sent}
+use Rattle.l4_ipc.specs.declared.turns.Next.{Next}
+use Rattle.l4_ipc.specs.declared.turns.Next.TheVariants.{Ends, Sends, Receives}
+use Rattle.l4_ipc.specs.declared.turns.Sent.{Sent}
 use Rattle.l4_ipc.specs.declared.steps.Answer.{Answer}
 use Rattle.l4_ipc.specs.declared.steps.Outcome.TheVariants.{Started, Expired}
 use Rattle.l4_ipc.specs.declared.steps.Refused.{Refused}

@@ -19,8 +19,8 @@ use Rattle.l4_threads.specs.Control.{create_test, created, is_privileged, is_bad
 use Rattle.l4_ipc.specs.declared.calls.Call.{Call}
 use Rattle.l4_ipc.specs.declared.calls.Call.TheVariants.{Ipc, Fault, Unmap, Control as Controls}
 use Rattle.l4_ipc.specs.declared.calls.Control.TheVariants.{Create, SetPager, Delete}
-use Rattle.l4_ipc.specs.declared.next.Next.{Next}
-use Rattle.l4_ipc.specs.declared.next.Next.TheVariants.{Ends, Sends, Receives}
+use Rattle.l4_ipc.specs.declared.turns.Next.{Next}
+use Rattle.l4_ipc.specs.declared.turns.Next.TheVariants.{Ends, Sends, Receives}
 use Rattle.l4_ipc.specs.declared.steps.Answer.{Answer}
 use Rattle.l4_ipc.specs.declared.steps.Step.{Step}
 use Rattle.l4_ipc.specs.declared.steps.Step.TheVariants.{Start, Transfer, Expire}

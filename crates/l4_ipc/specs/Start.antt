@@ -32,9 +32,9 @@ use Rattle.l4_ipc.specs.declared.calls.Control.TheVariants.{Create, SetPager, De
 use Rattle.l4_ipc.specs.declared.steps.Lower.TheVariants.{Message as LowerMessage, Unmap as LowerUnmap, Thread as LowerThread}
 use Rattle.l4_ipc.specs.declared.steps.Refused.{Refused}
 use Rattle.l4_ipc.specs.declared.steps.Refused.TheVariants.{UnknownThread, Busy, BadTimeout, Lower}
-use Rattle.l4_ipc.specs.declared.next.Next.{Next}
-use Rattle.l4_ipc.specs.declared.next.Next.TheVariants.{Ends, Sends, Receives}
-use Rattle.l4_ipc.specs.declared.sent.Sent.{Sent}
+use Rattle.l4_ipc.specs.declared.turns.Next.{Next}
+use Rattle.l4_ipc.specs.declared.turns.Next.TheVariants.{Ends, Sends, Receives}
+use Rattle.l4_ipc.specs.declared.turns.Sent.{Sent}
 use Rattle.l4_ipc.specs.Machine.{Machine}
 use Rattle.l4_fpage.specs.declared.sizes.PageSize.{PageSize}
 

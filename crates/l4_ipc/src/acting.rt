@@ -1,5 +1,5 @@
 //! Executes the steps on the parts of the kernel.
-ghost use Rattle.std.specs.Prelude.{◌≡◌, ◌≤◌, ◌++◌, ◌∷◌, [], ℕ, length, true, false, IsTrue, IsSome, MatchOption, Ok, Err, IfOk, IfErr, OnOk, OnErr};
+ghost use Rattle.std.specs.Prelude.{◌≡◌, ◌≤◌, [], length, true, false, IsTrue, IsSome, MatchOption, Ok, Err, IfOk, IfErr, OnOk, OnErr};
 ghost use Rattle.l4_mapdb.specs.Mappings.{Mappings};
 ghost use Rattle.l4_threads.specs.Threads.{state_of, runs, end_call};
 ghost use Rattle.l4_threads.specs.Enabled.{IsFirstSender};
@@ -14,16 +14,16 @@ ghost use Rattle.l4_msg.specs.Sizes.{max_words, max_items};
 ghost use Rattle.l4_msg.specs.Tags.{TagReads};
 ghost use Rattle.l4_ipc.specs.Start.{has_send, has_bad_timeout, IsSent};
 ghost use Rattle.l4_ipc.specs.Inside.Turns.{reply_of, sent_of};
-ghost use Rattle.l4_ipc.specs.Inside.Answering.{answered_if, written};
+ghost use Rattle.l4_ipc.specs.Inside.Answering.{StartsCall, StartsControl, ExpiresCall, answered_if, written};
 ghost use Rattle.l4_ipc.specs.OwnCall.{ended_if, own_answer};
 ghost use Rattle.l4_ipc.specs.NextSteps.{answer_of};
 ghost use Rattle.l4_ipc.specs.Steps.{expiry, with_space, Steps};
-ghost use Rattle.l4_ipc.specs.declared.steps.Step.TheVariants.{Start, Transfer as Transfers, Expire as Expires};
+ghost use Rattle.l4_ipc.specs.declared.steps.Step.TheVariants.{Start, Transfer as Transfers};
 ghost use Rattle.l4_ipc.specs.declared.steps.NextStep.TheVariants.{Transfer as Transferred, Expire as Expiry};
 ghost use Rattle.l4_ipc.specs.declared.steps.Outcome.TheVariants.{Started};
 ghost use Rattle.l4_ipc.specs.declared.calls.Call.{Call};
 ghost use Rattle.l4_ipc.specs.declared.calls.Call.TheVariants.{Ipc, Fault as Faults, Unmap as Unmaps, Control as Controls};
-ghost use Rattle.l4_ipc.specs.declared.calls.Control.TheVariants.{Create as Creates, SetPager as SetsPager, Delete as Deletes};
+ghost use Rattle.l4_ipc.specs.declared.calls.Control.TheVariants.{Create as Creates, SetPager as SetsPager};
 
 use crate::calls::{Call, Control, Create, FaultCall, IpcCall, SetPager, UnmapCall};
 use crate::deleting::delete;
@@ -85,9 +85,7 @@ fn tell(entered: Result<bool, Refused>, number: u32, answer: &mut Answer) -> Res
 fn start_receive(threads: &mut Threads, number: u32, call: &IpcCall) -> Result<bool, Refused>
     requires running { IsTrue (runs threads.old number) }
     requires receives { has_send call.now ≡ false }
-    ensures { (size : APageSize) (s : Mappings)
-        → Steps (machine size threads.old s) (Start number (Ipc call.now))
-        (answered_if number result) (machine size threads.new s) }
+    ensures { StartsCall threads.old number (Ipc call.now) result threads.new }
 {
     if call.has_bad_timeout() {
         return Err(Refused::BadTimeout);
@@ -116,9 +114,7 @@ fn start_message(
     requires sent { IsSent true call.now.words.items (sent_of words.now items.now) }
     requires words { length words.now ≤ max_words }
     requires items { length items.now ≤ max_items }
-    ensures { (size : APageSize) (s : Mappings)
-        → Steps (machine size threads.old s) (Start number (Ipc call.now))
-        (answered_if number result) (machine size threads.new s) }
+    ensures { StartsCall threads.old number (Ipc call.now) result threads.new }
 {
     let window = match call.window() {
         Ok(window) => window,
@@ -152,9 +148,7 @@ fn start_listed(
     requires sends { has_send call.now ≡ true }
     requires good { HasGoodTag call.now.words.items }
     requires tag { TagReads (tag_of call.now.words.items) tag.now }
-    ensures { (size : APageSize) (s : Mappings)
-        → Steps (machine size threads.old s) (Start number (Ipc call.now))
-        (answered_if number result) (machine size threads.new s) }
+    ensures { StartsCall threads.old number (Ipc call.now) result threads.new }
 {
     let items = match Message::read_typed(call.words.as_slice(), tag) {
         Ok(items) => items,
@@ -181,9 +175,7 @@ fn start_items(
     requires sends { has_send call.now ≡ true }
     requires good { HasGoodTag call.now.words.items }
     requires tag { TagReads (tag_of call.now.words.items) tag.now }
-    ensures { (size : APageSize) (s : Mappings)
-        → Steps (machine size threads.old s) (Start number (Ipc call.now))
-        (answered_if number result) (machine size threads.new s) }
+    ensures { StartsCall threads.old number (Ipc call.now) result threads.new }
 {
     if tag.typed != ITEM_WORDS {
         return start_listed(threads, number, call, tag);
@@ -199,9 +191,7 @@ fn start_items(
 #[inline(always)]
 fn start_ipc(threads: &mut Threads, number: u32, call: &IpcCall) -> Result<bool, Refused>
     requires { IsTrue (runs threads.old number) }
-    ensures { (size : APageSize) (s : Mappings)
-        → Steps (machine size threads.old s) (Start number (Ipc call.now))
-        (answered_if number result) (machine size threads.new s) }
+    ensures { StartsCall threads.old number (Ipc call.now) result threads.new }
 {
     if !call.has_send() {
         return start_receive(threads, number, call);
@@ -295,9 +285,8 @@ fn create(
     call: &Create,
 ) -> Result<bool, Refused>
     requires { IsTrue (runs threads.old number) }
-    ensures { (size : APageSize)
-        → Steps (machine size threads.old forest.old) (Start number (Controls (Creates call.now)))
-        (answered_if number result) (machine size threads.new forest.new) }
+    ensures { StartsControl threads.old forest.old number (Creates call.now)
+        (answered_if number result) threads.new forest.new }
 {
     let space = match threads.test_create(number, call.id, call.space) {
         Ok(space) => space,
@@ -314,9 +303,7 @@ fn create(
 /// Changes the pager of a thread for a running thread.
 fn set_pager(threads: &mut Threads, number: u32, call: &SetPager) -> Result<bool, Refused>
     requires { IsTrue (runs threads.old number) }
-    ensures { (size : APageSize) (s : Mappings)
-        → Steps (machine size threads.old s) (Start number (Controls (SetsPager call.now)))
-        (answered_if number result) (machine size threads.new s) }
+    ensures { StartsCall threads.old number (Controls (SetsPager call.now)) result threads.new }
 {
     if let Err(fault) = threads.set_pager(number, call.id, call.pager) {
         return Err(Refused::Lower(Lower::Thread(fault)));
@@ -334,9 +321,8 @@ fn start_control(
     answer: &mut Answer,
 ) -> Result<(), Refused>
     requires { IsTrue (runs threads.old number) }
-    ensures { (size : APageSize)
-        → Steps (machine size threads.old forest.old) (Start number (Controls control.now))
-        (written result answer.new) (machine size threads.new forest.new) }
+    ensures { StartsControl threads.old forest.old number control.now (written result answer.new)
+        threads.new forest.new }
 {
     match control {
         Control::Create(call) => tell(create(threads, forest, number, call), number, answer),
@@ -498,13 +484,8 @@ fn expiry(state: &Activity) -> Ending
 /// Expires a zero timeout, and returns no answer.
 pub fn expire_untold(threads: &mut Threads, number: u32) -> Result<(), Refused>
     ensures ok { IfOk result
-        (λ _. (size : APageSize) (s : Mappings)
-        → Steps (machine size threads.old s) (Expires number) (Ok (answer_of (Expiry number)))
-        (machine size threads.new s)) }
-    ensures err { IfErr result
-        (λ e. (size : APageSize) (s : Mappings)
-        → Steps (machine size threads.old s) (Expires number) (Err e)
-        (machine size threads.new s)) }
+        (λ _. ExpiresCall threads.old number (Ok (answer_of (Expiry number))) threads.new) }
+    ensures err { IfErr result (λ e. ExpiresCall threads.old number (Err e) threads.new) }
 {
     if !threads.can_expire(number) {
         return Err(Refused::NotEnabled);
@@ -529,8 +510,7 @@ pub fn expire_answer(number: u32) -> Answer
 
 /// Expires a zero timeout, or refuses it if it is not enabled.
 pub fn expire(threads: &mut Threads, number: u32) -> Result<Answer, Refused>
-    ensures { (size : APageSize) (s : Mappings)
-        → Steps (machine size threads.old s) (Expires number) result (machine size threads.new s) }
+    ensures { ExpiresCall threads.old number result threads.new }
 {
     match expire_untold(threads, number) {
         Ok(()) => Ok(expire_answer(number)),

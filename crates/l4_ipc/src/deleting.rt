@@ -3,12 +3,7 @@ ghost use Rattle.std.specs.Prelude.{◌≡◌, ◌<◌, ◌∷◌, length, IsTru
 ghost use Rattle.l4_forest.specs.Losing.{EndsSpace};
 ghost use Rattle.l4_threads.specs.Sizes.{max_threads};
 ghost use Rattle.l4_threads.specs.Threads.{runs};
-ghost use Rattle.l4_ipc.specs.Machine.{machine};
-ghost use Rattle.l4_fpage.specs.declared.sizes.PageSize.{PageSize as APageSize};
-ghost use Rattle.l4_ipc.specs.Inside.Answering.{written};
-ghost use Rattle.l4_ipc.specs.Steps.{Steps};
-ghost use Rattle.l4_ipc.specs.declared.steps.Step.TheVariants.{Start};
-ghost use Rattle.l4_ipc.specs.declared.calls.Call.TheVariants.{Control as Controls};
+ghost use Rattle.l4_ipc.specs.Inside.Answering.{StartsControl, written};
 ghost use Rattle.l4_ipc.specs.declared.calls.Control.TheVariants.{Delete as Deletion};
 
 use crate::steps::{Answer, Lower, Outcome, Refused};
@@ -48,9 +43,8 @@ pub fn delete(
     answer: &mut Answer,
 ) -> Result<(), Refused>
     requires { IsTrue (runs threads.old number) }
-    ensures { (size : APageSize)
-        → Steps (machine size threads.old forest.old) (Start number (Controls (Deletion id)))
-        (written result answer.new) (machine size threads.new forest.new) }
+    ensures { StartsControl threads.old forest.old number (Deletion id) (written result answer.new)
+        threads.new forest.new }
 {
     threads.law_consistent();
     let deleted = match threads.delete(number, id) {

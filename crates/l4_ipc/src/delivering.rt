@@ -1,14 +1,13 @@
 //! Transfers: the effect of a message's items, and what the sender and the receiver do next.
 ghost use Rattle.std.specs.Prelude.{◌≡◌, ◌≢◌, ◌≤◌, ◌↔◌, List, [], length, drop, slice_index, IsTrue, IsSome, MatchOption, Some};
 ghost use Rattle.std.specs.List.{AllZip};
-ghost use Rattle.std.specs.FinSet as set;
 ghost use Rattle.l4_fpage.specs.declared.fpages.Fpage.TheVariants.{Nil as NilFpage};
 ghost use Rattle.l4_msg.specs.Sizes.{max_items};
 ghost use Rattle.l4_threads.specs.Enabled.{IsFirstSender};
 ghost use Rattle.l4_ipc.specs.Moving.{Moves};
 ghost use Rattle.l4_ipc.specs.SpacePages.{FitIn};
 ghost use Rattle.l4_msg.specs.Moves.{StaysIn};
-ghost use Rattle.l4_ipc.specs.Inside.Delivering.{IsListed, outcome_of};
+ghost use Rattle.l4_ipc.specs.Inside.Delivering.{AreThere, IsListed, outcome_of};
 ghost use Rattle.l4_ipc.specs.Inside.Turns.{reply_or, next_of, message_reply};
 ghost use Rattle.l4_ipc.specs.Steps.{Meets, receiver_reply, sender_next, is_done};
 ghost use Rattle.l4_threads.specs.Threads.{state_of, end_call, message_of};
@@ -183,8 +182,7 @@ fn outcome_of(cause: Cause) -> Outcome
 
 /// Moves the pages of a message between two spaces that exist, by these moves of its items.
 fn move_pages(forest: &mut Forest, from: u64, to: u64, moves: &[ItemMove]) -> Outcome
-    requires from_there { IsTrue (set.contains forest.old.spaces from) }
-    requires to_there { IsTrue (set.contains forest.old.spaces to) }
+    requires there { AreThere forest.old from to }
     ensures moves { (size : APageSize) (items : List AnItem) (window : AnFpage) → AllZip (IsListed size window) items moves.now → ¬ ((items ≢ []) × (window ≡ NilFpage))
         → Moves size forest.old from to items window result forest.new }
     ensures fits { (size : APageSize) (items : List AnItem) (window : AnFpage)
@@ -208,8 +206,7 @@ fn move_listed(
     items: &[Item],
     window: &Fpage,
 ) -> Outcome
-    requires from_there { IsTrue (set.contains forest.old.spaces from) }
-    requires to_there { IsTrue (set.contains forest.old.spaces to) }
+    requires there { AreThere forest.old from to }
     requires few { length items.now ≤ max_items }
     ensures moves { ¬ ((items.now ≢ []) × (window.now ≡ NilFpage))
         → Moves size forest.old from to items.now window.now result forest.new }
@@ -229,8 +226,7 @@ pub fn deliver(
     items: &[Item],
     window: &Fpage,
 ) -> Outcome
-    requires from_there { IsTrue (set.contains forest.old.spaces from) }
-    requires to_there { IsTrue (set.contains forest.old.spaces to) }
+    requires there { AreThere forest.old from to }
     requires few { length items.now ≤ max_items }
     ensures moves { Moves size forest.old from to items.now window.now result forest.new }
     ensures fits { FitIn size forest.old → FitIn size forest.new }

@@ -2,8 +2,8 @@
 ghost use Rattle.std.specs.Prelude.{◌≡◌, IsTrue};
 ghost use Rattle.l4_mapdb.specs.Mappings.{rights_at};
 ghost use Rattle.l4_threads.specs.Threads.{runs};
-ghost use Rattle.l4_ipc.specs.Start.{has_page, fault_words, fault_next, enters, ended_by};
-ghost use Rattle.l4_ipc.specs.Inside.Turns.{next_of_fault};
+ghost use Rattle.l4_ipc.specs.Start.{has_page, fault_words, enters, ended_by};
+ghost use Rattle.l4_ipc.specs.Inside.Turns.{next_of_fault, next_of_faulting};
 ghost use Rattle.l4_ipc.specs.OwnCall.{ended_if};
 ghost use Rattle.l4_ipc.specs.declared.turns.FaultTurn.TheVariants.{Tells};
 
@@ -59,8 +59,7 @@ fn fault_turn(
     call: &FaultCall,
 ) -> FaultTurn
     ensures { next_of_fault faulting.pager call.now result
-        ≡ fault_next size threads.now forest.now faulting.number faulting.space faulting.pager
-        call.now }
+        ≡ next_of_faulting size threads.now forest.now faulting call.now }
 {
     if has_page(forest, size, faulting.space, call) {
         return FaultTurn::Ends(Ending::Hit);
@@ -99,14 +98,10 @@ pub fn enter_fault(
     call: &FaultCall,
 ) -> bool
     requires { IsTrue (runs threads.old faulting.number) }
-    ensures threads { threads.new
-        ≡ enters threads.old faulting.number
-        (fault_next size threads.old forest.now faulting.number faulting.space faulting.pager
-        call.now) }
-    ensures ended { ended_if result faulting.number
-        ≡ ended_by faulting.number
-        (fault_next size threads.old forest.now faulting.number faulting.space faulting.pager
-        call.now) }
+    ensures threads { threads.new ≡ enters threads.old faulting.number
+        (next_of_faulting size threads.old forest.now faulting call.now) }
+    ensures ended { ended_if result faulting.number ≡ ended_by faulting.number
+        (next_of_faulting size threads.old forest.now faulting call.now) }
 {
     match fault_turn(threads, forest, size, faulting, call) {
         FaultTurn::Ends(ending) => {

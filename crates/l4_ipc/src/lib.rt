@@ -9,10 +9,7 @@ mod delivering;
 mod faulting;
 mod kernel;
 mod laws;
-mod next;
-mod next_steps;
 mod reading;
-mod sent;
 mod starting;
 mod steps;
 mod turns;
@@ -29,6 +26,5 @@ pub use l4_msg::{
 pub use l4_threads::{IpcReply, MAX_THREADS, Reply, ThreadFault, ThreadId};
 pub use l4_unmap::UnmapFault;
 pub use laws::{an_answer_leads_to_one_state, the_size_of_pages_stays};
-pub use next::Next;
-pub use sent::Sent;
 pub use steps::{Answer, Lower, NextStep, Outcome, Refused, Step};
+pub use turns::{Next, Sent};

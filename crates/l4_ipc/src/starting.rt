@@ -1,10 +1,9 @@
 //! Starts and continues the calls of threads.
-ghost use Rattle.std.specs.Prelude.{◌≡◌, IsSome, []};
-ghost use Rattle.l4_threads.specs.Threads.{nilthread, state_of, end_call};
-ghost use Rattle.l4_threads.specs.declared.Reply.TheVariants.{Ipc};
+ghost use Rattle.std.specs.Prelude.{◌≡◌, IsSome};
+ghost use Rattle.l4_threads.specs.Threads.{state_of, end_call};
 ghost use Rattle.l4_ipc.specs.Start.{receiving, going_on, partner, enters, ended_by};
 ghost use Rattle.l4_ipc.specs.Inside.Entering.{CanEnter};
-ghost use Rattle.l4_ipc.specs.Inside.Turns.{reply_of, next_of};
+ghost use Rattle.l4_ipc.specs.Inside.Turns.{wordless, reply_of, next_of};
 ghost use Rattle.l4_ipc.specs.OwnCall.{ended_if};
 
 use crate::turns::{Ending, Turn};
@@ -60,10 +59,7 @@ pub fn partner(threads: &Threads, caller: u32, id: ThreadId) -> Option<u32>
 /// Ends the thread's Ipc with a reply that has this tag, this ErrorCode and no words.
 fn end_bare(threads: &mut Threads, number: u32, tag: u32, error: u32)
     requires { IsSome (state_of threads.old number) }
-    ensures { threads.new
-        ≡ end_call threads.old number
-        (Ipc
-        (record { tag = tag; error = error; «from» = nilthread; words = record { items = [] } })) }
+    ensures { threads.new ≡ end_call threads.old number (wordless tag error) }
 {
     let envelope = Envelope {
         tag,

@@ -1,3 +1,7 @@
+ghost use Rattle.std.specs.Prelude.{◌≡◌};
+ghost use Rattle.l4_ipc.specs.NextSteps.{step_of, answer_of};
+
+use crate::acting::{expire_answer, transfer_answer};
 use crate::calls::Call;
 use arrayvec::ArrayVec;
 use l4_msg::MsgFault;
@@ -50,6 +54,30 @@ pub enum NextStep {
     Transfer(u32, u32, Outcome, bool),
     /// The thread's zero timeout expired.
     Expire(u32),
+}
+
+impl NextStep {
+    /// Returns the step.
+    pub fn step(self) -> Step
+        ensures { result ≡ step_of self }
+    {
+        match self {
+            NextStep::Transfer(sender, receiver, _, _) => Step::Transfer(sender, receiver),
+            NextStep::Expire(number) => Step::Expire(number),
+        }
+    }
+
+    /// Returns its outcome, and the threads whose calls ended in it.
+    pub fn answer(self) -> Answer
+        ensures { result ≡ answer_of self }
+    {
+        match self {
+            NextStep::Transfer(sender, receiver, outcome, ends) => {
+                transfer_answer(sender, receiver, outcome, ends)
+            }
+            NextStep::Expire(number) => expire_answer(number),
+        }
+    }
 }
 
 /// A refusal from a layer below the kernel's steps.

@@ -1,4 +1,6 @@
-use l4_threads::{Receiving, ThreadId};
+use arrayvec::ArrayVec;
+use l4_msg::{Item, MAX_ITEMS, MAX_WORDS};
+use l4_threads::{Receiving, Reply, Sending, ThreadId};
 
 /// The end of a call whose reply has no words.
 #[derive(Clone, Copy)]
@@ -38,6 +40,25 @@ pub struct FaultingThread {
     /// The space of the fault.
     pub space: u64,
     /// The pager that the fault is reported to.
-    ///
     pub pager: ThreadId,
+}
+
+/// What a thread does next.
+#[derive(Drop)]
+pub enum Next {
+    /// Its call ends with this reply.
+    Ends(Reply),
+    /// It is sending.
+    Sends(Sending),
+    /// It is receiving.
+    Receives(Receiving),
+}
+
+/// What a send phase sends.
+#[derive(Drop)]
+pub struct Sent {
+    /// The message registers from the tag on.
+    pub words: ArrayVec<u32, MAX_WORDS>,
+    /// The items among them.
+    pub items: ArrayVec<Item, MAX_ITEMS>,
 }

@@ -33,7 +33,7 @@ use Rattle.l4_ipc.specs.declared.steps.Refused.{Refused}
 use Rattle.l4_ipc.specs.declared.steps.Refused.TheVariants.{UnknownThread}
 use Rattle.l4_ipc.specs.declared.steps.Step.{Step}
 use Rattle.l4_ipc.specs.declared.steps.Step.TheVariants.{Start, Transfer, Expire}
-use Rattle.l4_ipc.specs.declared.sent.Sent.{Sent}
+use Rattle.l4_ipc.specs.declared.turns.Sent.{Sent}
 use Rattle.l4_ipc.specs.Machine.{Machine}
 use Rattle.l4_ipc.specs.Moving.{Moves}
 use Rattle.l4_ipc.specs.Start.{has_send, has_receive, ipc_next, ended_by, IsSent, IsWindow, CallRefuses, RefusesIn, StartRefuses}

@@ -8,18 +8,25 @@ use Rattle.l4_threads.specs.declared.Sending.{Sending}
 use Rattle.l4_threads.specs.declared.Thread.{Thread}
 use Rattle.l4_threads.specs.declared.Reply.TheVariants.{Ipc as IpcReply, Answered as IsAnswered, Hit as IsHit}
 use Rattle.l4_threads.specs.declared.ThreadId.{ThreadId}
-use Rattle.l4_threads.specs.Threads.{failed, sending_of, message_of}
+use Rattle.l4_threads.specs.Threads.{Threads, nilthread, failed, sending_of, message_of}
+use Rattle.l4_mapdb.specs.Mappings.{Mappings}
+use Rattle.l4_fpage.specs.declared.sizes.PageSize.{PageSize}
 use Rattle.l4_ipc.specs.declared.calls.FaultCall.{FaultCall}
-use Rattle.l4_ipc.specs.declared.sent.Sent.{Sent}
-use Rattle.l4_ipc.specs.declared.next.Next.{Next}
-use Rattle.l4_ipc.specs.declared.next.Next.TheVariants.{Ends as NextEnds, Sends as NextSends, Receives as NextReceives}
+use Rattle.l4_ipc.specs.declared.turns.Sent.{Sent}
+use Rattle.l4_ipc.specs.declared.turns.Next.{Next}
+use Rattle.l4_ipc.specs.declared.turns.Next.TheVariants.{Ends as NextEnds, Sends as NextSends, Receives as NextReceives}
 use Rattle.l4_ipc.specs.declared.turns.Ending.{Ending}
 use Rattle.l4_ipc.specs.declared.turns.Ending.TheVariants.{Plain, Failed, Answered, Hit}
 use Rattle.l4_ipc.specs.declared.turns.Turn.{Turn}
 use Rattle.l4_ipc.specs.declared.turns.Turn.TheVariants.{Ends, Receives}
 use Rattle.l4_ipc.specs.declared.turns.FaultTurn.{FaultTurn}
 use Rattle.l4_ipc.specs.declared.turns.FaultTurn.TheVariants.{Ends as FaultEnds, Tells}
-use Rattle.l4_ipc.specs.Start.{plain_reply, fault_words}
+use Rattle.l4_ipc.specs.declared.turns.FaultingThread.{FaultingThread}
+use Rattle.l4_ipc.specs.Start.{plain_reply, fault_words, fault_next}
+
+-- the reply of an Ipc with this tag, this ErrorCode and no words
+abbrev pub wordless : ℕ → ℕ → Reply
+wordless tag error = IpcReply (record { tag = tag; error = error; «from» = nilthread; words = record { items = [] } })
 
 -- the reply of this ending
 abbrev pub reply_of : Ending → Reply
@@ -47,6 +54,10 @@ abbrev pub next_of_fault : ThreadId → FaultCall → FaultTurn → Next
 next_of_fault pager call (FaultEnds ending) = NextEnds (reply_of ending)
 next_of_fault pager call (Tells to) =
     NextSends (sending_of (fault_words call) [] (record { to = to; expires = false; «then» = Some (record { «from» = pager; window = Complete all_rights; expires = false }); fault = true }))
+
+-- what this thread does when it faults
+abbrev pub next_of_faulting : PageSize → Threads → Mappings → FaultingThread → FaultCall → Next
+next_of_faulting size t s faulting call = fault_next size t s faulting.number faulting.space faulting.pager call
 
 -- what is sent: these words, and the items in them
 abbrev pub sent_of : List ℕ → List Item → Sent
