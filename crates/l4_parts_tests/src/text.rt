@@ -1,4 +1,4 @@
-use l4_text::{Ending, Line, LineReader, Output, Sip, Source, Text, next_line, next_token, number};
+use l4_text::{Ending, LineReader, Output, Sip, Text, next_token, number};
 
 #[test]
 fn reads_numbers(rt: HostRuntime) {
@@ -40,20 +40,19 @@ fn reads_a_line(rt: HostRuntime) {
     ];
     for (input, ending, kept) in rows {
         let mut reader = input;
-        let mut line = Line::new();
-        let read = next_line(&mut Source::new(), &mut line, &mut reader);
+        let mut lines = LineReader::new();
+        let read = lines.next(&mut reader);
         assert_eq!(rt; read, Ok(ending));
-        assert!(rt; line.as_slice() == kept);
+        assert!(rt; lines.line() == kept);
     }
 }
 
 #[test]
 fn answers_the_end_again(rt: HostRuntime) {
     let mut reader = b"one\ntwo".as_slice();
-    let mut source = Source::new();
-    let mut line = Line::new();
+    let mut lines = LineReader::new();
     for ending in [Some(Ending::Whole), Some(Ending::Cut), None, None] {
-        let read = next_line(&mut source, &mut line, &mut reader);
+        let read = lines.next(&mut reader);
         assert_eq!(rt; read, Ok(ending));
     }
 }

@@ -9,7 +9,7 @@ use crate::answers::{Answer, answer_input, answer_text};
 use crate::found::Found;
 use l4_fpage::PageSize;
 use l4_msg::Region;
-use l4_text::{Ending, Line, Output, RunFault, Source, next_line};
+use l4_text::{Ending, LineReader, Output, RunFault};
 use std::io::{Read, Write};
 
 /// Reads all lines of the input.
@@ -18,17 +18,16 @@ fn read_lines<R: Read>(reader: &mut R) -> Result<Found, RunFault>
     ensures err { IfErr result (λ e. e ≡ RunFault.Read) }
 {
     let mut found = Found::new();
-    let mut source = Source::new();
-    let mut line = Line::new();
+    let mut lines = LineReader::new();
     for turn in 0..u64::MAX {
-        let next = match next_line(&mut source, &mut line, reader) {
+        let next = match lines.next(reader) {
             Ok(next) => next,
             Err(fault) => return Err(fault),
         };
         let Some(ending) = next else {
             return Ok(found);
         };
-        found.take(ending, line.as_slice());
+        found.take(ending, lines.line());
         if ending == Ending::Cut {
             return Ok(found);
         }

@@ -15,7 +15,7 @@ mod tokens;
 pub use failing::{Drip, Sip};
 pub use faults::RunFault;
 pub use first_numbers::{next_number, quick_number};
-pub use lines::{Ending, Line, LineReader, Source, next_line};
+pub use lines::{Ending, LineReader};
 pub use numbers::{decimal_number, number, word};
 pub use output::Output;
 pub use sources::ScriptReader;

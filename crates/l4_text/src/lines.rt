@@ -31,7 +31,7 @@ pub enum Ending {
 /// What was read of a stream and not taken yet, and the number of reads that gave bytes. A read requests at most 4,096 bytes, and there are
 /// at most 16,777,216 reads. Each read searches once for the end of the last whole line.
 #[derive(Drop)]
-pub struct Source {
+pub(crate) struct Source {
     chunk: [u8; MAX_LINE],
     start: usize,
     lines: usize,
@@ -62,8 +62,8 @@ fn lines_len(bytes: &[u8]) -> usize
 }
 
 impl Source {
-    /// Creates a source from which nothing was read.
-    pub fn new() -> Source
+    /// A source from which nothing was read.
+    fn new() -> Source
         ensures { result ≡ ([], 0) }
     {
         Source {
@@ -87,13 +87,6 @@ impl Source {
         ensures { result.now ≡ self.now.0 }
     {
         &self.chunk[self.start..self.end]
-    }
-
-    /// Returns whether a whole line was read and not taken, so that the next line needs no read.
-    pub fn has_line(&self) -> bool
-        ensures { MatchBool result (NoNewline self.now.0 → ⊥) (NoNewline self.now.0) }
-    {
-        self.has_line_behind(0)
     }
 
     /// Returns whether a whole line was read after this many bytes.
@@ -153,7 +146,7 @@ impl Source {
 
 /// A line, or the first 4,096 bytes of a longer one.
 #[derive(Drop)]
-pub struct Line {
+pub(crate) struct Line {
     bytes: KeptBytes<MAX_LINE>,
     long: bool,
 }
@@ -169,8 +162,8 @@ impl Model for Line {
 impl Line {
     ghost use Rattle.l4_text.specs.Lines.{kept_of};
 
-    /// Creates an empty line.
-    pub fn new() -> Line
+    /// An empty line.
+    fn new() -> Line
         ensures { result ≡ kept_of [] }
     {
         Line {
@@ -179,8 +172,8 @@ impl Line {
         }
     }
 
-    /// Returns its bytes, at most 4,096.
-    pub fn as_slice(&self) -> &[u8]
+    /// Its bytes, at most 4,096.
+    fn as_slice(&self) -> &[u8]
         ensures { result.now ≡ self.now.0 }
     {
         self.bytes.as_slice()
@@ -240,8 +233,10 @@ fn line_len(bytes: &[u8]) -> usize
 }
 
 /// Takes the next line, and copies it into `line`. Returns how it ended, or None at the end of the stream. A call after that reads the
-/// stream again.
-pub fn next_line<R: Read>(
+/// stream again. It is a function of its own because few lines need it.
+#[cold]
+#[inline(never)]
+fn next_line<R: Read>(
     source: &mut Source,
     line: &mut Line,
     reader: &mut R,
@@ -270,20 +265,6 @@ pub fn next_line<R: Read>(
         }
     }
     Err(RunFault::Read)
-}
-
-/// Takes the next line, as `next_line`, apart from what each line uses.
-#[cold]
-#[inline(never)]
-fn read_line<R: Read>(
-    source: &mut Source,
-    line: &mut Line,
-    reader: &mut R,
-) -> Result<Option<Ending>, RunFault>
-    ensures { GivesLine (R.remaining reader.old) (R.remaining reader.new) source.old source.new
-        line.new result }
-{
-    next_line(source, line, reader)
 }
 
 /// The lines of a stream, one at a time. A line that one read delivered whole stays where it was read until the next line is taken; none of
@@ -345,7 +326,7 @@ impl LineReader {
         self.source.take(self.lent);
         self.lent = 0;
         let Some(len) = self.source.whole_line_len() else {
-            return read_line(&mut self.source, &mut self.line, reader);
+            return next_line(&mut self.source, &mut self.line, reader);
         };
         self.lent = len + 1;
         Ok(Some(Ending::Whole))

@@ -8,7 +8,7 @@ ghost use Rattle.l4_text.specs.Sizes.{text_bytes, answer_bytes, held_bytes};
 
 use crate::faults::RunFault;
 use crate::kept::KeptBytes;
-use crate::lines::{LineReader, Source};
+use crate::lines::LineReader;
 use crate::texts::{MAX_TEXT, Text, two_digits, word_digits};
 use itoa::Buffer;
 use std::io::Write;
@@ -404,19 +404,8 @@ impl Output {
         }
     }
 
-    /// Writes the buffered bytes if the next line of the source has to be read first. So every line is answered before the next one is
+    /// Writes the buffered bytes if the next line of this reader has to be read first. So every line is answered before the next one is
     /// read, and a large input still leads to large writes, one for each read.
-    pub fn send_before_read<W: Write>(&mut self, source: &Source, writer: &mut W)
-        ensures told { Tells (W.contents writer.old) (W.contents writer.new) self.old self.new [] }
-        ensures sent { IsOutBeforeRead source.now.0 self.new }
-    {
-        if source.has_line() {
-            return;
-        }
-        self.send_all(writer);
-    }
-
-    /// Does what `send_before_read` does, before the next line of this reader.
     pub fn send_before_line<W: Write>(&mut self, lines: &LineReader, writer: &mut W)
         ensures told { Tells (W.contents writer.old) (W.contents writer.new) self.old self.new [] }
         ensures sent { IsOutBeforeRead lines.now.0.0 self.new }
