@@ -15,6 +15,6 @@ pub(crate) fn nodes_for(alloc: Global, pages: usize) -> Result<Slots, NoMemory>
     ensures room { IfOk result (λ nodes. HasRoomFor nodes pages) }
 {
     let mut nodes = Slots::new(alloc);
-    nodes.reserve(pages)?;
+    nodes.make_room(pages)?;
     Ok(nodes)
 }

@@ -224,7 +224,7 @@ impl Links {
 
     /// Adds a blank for a page that has no key, and returns its key.
     ///
-    /// Returns `NoMemory` if an allocation fails or 2^32 - 1 keys are in use; then nothing has changed.
+    /// Returns `NoMemory` if an allocation fails, or if there would be room for 2^32 - 1 keys or more; then nothing has changed.
     pub fn add_blank(&mut self, place: Place) -> Result<usize, NoMemory>
         requires there { IsTrue (set.contains self.old.spaces place.space) }
         requires fits { IsPage place.page }
@@ -234,7 +234,7 @@ impl Links {
         ensures spaces { self.new.spaces ≡ self.old.spaces }
         ensures err { OnErr result (self.new ≡ self.old) }
     {
-        self.nodes.make_room()?;
+        self.nodes.make_room(1)?;
         self.pages.prepare(place.space, &[place.page])?;
         let key = self.nodes.insert_blank(place);
         self.pages.set(place.space, place.page, key);
@@ -346,7 +346,7 @@ impl Links {
         let Some(above) = node_of(&self.nodes, parent) else {
             unreachable!()
         };
-        match self.nodes.make_room() {
+        match self.nodes.make_room(1) {
             Ok(()) => {}
             Err(refused) => return self.taken_or(place, refused),
         }

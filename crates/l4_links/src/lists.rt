@@ -147,10 +147,9 @@ pub(crate) fn add_under(
     requires few { AreKeys nodes.old.slots }
     requires there { node_at nodes.old.slots parent ≡ Some above.now }
     requires fits { IsPage place.page }
-    requires kept { IsKey nodes.old.vacant_key }
-    requires vacant { slot_at nodes.old.slots nodes.old.vacant_key ≡ None }
     requires room { HasRoomFor nodes.old 1 }
-    ensures { AddsUnder parent place above.now rights nodes.old.slots nodes.new.slots
+    ensures few { IsKey nodes.old.vacant_key }
+    ensures adds { AddsUnder parent place above.now rights nodes.old.slots nodes.new.slots
         nodes.old.vacant_key }
 {
     let node = child_of(parent, above, rights, nodes.capacity());

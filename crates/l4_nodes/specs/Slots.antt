@@ -1,7 +1,8 @@
 -- The slots of a slab as contracts see them, and what a write to one of them does.
-use Rattle.std.specs.Prelude.{◌≡◌, ◌≢◌, ℕ, ◌+◌, ◌≤◌, Bool, false, List, Option, Some, None, is_some, count_by, slice_index_or, option_and_then}
+use Rattle.std.specs.Prelude.{◌≡◌, ◌≢◌, ℕ, ◌+◌, ◌≤◌, ◌<◌, Bool, false, List, Option, Some, None, is_some, count_by, slice_index_or, option_and_then}
 use Rattle.std.specs.Option.{option_map}
 use Rattle.l4_fpage.specs.Rights.{RightsSet}
+use Rattle.l4_nodes.specs.Keys.{no_key}
 use Rattle.l4_nodes.specs.declared.Place.{Place}
 use Rattle.l4_nodes.specs.declared.nodes.Node.{Node}
 use Rattle.l4_nodes.specs.declared.nodes.Slot.{Slot}
@@ -45,10 +46,11 @@ pub record Store : Type 0 where
   pub capacity : ℕ
   pub noted : ℕ
 
--- so many more slots fit, and something can be noted of each key that a slot can then have, with no allocation
+-- so many more slots fit, and something can be noted of each key that a slot can then have, with no allocation; a node can keep each such key
 pub record HasRoomFor (s : Store) (more : ℕ) : Type 0 where
   pub slots : count_by is_some s.slots + more ≤ s.capacity
   pub notes : s.capacity ≤ s.noted
+  pub keys : s.capacity < no_key
 
 -- the slot has this node now, and all else is as it was
 pub record Writes (key : ℕ) (node : Option Node) (old new : Slots) : Type 0 where

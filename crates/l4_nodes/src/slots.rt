@@ -134,7 +134,8 @@ impl Slots {
 
     /// Returns a number that is above all keys.
     pub fn capacity(&self) -> usize
-        ensures { length self.now.slots ≤ result }
+        ensures above { length self.now.slots ≤ result }
+        ensures room { result ≡ self.now.capacity }
     {
         self.packed.capacity()
     }
@@ -158,35 +159,22 @@ impl Slots {
         self.packed.vacant_key()
     }
 
-    /// Allocates room for one more slot, and for the record of walks beside it. The key of the slot is one that a node can keep.
+    /// Allocates room for this many more slots, and for the records of walks beside them, at once. Then as many insertions find room, each
+    /// with a key that a node can keep.
     ///
-    /// Returns `NoMemory` if an allocation fails, or if all 2^32 - 1 keys that a node can keep are in use. (Freed keys are used first.)
-    /// Then nothing has changed.
+    /// Returns `NoMemory` if an allocation fails, or if there would be room for 2^32 - 1 slots, of which not every key can be kept. Then no
+    /// slot has changed.
     #[inline]
-    pub fn make_room(&mut self) -> Result<(), NoMemory>
-        ensures room { OnOk result (HasRoomFor self.new 1) }
-        ensures few { OnOk result (IsKey self.new.vacant_key) }
-        ensures same { self.new.slots ≡ self.old.slots }
-    {
-        let key = self.packed.vacant_key();
-        if key >= NO_KEY as usize {
-            return Err(NoMemory);
-        }
-        self.reserve(1)?;
-        Ok(())
-    }
-
-    /// Allocates room for this many more slots, and for the records of walks beside them, at once. Then as many insertions find room.
-    ///
-    /// On `AllocError` no slot has changed.
-    #[inline]
-    pub fn reserve(&mut self, slots: usize) -> Result<(), AllocError>
+    pub fn make_room(&mut self, slots: usize) -> Result<(), NoMemory>
         ensures room { OnOk result (HasRoomFor self.new slots) }
         ensures key { self.new.vacant_key ≡ self.old.vacant_key }
         ensures same { self.new.slots ≡ self.old.slots }
     {
         self.packed.reserve(slots)?;
         let keys = self.packed.capacity();
+        if keys >= NO_KEY as usize {
+            return Err(NoMemory);
+        }
         if keys > self.notes.capacity() {
             grow(&mut self.notes, keys)?;
         }
@@ -199,6 +187,7 @@ impl Slots {
         requires room { HasRoomFor self.old 1 }
         ensures room { (more : ℕ) → HasRoomFor self.old (more + 1) → HasRoomFor self.new more }
         ensures key { result ≡ self.old.vacant_key }
+        ensures few { IsKey result }
         ensures was_vacant { slot_at self.old.slots result ≡ None }
         ensures here { slot_at self.new.slots result ≡ Some (slot_shown slot no_note) }
         ensures others { (other : ℕ) → other ≢ result → slot_at self.new.slots other
@@ -216,6 +205,7 @@ impl Slots {
         requires fits { IsPage place.page }
         ensures room { (more : ℕ) → HasRoomFor self.old (more + 1) → HasRoomFor self.new more }
         ensures key { result ≡ self.old.vacant_key }
+        ensures few { IsKey result }
         ensures was_vacant { slot_at self.old.slots result ≡ None }
         ensures here { slot_at self.new.slots result
             ≡ Some (record { place = place; wanted = false; node = None }) }
@@ -233,6 +223,7 @@ impl Slots {
         requires depth { IsKey node.depth }
         ensures room { (more : ℕ) → HasRoomFor self.old (more + 1) → HasRoomFor self.new more }
         ensures key { result ≡ self.old.vacant_key }
+        ensures few { IsKey result }
         ensures was_vacant { slot_at self.old.slots result ≡ None }
         ensures here { slot_at self.new.slots result
             ≡ Some (record { place = place; wanted = false; node = Some (unnoted node) }) }

@@ -27,9 +27,9 @@ fn top(frame: u32) -> Node
 
 /// Returns a blank at page 5 and a node at page 6 of space 3.
 fn blank_and_node(slots: &mut Slots) -> Result<[usize; 2], NoMemory> {
-    slots.make_room()?;
+    slots.make_room(1)?;
     let blank = slots.insert_blank(Place { space: 3, page: 5 });
-    slots.make_room()?;
+    slots.make_room(1)?;
     let node = slots.insert_node(Place { space: 3, page: 6 }, top(9));
     Ok([blank, node])
 }

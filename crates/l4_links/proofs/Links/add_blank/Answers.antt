@@ -2,7 +2,6 @@ use Rattle.std.proofs.Common.{◌≡◌, ◌≢◌, ℕ, IsTrue, Some, None, fal
 use Rattle.std.specs.FinMap as map
 use Rattle.std.specs.FinSet as set
 use Rattle.l4_links.specs.Entries.{Linked, AddsBlank, IsAt}
-use Rattle.l4_nodes.specs.Keys.{IsKey}
 use Rattle.l4_nodes.specs.Slots.{Slots, slot_at, node_at, spots}
 use Rattle.l4_links.specs.Inside.Stacks.{HasStack}
 use Rattle.l4_links.specs.Inside.Keeping.{entries_of, IsSound}
@@ -43,7 +42,7 @@ invariant_of-self-2 c = record {
   indexed =
       indexed_added c.self.inside.nodes.slots c.insert_blank-key.new.self.slots c.self.inside.pages c.set.new.self c.args.place c.insert_blank-key.result (record { place = c.args.place; wanted = false; node = None }) c.self.invariant.indexed
       (λ k at. c.requires.free k (subst (λ (s : Linked). IsAt s.entries c.args.place k) c.self.view_is ((is_at c.self.inside.nodes.slots c.args.place k).0 at)))
-      (subst (λ (k : ℕ). IsKey k) (sym c.insert_blank-key.ensures.key) c.in_ok-make_room.ensures.few) (vacant c) refl (blank_at c) (others c) (subst (λ (s : Linked). IsTrue (set.contains s.spaces c.args.place.space)) (sym c.self.view_is) c.requires.there) c.requires.fits
+      c.insert_blank-key.ensures.few (vacant c) refl (blank_at c) (others c) (subst (λ (s : Linked). IsTrue (set.contains s.spaces c.args.place.space)) (sym c.self.view_is) c.requires.there) c.requires.fits
       (c.set.ensures.pages ∙ ap (λ (p : Pages). map.insert p (c.args.place.space, c.args.place.page) c.insert_blank-key.result) c.prepare.ensures.pages) (c.set.ensures.spaces ∙ c.prepare.ensures.spaces);
   stack = stack_nodes c.self.inside.nodes.slots c.insert_blank-key.new.self.slots c.self.inside.doomed (same_nodes c) c.self.invariant.stack;
 }

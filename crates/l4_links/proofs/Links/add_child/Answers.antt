@@ -21,7 +21,7 @@ use Rattle.l4_links.proofs.Links.add_child.Goals as goal
 adds : (c : goal.After-self-1) → AddsUnder c.args.parent c.args.place c.in-Some.above c.args.rights c.self.inside.nodes.slots c.add_under.new.nodes.slots c.vacant_key-key.result
 adds c =
     subst (λ (k : ℕ). AddsUnder c.args.parent c.args.place c.in-Some.above c.args.rights c.self.inside.nodes.slots c.add_under.new.nodes.slots k) (sym c.vacant_key-key.ensures.value)
-    (subst (λ (s : Slots). AddsUnder c.args.parent c.args.place c.in-Some.above c.args.rights s c.add_under.new.nodes.slots c.make_room.new.self.vacant_key) c.make_room.ensures.same c.add_under.ensures)
+    (subst (λ (s : Slots). AddsUnder c.args.parent c.args.place c.in-Some.above c.args.rights s c.add_under.new.nodes.slots c.make_room.new.self.vacant_key) c.make_room.ensures.same c.add_under.ensures.adds)
 
 stands : (c : goal.After-self-1) → node_at c.self.inside.nodes.slots c.args.parent ≡ Some c.in-Some.above
 stands c = sym c.node_of.ensures ∙ c.in-Some.is
@@ -42,7 +42,7 @@ invariant_of-self-2 c = record {
       indexed_same (adds c).middle c.add_under.new.nodes.slots c.claim.new.self c.claim.new.self (adds c).comes.spots_same refl refl
       (indexed_added c.self.inside.nodes.slots (adds c).middle c.self.inside.pages c.claim.new.self c.args.place c.vacant_key-key.result (blank_of c.args.place) c.self.invariant.indexed
       (unnamed c.self.inside.nodes.slots c.self.inside.pages c.self.invariant.indexed c.args.place (free c))
-      (subst (λ (k : ℕ). IsKey k) (sym c.vacant_key-key.ensures.value) c.in-Ok.ensures.few) (adds c).blanks.vacant refl (adds c).blanks.filled (adds c).blanks.others (subst (λ (s : Linked). IsTrue (set.contains s.spaces c.args.place.space)) (sym c.self.view_is) c.requires.there) c.requires.fits
+      (subst (λ (k : ℕ). IsKey k) (sym c.vacant_key-key.ensures.value) c.add_under.ensures.few) (adds c).blanks.vacant refl (adds c).blanks.filled (adds c).blanks.others (subst (λ (s : Linked). IsTrue (set.contains s.spaces c.args.place.space)) (sym c.self.view_is) c.requires.there) c.requires.fits
       (c.in-Ok-claim.ensures.claimed c.if-not-claimed.false).1 c.claim.ensures.spaces);
   stack =
       stack_comes (record { frame = c.in-Some.above.frame; rights = common c.in-Some.above.rights c.args.rights; source = false; granted = None }) c.vacant_key-key.result (adds c).middle c.add_under.new.nodes.slots c.self.inside.doomed

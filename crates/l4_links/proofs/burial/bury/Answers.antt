@@ -39,7 +39,7 @@ loop-preserved c = record {
 
 pub returns : goal.returns
 returns c =
-    let full = c.capacity-end.ensures in
+    let full = c.capacity-end.ensures.above in
     let ended = c.loop-test.false in
     let at = buried_ends c.args.nodes.now.slots c.loop.nodes.slots c.args.first c.loop.begin c.loop.at c.loop.counter c.loop.invariant.buried (omega (arith, full, ended)) in
     record {

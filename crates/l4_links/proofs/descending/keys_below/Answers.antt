@@ -39,7 +39,7 @@ loop-preserved c =
 pub returns : goal.returns
 returns c =
     let e = passed_ends c.args.nodes.now.slots c.args.top c.in-Some.head.depth c.loop.at c.loop.keys.items c.loop.invariant.0 in
-    let s = c.capacity-end.ensures in
+    let s = c.capacity-end.ensures.above in
     let f = c.loop-test.false in
     let n = c.loop.invariant.1 in
     absurd (omega (arith, e, s, f, n))

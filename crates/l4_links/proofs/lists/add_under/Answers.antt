@@ -1,12 +1,10 @@
-use Rattle.std.proofs.Common.{◌≡◌, ℕ, arith, ap, sym, subst, Option, Some, false, ◌∙◌}
-use Rattle.std.specs.Option.{option_and_then}
+use Rattle.std.proofs.Common.{◌≡◌, ◌+◌, ℕ, arith, ap, sym, subst, Option, Some, false, ◌∙◌}
 use Rattle.l4_nodes.specs.declared.nodes.Node.{Node}
-use Rattle.l4_nodes.specs.declared.nodes.Slot.{Slot}
 use Rattle.l4_nodes.specs.Keys.{IsKey}
 use Rattle.l4_nodes.specs.Slots.{slot_at, SetsNext, SetsPrev, unnoted}
 use Rattle.l4_links.specs.Inside.Nodes.{child, AddsUnder}
 use Rattle.l4_links.proofs.Adding.{added}
-use Rattle.l4_links.proofs.Depths.{depth_fits, depth_kept}
+use Rattle.l4_links.proofs.Depths.{depth_fits}
 use Rattle.l4_links.proofs.Writes.{node_key}
 use Rattle.l4_links.proofs.lists.add_under.Goals as goal
 
@@ -16,17 +14,23 @@ child_of-node-requires-clause-key c = node_key c.args.nodes.now.slots c.args.par
 pub child_of-node-requires-clause-depth : goal.child_of-node-requires-clause-depth
 child_of-node-requires-clause-depth c =
     let d = depth_fits c.args.nodes.now.slots c.requires.forest.0 c.args.parent c.args.above.now c.requires.forest.1 c.requires.there in
-    let s = c.capacity.ensures in
+    let s = c.capacity.ensures.above in
     omega (arith, d, s)
 
 pub insert_node-key-requires-clause-depth : goal.insert_node-key-requires-clause-depth
 insert_node-key-requires-clause-depth c =
-    subst (λ (n : Node). IsKey n.depth) (sym c.child_of-node.ensures)
-    (depth_kept c.args.nodes.now.slots c.requires.forest.0 c.args.parent c.args.above.now c.args.nodes.now.vacant_key c.requires.forest.1 c.requires.few c.requires.there c.requires.kept
-    (ap (option_and_then (λ (s : Slot). s.node)) c.requires.vacant))
+    let d = depth_fits c.args.nodes.now.slots c.requires.forest.0 c.args.parent c.args.above.now c.requires.forest.1 c.requires.there in
+    let s = c.capacity.ensures.above in
+    let r = c.capacity.ensures.room in
+    let k = c.requires.room.keys in
+    let fits : IsKey (c.args.above.now.depth + 1) = omega (arith, d, s, r, k) in
+    subst (λ (n : Node). IsKey n.depth) (sym c.child_of-node.ensures) fits
 
-pub returns : goal.returns
-returns c =
+pub returns-clause-few : goal.returns-clause-few
+returns-clause-few c = subst (λ (k : ℕ). IsKey k) c.insert_node-key.ensures.key c.insert_node-key.ensures.few
+
+pub returns-clause-adds : goal.returns-clause-adds
+returns-clause-adds c =
     let old = c.args.nodes.now.slots in
     let put = c.insert_node-key.new.self.slots in
     let key = c.insert_node-key.result in

@@ -82,6 +82,6 @@ loop-gone-preserved c =
 pub returns : goal.returns
 returns c =
     let e = gone_ends c.args.nodes.now.slots c.loop-gone.nodes.slots c.args.top c.in-Some.head.depth c.loop-gone.at c.loop-gone.gone c.loop-gone.invariant.gone in
-    let s = c.capacity-gone-end.ensures in
+    let s = c.capacity-gone-end.ensures.above in
     let f = c.loop-gone-test.false in
     absurd (omega (arith, e, s, f))

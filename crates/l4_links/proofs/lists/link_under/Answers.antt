@@ -17,7 +17,7 @@ to-at-requires c = slot_key c.args.nodes.now.slots c.args.key c.requires.few c.r
 pub child_of-node-requires-clause-depth : goal.child_of-node-requires-clause-depth
 child_of-node-requires-clause-depth c =
     let d = depth_fits c.args.nodes.now.slots c.requires.forest.0 c.args.parent c.args.above c.requires.forest.1 c.requires.there in
-    let s = c.capacity.ensures in
+    let s = c.capacity.ensures.above in
     omega (arith, d, s)
 
 pub write-requires : goal.write-requires

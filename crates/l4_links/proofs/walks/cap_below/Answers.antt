@@ -70,6 +70,6 @@ returns-clause-stack c = c.loop.invariant.1
 pub returns-clause-caps : goal.returns-clause-caps
 returns-clause-caps c =
     let e = walk_ends c.args.nodes.now.slots c.loop.nodes.slots c.args.top c.in-Some.head.depth c.args.cap c.args.stamp c.loop.counter c.loop.at c.loop.invariant.0 in
-    let s = c.capacity-end.ensures in
+    let s = c.capacity-end.ensures.above in
     let f = c.loop-test.false in
     absurd (omega (arith, e, s, f))

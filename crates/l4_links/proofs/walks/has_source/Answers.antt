@@ -69,6 +69,6 @@ loop-preserved c =
 pub returns-clause-no : goal.returns-clause-no
 returns-clause-no c =
     let e = seek_ends c.args.nodes.now.slots c.loop.nodes.slots c.args.top c.in-Some.head.depth c.args.stamp c.loop.counter c.loop.at c.loop.invariant in
-    let s = c.capacity-end.ensures in
+    let s = c.capacity-end.ensures.above in
     let f = c.loop-test.false in
     absurd (omega (arith, e, s, f))

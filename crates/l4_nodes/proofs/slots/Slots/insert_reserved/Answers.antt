@@ -15,7 +15,15 @@ returns-clause-room c more room =
       slots = subst (λ (n : ℕ). count_by is_some (joined c.insert_reserved-key.new.self.slots c.clear_note.new.notes.items) + more ≤ n) (sym c.insert_reserved-key.ensures.capacity)
           (room_taken c.self.inside.packed.slots c.insert_reserved-key.new.self.slots c.self.inside.notes.items c.clear_note.new.notes.items more c.self.inside.packed.capacity c.insert_reserved-key.ensures.len r.slots);
       notes = let e = c.insert_reserved-key.ensures.capacity in let f = c.clear_note.ensures.capacity in let n = r.notes in omega (arith, e, f, n);
+      keys = let e = c.insert_reserved-key.ensures.capacity in let n = r.keys in omega (arith, e, n);
     }
+
+pub returns-clause-few : goal.returns-clause-few
+returns-clause-few c =
+    let n = (subst (λ (s : Store). HasRoomFor s 1) (sym c.self.view_is) c.requires.room).keys in
+    let k = c.insert_reserved-key.ensures.key_in_range in
+    let e = c.insert_reserved-key.ensures.capacity in
+    omega (arith, n, k, e)
 
 pub returns-clause-was_vacant : goal.returns-clause-was_vacant
 returns-clause-was_vacant c =
