@@ -23,6 +23,7 @@ pub mod Capping
 pub mod OwnChild
 pub mod Adding
 pub mod Naming
+pub mod Asides
 pub mod Moving
 pub mod Noting
 pub mod Laws

@@ -13,7 +13,7 @@ use Rattle.l4_links.specs.Inside.Keeping.{entries_of}
 use Rattle.l4_links.proofs.Linking.{in_left, in_right, in_parts, parted, first_in}
 use Rattle.l4_links.proofs.Neighbours.{in_list, neighbours_at}
 use Rattle.l4_links.proofs.Runs.{one_limb}
-use Rattle.l4_links.proofs.Cutting.{order_fits, once_rest, PassesRun, run_leads}
+use Rattle.l4_links.proofs.Cutting.{order_fits, once_rest, run_leads}
 use Rattle.l4_links.proofs.Seen.{leads_of, descends_of}
 
 abbrev limb_of : Node → Limb

@@ -1,10 +1,11 @@
 -- Pages of a block that get other places, one after another.
-use Rattle.std.proofs.Common.{◌≡◌, ◌≢◌, ◌∷◌, [], ℕ, ◌+◌, ◌-◌, ◌<◌, ◌≤◌, ◌⊎◌, Option, Some, None, is_some, refl, sym, ap, ◌∙◌, subst, inl, inr, arith}
+use Rattle.std.proofs.Common.{◌≡◌, ◌≢◌, ℕ, ◌+◌, ◌-◌, ◌<◌, ◌≤◌, ◌/◌, ◌⊎◌, true, Option, Some, None, is_some, refl, sym, ap, ◌∙◌, subst, inl, inr, arith}
 use Rattle.std.proofs.lemmas.Bool.{cases_lt, cases_eq}
 use Rattle.std.specs.Option.{option_map, option_and_then}
 use Rattle.l4_fpage.specs.Rights.{RightsSet, Within}
 use Rattle.l4_spaces.specs.Tables as tables
-use Rattle.l4_spaces.specs.Tables.{Tables, NonePresentIn, IsNextIn, HasRoom, KeepsRoom}
+use Rattle.l4_spaces.specs.Tables.{Tables, NonePresentIn, IsNextIn, table_pages}
+use Rattle.l4_spaces.specs.Rows.{Rows, entry, is_made, AreTablesOf}
 use Rattle.l4_nodes.specs.declared.Place.{Place}
 use Rattle.l4_links.specs.declared.Standing.{Standing}
 use Rattle.l4_links.specs.declared.Entry.{Entry}
@@ -14,7 +15,7 @@ use Rattle.l4_links.specs.Entries.{entry_at, IsInPages, moved_place, MovesPages,
 use Rattle.l4_nodes.specs.Slots.{Slots, Spot, slot_at, node_at, SetsPlace, spot_of}
 use Rattle.l4_links.specs.Inside.Nodes.{IsOf}
 use Rattle.l4_links.specs.Inside.Keeping.{standing_of, entry_of, entries_of, IsIndexed}
-use Rattle.l4_links.specs.Inside.Moving.{AreFree, HaveRoom, CanMove, IsHindered, Hinders, LacksPlace, Moves}
+use Rattle.l4_links.specs.Inside.Moving.{AreWithin, AreFree, HaveTables, CanMove, IsHindered, Hinders, LacksPlace, Moves}
 use Rattle.l4_links.proofs.Seen.{at_seen}
 use Rattle.l4_links.proofs.Naming.{is_at}
 
@@ -76,21 +77,22 @@ module _ (slots : Slots) (t : Tables) (i : IsIndexed slots t) (space page end ne
 
 -- the first pass
 
-pub can_first : (source : Place) (target : Place) (rights : RightsSet) (slots : Slots) (t : Tables) → CanMove source source.page target rights slots t
-can_first source target rights slots t = record {
+pub can_first : (source : Place) (target : Place) (rights : RightsSet) (slots : Slots) (rows : Rows) → CanMove source source.page target rights slots rows
+can_first source target rights slots rows = record {
   within = λ k s n at h. absurd (none s h);
   free = λ k s at h. absurd (none s h);
-  room = λ k s at h. absurd (none s h);
+  made = λ k s at h. absurd (none s h);
 }
   where
     none : (s : Slot) → ¬ (IsInPages source source.page s.place)
     none s h = let a = h.1 in let b = h.2 in omega (arith, a, b)
 
-pub can_all : (source : Place) (page end : ℕ) (target : Place) (rights : RightsSet) (slots : Slots) (t : Tables) → IsIndexed slots t → NonePresentIn t source.space page end → CanMove source page target rights slots t → CanMove source end target rights slots t
-can_all source page end target rights slots t i none c = record {
+pub can_all : (source : Place) (page end : ℕ) (target : Place) (rights : RightsSet) (slots : Slots) (t : Tables) (rows : Rows) → IsIndexed slots t → NonePresentIn t source.space page end → CanMove source page target rights slots rows
+    → CanMove source end target rights slots rows
+can_all source page end target rights slots t rows i none c = record {
   within = λ k s n at h. c.within k s n at (earlier k s at h);
   free = λ k s at h. c.free k s at (earlier k s at h);
-  room = λ k s at h. c.room k s at (earlier k s at h);
+  made = λ k s at h. c.made k s at (earlier k s at h);
 }
   where
     earlier : (k : ℕ) (s : Slot) → slot_at slots k ≡ Some s → IsInPages source end s.place → IsInPages source page s.place
@@ -99,21 +101,26 @@ can_all source page end target rights slots t i none c = record {
       | inr le ↦ absurd (none_at slots t i source.space page end none k s at h.0 le h.2)
     ]
 
-pub can_more : (source : Place) (page end next key : ℕ) (target : Place) (rights : RightsSet) (slots : Slots) (t u : Tables) → IsIndexed slots t → IsNextIn t source.space page end next → tables.key_of t source.space next ≡ Some key
-    → source.page ≤ page → CanMove source page target rights slots t → (place : Place) → place ≡ moved_place source target (record { space = source.space; page = next })
-    → ((n : Node) → node_at slots key ≡ Some n → Within n.rights rights) → tables.key_of t place.space place.page ≡ None → HasRoom u place.space (place.page ∷ []) → KeepsRoom t u → CanMove source (next + 1) target rights slots u
-can_more source page end next key target rights slots t u i n is from c place place_is within absent ready keeps = record {
+-- what the tables of the target's space say of a place there
+key_here : (t : Tables) (source target from place : Place) (rows : Rows) → AreTablesOf t target.space rows → place ≡ moved_place source target from → tables.key_of t place.space place.page ≡ entry rows place.page
+key_here t source target from place rows a is = ap (λ (p : Place). tables.key_of t p.space place.page) is ∙ a.keys place.page
+
+pub can_more : (source : Place) (page end next key : ℕ) (target : Place) (rights : RightsSet) (slots : Slots) (t : Tables) (rows later : Rows) → IsIndexed slots t → IsNextIn t source.space page end next → tables.key_of t source.space next ≡ Some key
+    → source.page ≤ page → CanMove source page target rights slots rows → AreTablesOf t target.space rows → (place : Place) → place ≡ moved_place source target (record { space = source.space; page = next })
+    → ((n : Node) → node_at slots key ≡ Some n → Within n.rights rights) → entry rows place.page ≡ None → is_made later (place.page / table_pages) ≡ true → ((high : ℕ) → is_made rows high ≡ true → is_made later high ≡ true)
+    → CanMove source (next + 1) target rights slots later
+can_more source page end next key target rights slots t rows later i n is from c a place place_is within absent ready keeps = record {
   within = λ k s x at h stands. elim (either k s at h) [
     | inl e ↦ c.within k s x at e stands
     | inr e ↦ within x (ap (node_at slots) (sym e) ∙ ap (option_and_then (λ (s : Slot). s.node)) at ∙ stands)
   ];
   free = λ k s at h other o. elim (either k s at h) [
     | inl e ↦ c.free k s at e other o
-    | inr e ↦ unnamed slots t i place absent other (subst (λ (p : Place). IsOf slots p other) (goes k s at e) o)
+    | inr e ↦ unnamed slots t i place (key_here t source target (record { space = source.space; page = next }) place rows a place_is ∙ absent) other (subst (λ (p : Place). IsOf slots p other) (goes k s at e) o)
   ];
-  room = λ k s at h. elim (either k s at h) [
-    | inl e ↦ keeps target.space ((moved_place source target s.place).page ∷ []) (c.room k s at e)
-    | inr e ↦ subst (λ (p : Place). HasRoom u p.space (p.page ∷ [])) (sym (goes k s at e)) ready
+  made = λ k s at h. elim (either k s at h) [
+    | inl e ↦ keeps _ (c.made k s at e)
+    | inr e ↦ subst (λ (p : Place). is_made later (p.page / table_pages) ≡ true) (sym (goes k s at e)) ready
   ];
 }
   where
@@ -131,7 +138,10 @@ can_more source page end next key target rights slots t u i n is from c place pl
 
 -- the page that was found, and the place that it would go to
 module _ (source : Place) (page end next key : ℕ) (target : Place) (rights : RightsSet) (slots : Slots) (t : Tables) (i : IsIndexed slots t) (n : IsNextIn t source.space page end next) (is : tables.key_of t source.space next ≡ Some key)
-    (from : source.page ≤ page) (place : Place) (place_is : place ≡ moved_place source target (record { space = source.space; page = next })) where
+    (from : source.page ≤ page) (rows : Rows) (a : AreTablesOf t target.space rows) (place : Place) (place_is : place ≡ moved_place source target (record { space = source.space; page = next })) where
+  abbrev named_here : tables.key_of t place.space place.page ≡ entry rows place.page
+  named_here = key_here t source target (record { space = source.space; page = next }) place rows a place_is
+
   its_slot : (s : Slot) × (slot_at slots key ≡ Some s) × IsInPages source end s.place × (place ≡ moved_place source target s.place)
   its_slot =
       let w = slot_of slots key (record { space = source.space; page = next }) (found_at slots t i source.space page end next key n is) in (
@@ -144,7 +154,7 @@ module _ (source : Place) (page end next key : ℕ) (target : Place) (rights : R
   its_node : node_at slots key ≡ its_slot.0.node
   its_node = ap (option_and_then (λ (s : Slot). s.node)) its_slot.1
 
-  pub hinders_found : IsHindered key place rights slots t → Hinders source end target rights slots
+  pub hinders_found : IsHindered key place.page rights slots rows → Hinders source end target rights slots
   hinders_found h = record {
     key = key;
     slot = its_slot.0;
@@ -152,18 +162,18 @@ module _ (source : Place) (page end next key : ℕ) (target : Place) (rights : R
     inside = its_slot.2;
     why = elim h [
       | inl x ↦ inl (x.0, sym its_node ∙ x.1, x.2)
-      | inr x ↦ inr (x.0, subst (λ (p : Place). IsOf slots p x.0) its_slot.3 ((i.names place x.0).0 x.1))
+      | inr x ↦ inr (x.0, subst (λ (p : Place). IsOf slots p x.0) its_slot.3 ((i.names place x.0).0 (named_here ∙ x.1)))
     ];
   }
 
-  pub lacks_found : ((n : Node) → node_at slots key ≡ Some n → Within n.rights rights) → tables.key_of t place.space place.page ≡ None → LacksPlace source end target rights slots
+  pub lacks_found : ((n : Node) → node_at slots key ≡ Some n → Within n.rights rights) → entry rows place.page ≡ None → LacksPlace source end target rights slots
   lacks_found within absent = record {
     key = key;
     slot = its_slot.0;
     at = its_slot.1;
     inside = its_slot.2;
     within = λ x stands. within x (its_node ∙ stands);
-    absent = λ other o. unnamed slots t i place absent other (subst (λ (p : Place). IsOf slots p other) (sym its_slot.3) o);
+    absent = λ other o. unnamed slots t i place (named_here ∙ absent) other (subst (λ (p : Place). IsOf slots p other) (sym its_slot.3) o);
   }
 
 -- the second pass
@@ -233,10 +243,10 @@ module _ (source : Place) (page end : ℕ) (target : Place) (old now : Slots) (t
               (subst (λ (p : Place). IsOf old p other) (same_place (sym (of_slot now other s (m.kept other s at out)) ∙ o) ∙ ap (moved_place source target) (sym w.3)) (of_slot old other s at))
         ]
 
-    pub room_still : HaveRoom source end target old t → HasRoom t target.space ((moved_place source target here).page ∷ [])
-    room_still room =
+    pub made_still : (rows : Rows) → HaveTables source end target old rows → is_made rows ((moved_place source target here).page / table_pages) ≡ true
+    made_still rows made =
         let w = still key here found refl in
-        subst (λ (p : Place). HasRoom t target.space ((moved_place source target p).page ∷ [])) w.3 (room key w.0 w.1 (subst (λ (p : Place). IsInPages source end p) (sym w.3) in_end))
+        subst (λ (p : Place). is_made rows ((moved_place source target p).page / table_pages) ≡ true) w.3 (made key w.0 w.1 (subst (λ (p : Place). IsInPages source end p) (sym w.3) in_end))
 
     pub moves_more : (new : Slots) → SetsPlace key (moved_place source target here) now new → Moves source (next + 1) target old new
     moves_more new sets = record {
@@ -286,17 +296,17 @@ node_seen : (o : Option Node) (x : Standing) → option_map standing_of o ≡ So
 node_seen None x w = absurd (let z : ◌≡◌ {A = Option Standing} None (Some x) = w in cc)
 node_seen (Some n) x w = (n, refl, (let z : ◌≡◌ {A = Option Standing} (Some (standing_of n)) (Some x) = w in cc))
 
-pub view_moves : (source : Place) (end : ℕ) (target : Place) (rights : RightsSet) (old new : Slots) (t : Tables) → CanMove source end target rights old t → Moves source end target old new → MovesPages source end target rights (entries_of old) (entries_of new)
-view_moves source end target rights old new t c m = record {
+pub view_moves : (source : Place) (end : ℕ) (target : Place) (rights : RightsSet) (old new : Slots) → AreWithin source end rights old → AreFree source end target old → Moves source end target old new → MovesPages source end target rights (entries_of old) (entries_of new)
+view_moves source end target rights old new within free m = record {
   moved = λ k e at h. (let s = slot_seen k e at in at_seen new k ∙ ap (option_map entry_of) (m.moved k s.0 s.1 (subst (λ (x : Entry). IsInPages source end x.place) (sym s.2) h))
       ∙ ap (λ (x : Entry). Some (record x { place = moved_place source target x.place })) s.2);
   kept = λ k e at out. (let s = slot_seen k e at in at_seen new k ∙ ap (option_map entry_of) (m.kept k s.0 s.1 (λ h. out (subst (λ (x : Entry). IsInPages source end x.place) s.2 h))) ∙ ap (λ (x : Entry). Some x) s.2);
   vacant = λ k at. at_seen new k ∙ ap (option_map entry_of) (m.vacant k (none_seen (slot_at old k) (sym (at_seen old k) ∙ at)));
   within = λ k e x at h stands. (let s = slot_seen k e at in
       let n = node_seen s.0.node x (ap (λ (z : Entry). z.stands) s.2 ∙ stands) in
-      subst (λ (z : Standing). Within z.rights rights) n.2 (c.within k s.0 n.0 s.1 (subst (λ (x : Entry). IsInPages source end x.place) (sym s.2) h) n.1));
+      subst (λ (z : Standing). Within z.rights rights) n.2 (within k s.0 n.0 s.1 (subst (λ (x : Entry). IsInPages source end x.place) (sym s.2) h) n.1));
   absent = λ k e at h other o. (let s = slot_seen k e at in
-      c.free k s.0 s.1 (subst (λ (x : Entry). IsInPages source end x.place) (sym s.2) h) other
+      free k s.0 s.1 (subst (λ (x : Entry). IsInPages source end x.place) (sym s.2) h) other
       (subst (λ (x : Entry). IsOf old (moved_place source target x.place) other) (sym s.2) ((is_at old (moved_place source target e.place) other).1 o)));
 }
   where

@@ -21,7 +21,7 @@ mod stamps;
 mod standings;
 mod walks;
 
-use blocks::{can_move_all, move_all};
+use blocks::{Pages, move_block};
 use burial::cap_at;
 use creating::nodes_for;
 use l4_fpage::Rights;
@@ -441,15 +441,21 @@ impl Links {
         ensures lacks { OnErr result (LacksPlace source end target rights self.old.entries) }
         ensures spaces { self.new.spaces ≡ self.old.spaces }
     {
-        let can = match can_move_all(&self.nodes, &mut self.pages, source, end, target, rights) {
-            Ok(can) => can,
-            Err(refused) => return Err(refused),
-        };
-        if !can {
-            return Ok(false);
+        if !self.pages.has(source.space) {
+            return Ok(true);
         }
-        move_all(&mut self.nodes, &mut self.pages, source, end, target);
-        Ok(true)
+        let mut targets = self.pages.take_tables(target.space);
+        let mut sources = self.pages.take_tables(source.space);
+        let of = Pages {
+            source,
+            end,
+            target,
+            rights,
+        };
+        let done = move_block(&mut self.nodes, &mut sources, &mut targets, &of);
+        self.pages.put_tables(source.space, sources);
+        self.pages.put_tables(target.space, targets);
+        done
     }
 
     /// Reduces the rights of everything that descends from the key to these rights. Visits nothing if the node under the key has no other

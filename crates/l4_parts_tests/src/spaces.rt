@@ -1,6 +1,7 @@
 ghost use Rattle.std.specs.Prelude.{All};
 ghost use Rattle.l4_spaces.specs.Tables.{IsSpace, IsPage};
 
+use l4_spaces::tables::{clear, key_in};
 use l4_spaces::{NoMemory, Spaces};
 use std::test::Fail;
 
@@ -80,39 +81,37 @@ fn put(spaces: &mut Spaces, space: u64, page: u32, key: usize) -> Result<(), NoM
     Ok(())
 }
 
-/// Lets the key of a page of space 7 be that of a page of space 8.
-fn rename_to_8(spaces: &mut Spaces, page: u32, other: u32) -> Result<(), NoMemory>
-    requires { IsPage other }
+/// Removes the key of the page while the tables of the space are aside.
+fn clear_aside(spaces: &mut Spaces, space: u64, page: u32)
+    requires there { IsSpace spaces.old space }
 {
-    spaces.add(8)?;
-    spaces.prepare(8, &[other])?;
-    let Some(key) = spaces.get(7, page) else {
-        return Err(NoMemory);
-    };
-    spaces.rename(7, page, 8, other, key);
+    let mut tables = spaces.take_tables(space);
+    clear(&mut tables, page);
+    spaces.put_tables(space, tables);
+}
+
+#[test]
+fn has_no_pages_while_its_tables_are_aside(rt: HostRuntime) -> Result<(), Fail> {
+    let mut spaces = Spaces::new(rt.alloc());
+    spaces.add(7)?;
+    fill(&mut spaces, 7, &[5, 2050])?;
+    spaces.add(7)?;
+    let tables = spaces.take_tables(7);
+    assert_eq!(rt;
+        [key_in(&tables, 5), key_in(&tables, 2050), spaces.get(7, 5)],
+        [Some(1), Some(1), None]
+    );
     Ok(())
 }
 
 #[test]
-fn renames_a_page(rt: HostRuntime) -> Result<(), Fail> {
+fn gets_its_tables_back(rt: HostRuntime) -> Result<(), Fail> {
     let mut spaces = Spaces::new(rt.alloc());
-    for (space, page, key) in [(7, 5, 50), (7, 3, 30), (8, 5, 85)] {
-        put(&mut spaces, space, page, key)?;
-    }
-    rename_to_8(&mut spaces, 5, 2000)?;
-    assert_eq!(rt;
-        [
-            spaces.get(7, 5),
-            spaces.get(8, 2000),
-            spaces.get(7, 3),
-            spaces.get(8, 5)
-        ],
-        [None, Some(50), Some(30), Some(85)]
-    );
-    assert_eq!(rt;
-        [spaces.next_present(7, 4), spaces.next_present(8, 6)],
-        [None, Some(2000)]
-    );
+    spaces.add(7)?;
+    fill(&mut spaces, 7, &[5, 2050])?;
+    spaces.add(7)?;
+    clear_aside(&mut spaces, 7, 5);
+    assert_eq!(rt; [spaces.get(7, 5), spaces.get(7, 2050)], [None, Some(1)]);
     Ok(())
 }
 

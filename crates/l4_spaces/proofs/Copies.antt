@@ -4,7 +4,7 @@ use Rattle.std.specs.List.{AllZip}
 use Rattle.std.proofs.lemmas.Bool.{cases_eq, cases_lt}
 use Rattle.std.proofs.lemmas.List.{get_or-set_same, get_or-set_other, length-set, get_or_default, get_or_past, get_or-replicate, length-replicate, same_lists}
 use Rattle.l4_spaces.specs.Tables.{space_tables}
-use Rattle.l4_spaces.specs.Inside.Two.{Rows, entry, is_made, AreWhole}
+use Rattle.l4_spaces.specs.Rows.{Rows, entry, is_made, AreWhole}
 use Rattle.l4_spaces.specs.Inside.Seen.{Space, Live, numbers, has, tables_of, shown, IsLaid}
 use Rattle.l4_spaces.proofs.Listing.{same_shown}
 use Rattle.l4_spaces.proofs.Showing.{once_same}

@@ -9,12 +9,12 @@ ghost use Rattle.l4_spaces.specs.Inside.Seen.{has, IsOnce, StandsAt};
 mod copying;
 mod numbers;
 mod row;
-mod tables;
+pub mod tables;
 
 pub use row::{BLOCK, Row};
 use std::alloc::{AllocError, AllocFailed, Global};
-use std::fmt;
 use std::marker::Model;
+use std::{fmt, mem};
 use tables::SPACE_PAGES;
 
 /// An allocation failed, and nothing was changed.
@@ -96,7 +96,8 @@ fn index_of(spaces: &Vec<(u64, Vec<Row>)>, space: u64) -> Option<usize>
 }
 
 impl Spaces {
-    ghost use Rattle.l4_spaces.specs.Tables.{Tables, key_of, IsPresent, IsSpace, IsPage, HasRoom, KeepsRoom, KeepsOthersRoom, Empties, NonePresentFrom, IsNextPresent, NonePresentIn, IsNextIn, IsTableIn};
+    ghost use Rattle.l4_spaces.specs.Tables.{Tables, key_of, space_tables, IsPresent, IsSpace, IsPage, HasRoom, KeepsRoom, KeepsOthersRoom, Empties, NonePresentFrom, IsNextPresent, NonePresentIn, IsNextIn, IsTableIn};
+    ghost use Rattle.l4_spaces.specs.Rows.{AreWhole, AreTablesOf, AreAside};
 
     /// Creates a value without spaces.
     pub fn new(alloc: Global) -> Spaces
@@ -157,6 +158,44 @@ impl Spaces {
             return None;
         };
         tables::key_in(&self.spaces[at].1, page)
+    }
+
+    /// Returns the tables of the space, or None if there is no such space. A walk over many pages therefore looks the space up once.
+    pub fn tables(&self, space: u64) -> Option<&Vec<Row>>
+        ensures { MatchOption result ((page : ℕ) → key_of self.now space page ≡ None) (λ tables. AreTablesOf self.now space tables.now.items) }
+    {
+        let Some(at) = index_of(&self.spaces, space) else {
+            return None;
+        };
+        Some(&self.spaces[at].1)
+    }
+
+    /// Takes the tables of the space out, so that many of its pages can be written with no search of the space. Until `put_tables` puts them
+    /// back, the space has no pages.
+    pub fn take_tables(&mut self, space: u64) -> Vec<Row>
+        requires there { IsSpace self.old space }
+        ensures out { AreAside space result.items self.new self.old }
+        ensures room { KeepsOthersRoom space self.old self.new }
+    {
+        let none = Vec::new(self.alloc);
+        let Some(at) = index_of(&self.spaces, space) else {
+            return none;
+        };
+        mem::replace(&mut self.spaces[at].1, none)
+    }
+
+    /// Gives the space these tables in place of those that it has.
+    pub fn put_tables(&mut self, space: u64, tables: Vec<Row>)
+        requires there { IsSpace self.old space }
+        requires whole { AreWhole tables.items }
+        requires full { length tables.items ≤ space_tables }
+        ensures back { AreAside space tables.items self.old self.new }
+        ensures room { KeepsOthersRoom space self.old self.new }
+    {
+        let Some(at) = index_of(&self.spaces, space) else {
+            return;
+        };
+        self.spaces[at].1 = tables;
     }
 
     /// Allocates room for these pages of the space, to be set later, one after another. Sets no page.
@@ -240,21 +279,6 @@ impl Spaces {
             return;
         };
         tables::put(&mut self.spaces[at].1, page, key);
-    }
-
-    /// Makes a present page absent, and gives its key to another page, for which there must be room. All room is kept, because no more
-    /// pages are present than before.
-    pub fn rename(&mut self, space: u64, page: u32, other_space: u64, other_page: u32, key: usize)
-        requires present { IsPresent self.old space page }
-        requires there { IsSpace self.old other_space }
-        requires room { HasRoom self.old other_space (other_page ∷ []) }
-        ensures pages { self.new.pages
-            ≡ map.insert (map.remove self.old.pages (space, page)) (other_space, other_page) key }
-        ensures spaces { self.new.spaces ≡ self.old.spaces }
-        ensures room { KeepsRoom self.old self.new }
-    {
-        self.clear(space, page);
-        self.fill(other_space, other_page, key);
     }
 
     /// Makes a page absent. Changes nothing if it is absent.

@@ -3,7 +3,7 @@
 
 ghost use Rattle.std.specs.Prelude.{◌≡◌, ◌≢◌, ◌<◌, ◌≤◌, ◌/◌, ◌%◌, ◌+◌, ◌*◌, ◌⊎◌, ℕ, length, [], ◌∷◌, All, Some, None, OnOk, OnErr, IsOk, IfOk, IsTrue, is_some, IfSome, MatchOption, slice_index_or, true, false};
 ghost use Rattle.l4_spaces.specs.Tables.{table_pages, space_tables, row_block, IsPage, NoKeys};
-ghost use Rattle.l4_spaces.specs.Inside.Two.{entry, is_made, IsReady, AreWhole, AreMade, NoKeysInBlock, NoneIn, IsFirstIn, IsTableFrom, row};
+ghost use Rattle.l4_spaces.specs.Rows.{entry, is_made, IsReady, AreWhole, AreMade, NoKeysInBlock, NoneIn, IsFirstIn, IsTableFrom, row};
 
 use crate::row::{BLOCK, Row};
 use std::alloc::{AllocError, Global};
@@ -18,7 +18,7 @@ pub(crate) const SPACE_TABLES: usize = 2048;
 pub(crate) const SPACE_PAGES: u32 = SPACE_TABLES as u32 * TABLE_PAGES;
 
 /// Returns the key of the page.
-pub(crate) fn key_in(tables: &Vec<Row>, page: u32) -> Option<usize>
+pub fn key_in(tables: &Vec<Row>, page: u32) -> Option<usize>
     ensures { result ≡ entry tables.now.items page }
 {
     let high = (page / TABLE_PAGES) as usize;
@@ -29,7 +29,7 @@ pub(crate) fn key_in(tables: &Vec<Row>, page: u32) -> Option<usize>
 }
 
 /// Sets the key of a page whose table is there.
-pub(crate) fn put(tables: &mut Vec<Row>, page: u32, key: usize)
+pub fn put(tables: &mut Vec<Row>, page: u32, key: usize)
     requires ready { IsReady tables.old.items page }
     ensures here { entry tables.new.items page ≡ Some key }
     ensures others { (other : ℕ) → other ≢ page → entry tables.new.items other
@@ -44,7 +44,7 @@ pub(crate) fn put(tables: &mut Vec<Row>, page: u32, key: usize)
 }
 
 /// Removes the key of the page.
-pub(crate) fn clear(tables: &mut Vec<Row>, page: u32)
+pub fn clear(tables: &mut Vec<Row>, page: u32)
     ensures here { entry tables.new.items page ≡ None }
     ensures others { (other : ℕ) → other ≢ page → entry tables.new.items other
         ≡ entry tables.old.items other }
@@ -164,11 +164,7 @@ fn make_more(tables: &mut Vec<Row>, alloc: Global, pages: &[u32]) -> Result<(), 
 
 /// Creates the tables of all these pages. If all of them exist, one test finds this.
 #[inline]
-pub(crate) fn make_all(
-    tables: &mut Vec<Row>,
-    alloc: Global,
-    pages: &[u32],
-) -> Result<(), AllocError>
+pub fn make_all(tables: &mut Vec<Row>, alloc: Global, pages: &[u32]) -> Result<(), AllocError>
     requires whole { AreWhole tables.old.items }
     requires full { length tables.old.items ≤ space_tables }
     requires fit { All IsPage pages.now }
@@ -364,7 +360,7 @@ pub(crate) fn next_table(tables: &Vec<Row>, page: u32, end: u32) -> Option<usize
 
 /// Returns the first page with a key from `page` on and below `end`, with the key.
 #[inline]
-pub(crate) fn next_page(tables: &Vec<Row>, page: u32, end: u32) -> Option<(u32, usize)>
+pub fn next_page(tables: &Vec<Row>, page: u32, end: u32) -> Option<(u32, usize)>
     requires whole { AreWhole tables.now.items }
     requires full { length tables.now.items ≤ space_tables }
     ensures { MatchOption result (NoneIn tables.now.items page end)

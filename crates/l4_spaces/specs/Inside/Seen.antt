@@ -6,7 +6,7 @@ use Rattle.std.specs.FinMap as map
 use Rattle.std.specs.FinSet as set
 use Rattle.l4_spaces.specs.declared.Spaces.TheInside.{Inside}
 use Rattle.l4_spaces.specs.Tables.{Tables, table_pages, space_tables}
-use Rattle.l4_spaces.specs.Inside.Two.{Rows, entry, is_made, AreWhole}
+use Rattle.l4_spaces.specs.Rows.{Rows, entry, is_made, AreWhole}
 
 abbrev pub Space : Type 0
 Space = ℕ × Vec (List (Option ℕ)) Global

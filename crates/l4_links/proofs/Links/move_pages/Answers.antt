@@ -1,33 +1,148 @@
-use Rattle.std.proofs.Common.{◌≡◌, ℕ, subst}
-use Rattle.l4_links.specs.Entries.{Linked, MovesPages, Hinders, LacksPlace}
-use Rattle.l4_nodes.specs.Slots.{node_at}
+use Rattle.std.proofs.Common.{◌≡◌, ℕ, Bool, true, false, IsTrue, Some, Result, Ok, Err, IfOk, OnErr, sym, ap, ◌∙◌, subst}
+use Rattle.std.specs.Ordering.{nat_cmp}
+use Rattle.std.specs.FinSet as set
+use Rattle.l4_spaces.specs.Tables.{Tables}
+use Rattle.l4_links.specs.declared.Entry.{Entry}
+use Rattle.l4_links.specs.Entries.{Linked, entry_at, IsInPages, MovesPages, Hinders, LacksPlace}
 use Rattle.l4_links.specs.Inside.Keeping.{entries_of}
+use Rattle.l4_links.specs.Inside.Moving.{AreNamed, AreOthersSame}
+use Rattle.l4_links.proofs.Asides.{named_first, spaces_last, indexed_last}
 use Rattle.l4_links.proofs.Kept.{sound_nodes}
-use Rattle.l4_links.proofs.Moving.{node_moved, view_moves, view_hinders, view_lacks}
+use Rattle.l4_links.proofs.Moving.{view_moves, view_hinders, view_lacks}
+use Rattle.l4_links.proofs.Naming.{have_places}
 use Rattle.l4_links.proofs.Stacking.{stack_nodes}
+use Rattle.l4_links.proofs.Links.move_pages.Goals.{After-take_tables-sources, After-move_block-done, After-put_tables-2}
 use Rattle.l4_links.proofs.Links.move_pages.Goals as goal
 
-same : (c : goal.After-move_all) (k : ℕ) → node_at c.move_all.new.nodes.slots k ≡ node_at c.self.inside.nodes.slots k
-same c = node_moved c.args.source c.args.end c.args.target c.self.inside.nodes.slots c.move_all.new.nodes.slots c.move_all.ensures.moves
+-- what is known of a result leads to more
+if_ok : (E : Type 0) (r : Result Bool E) (P Q : Bool → Type 0) → ((b : Bool) → P b → Q b) → IfOk r P → IfOk r Q
+if_ok E (Ok b) P Q f p = f b p
+if_ok E (Err e) P Q f p = p
 
-pub invariant_of-self-2 : goal.invariant_of-self-2
-invariant_of-self-2 c = record {
-  sound = sound_nodes c.self.inside.nodes.slots c.move_all.new.nodes.slots (same c) c.self.inside.first c.self.inside.stamp c.self.inside.walk c.self.invariant.sound;
-  indexed = c.move_all.ensures.indexed;
-  stack = stack_nodes c.self.inside.nodes.slots c.move_all.new.nodes.slots c.self.inside.doomed (same c) c.self.invariant.stack;
-}
+if_both : (E : Type 0) (r : Result Bool E) (P Q R : Bool → Type 0) → ((b : Bool) → P b → Q b → R b) → IfOk r P → IfOk r Q → IfOk r R
+if_both E (Ok b) P Q R f p q = f b p q
+if_both E (Err e) P Q R f p q = p
+
+on_err : (E : Type 0) (r : Result Bool E) (P Q : Type 0) → (P → Q) → OnErr r P → OnErr r Q
+on_err E (Ok b) P Q f p = p
+on_err E (Err e) P Q f p = f p
+
+-- a space that isn't there has no pages
+pub returns-then-not-has-clause-moved : goal.returns-then-not-has-clause-moved
+returns-then-not-has-clause-moved c = λ _.
+    subst (λ (s : Linked). MovesPages c.args.source c.args.end c.args.target c.args.rights s.entries s.entries) c.self.view_is (record {
+      moved = λ k e at h. absurd (none k e at h);
+      kept = λ k e at out. at;
+      vacant = λ k at. at;
+      within = λ k e x at h stands. absurd (none k e at h);
+      absent = λ k e at h other o. absurd (none k e at h);
+    })
+  where
+    none : (k : ℕ) (e : Entry) → entry_at (entries_of c.self.inside.nodes.slots) k ≡ Some e → ¬ (IsInPages c.args.source c.args.end e.place)
+    none k e at h =
+        let there = (have_places c.self.inside.nodes.slots c.self.inside.pages c.self.invariant.indexed).housed k e at in
+        let z : false ≡ true = sym c.if-not-has.true ∙ c.has.ensures ∙ ap (set.contains c.self.inside.pages.spaces) (sym h.0) ∙ there in cc
+
+pub take_tables-targets-requires : goal.take_tables-targets-requires
+take_tables-targets-requires c = record { there = subst (λ (s : Linked). IsTrue (set.contains s.spaces c.args.target.space)) (sym c.self.view_is) c.requires.there }
+
+pub take_tables-sources-requires : goal.take_tables-sources-requires
+take_tables-sources-requires c = record { there = ap (λ (v : set.FinSet nat_cmp). set.contains v c.args.source.space) (sym c.take_tables-targets.ensures.out.spaces) ∙ sym c.has.ensures ∙ c.if-not-has.false }
+
+named : (c : After-take_tables-sources) → AreNamed c.args.source.space c.args.target.space c.take_tables-sources.result.items c.take_tables-targets.result.items c.self.inside.nodes.slots c.self.inside.pages
+named c =
+    named_first c.args.source.space c.args.target.space c.self.inside.pages c.take_tables-targets.new.self c.take_tables-sources.new.self c.take_tables-sources.result.items c.take_tables-targets.result.items c.requires.apart
+    c.take_tables-targets.ensures.out c.take_tables-sources.ensures.out c.self.inside.nodes.slots c.self.invariant.indexed
+
+there : (c : After-take_tables-sources) → IsTrue (set.contains c.self.inside.pages.spaces c.args.target.space)
+there c = subst (λ (s : Linked). IsTrue (set.contains s.spaces c.args.target.space)) (sym c.self.view_is) c.requires.there
+
+pub move_block-done-requires-clause-named : goal.move_block-done-requires-clause-named
+move_block-done-requires-clause-named c = let at = (goal.at.move_block-done-requires-clause-named c).After-take_tables-sources in (c.self.inside.pages, named at, there at)
+
+-- the tables of all spaces, once the pages have gone
+later : (c : After-move_block-done) → (all : Tables) × AreNamed c.args.source.space c.args.target.space c.move_block-done.new.sources.items c.move_block-done.new.targets.items c.move_block-done.new.nodes.slots all
+    × AreOthersSame c.args.source.space c.args.target.space c.self.inside.pages all
+later c =
+    c.move_block-done.ensures.named c.self.inside.pages
+    (named_first c.args.source.space c.args.target.space c.self.inside.pages c.take_tables-targets.new.self c.take_tables-sources.new.self c.take_tables-sources.result.items c.take_tables-targets.result.items c.requires.apart
+    c.take_tables-targets.ensures.out c.take_tables-sources.ensures.out c.self.inside.nodes.slots c.self.invariant.indexed)
+    (subst (λ (s : Linked). IsTrue (set.contains s.spaces c.args.target.space)) (sym c.self.view_is) c.requires.there)
+
+pub put_tables-requires-clause-there : goal.put_tables-requires-clause-there
+put_tables-requires-clause-there c =
+    ap (λ (v : set.FinSet nat_cmp). set.contains v c.args.source.space) (sym c.take_tables-sources.ensures.out.spaces ∙ sym c.take_tables-targets.ensures.out.spaces) ∙ sym c.has.ensures ∙ c.if-not-has.false
+
+pub put_tables-requires-clause-whole : goal.put_tables-requires-clause-whole
+put_tables-requires-clause-whole c = (later (goal.at.put_tables-requires-clause-whole c).After-move_block-done).1.source.whole
+
+pub put_tables-requires-clause-full : goal.put_tables-requires-clause-full
+put_tables-requires-clause-full c = (later (goal.at.put_tables-requires-clause-full c).After-move_block-done).1.source.full
+
+pub put_tables-requires-2-clause-there : goal.put_tables-requires-2-clause-there
+put_tables-requires-2-clause-there c =
+    subst (λ (v : set.FinSet nat_cmp). IsTrue (set.contains v c.args.target.space)) (c.take_tables-targets.ensures.out.spaces ∙ c.take_tables-sources.ensures.out.spaces ∙ sym c.put_tables.ensures.back.spaces)
+    (there (goal.at.put_tables-requires-2-clause-there c).After-take_tables-sources)
+
+pub put_tables-requires-2-clause-whole : goal.put_tables-requires-2-clause-whole
+put_tables-requires-2-clause-whole c = (later (goal.at.put_tables-requires-2-clause-whole c).After-move_block-done).1.target.whole
+
+pub put_tables-requires-2-clause-full : goal.put_tables-requires-2-clause-full
+put_tables-requires-2-clause-full c = (later (goal.at.put_tables-requires-2-clause-full c).After-move_block-done).1.target.full
+
+-- the same tables
+abbrev AllLater : After-put_tables-2 → Type 0
+AllLater c = (all : Tables) × AreNamed c.args.source.space c.args.target.space c.move_block-done.new.sources.items c.move_block-done.new.targets.items c.move_block-done.new.nodes.slots all
+    × AreOthersSame c.args.source.space c.args.target.space c.self.inside.pages all
+
+spaces_same : (c : After-put_tables-2) → AllLater c → c.put_tables-2.new.self.spaces ≡ c.self.inside.pages.spaces
+spaces_same c l =
+    spaces_last c.args.source.space c.args.target.space c.self.inside.pages c.take_tables-targets.new.self c.take_tables-sources.new.self c.take_tables-sources.result.items c.take_tables-targets.result.items c.requires.apart
+    c.take_tables-targets.ensures.out c.take_tables-sources.ensures.out c.put_tables.new.self c.put_tables-2.new.self l.0 c.move_block-done.new.sources.items c.move_block-done.new.targets.items
+    c.put_tables.ensures.back c.put_tables-2.ensures.back c.move_block-done.new.nodes.slots l.1 l.2
+
+pub invariant_of-self : goal.invariant_of-self
+invariant_of-self c =
+    let l = later (goal.at.invariant_of-self c).After-move_block-done in
+    record {
+      sound = sound_nodes c.self.inside.nodes.slots c.move_block-done.new.nodes.slots c.move_block-done.ensures.same c.self.inside.first c.self.inside.stamp c.self.inside.walk c.self.invariant.sound;
+      indexed =
+          indexed_last c.args.source.space c.args.target.space c.self.inside.pages c.take_tables-targets.new.self c.take_tables-sources.new.self c.take_tables-sources.result.items c.take_tables-targets.result.items c.requires.apart
+          c.take_tables-targets.ensures.out c.take_tables-sources.ensures.out c.put_tables.new.self c.put_tables-2.new.self l.0 c.move_block-done.new.sources.items c.move_block-done.new.targets.items
+          c.put_tables.ensures.back c.put_tables-2.ensures.back c.move_block-done.new.nodes.slots l.1 l.2;
+      stack = stack_nodes c.self.inside.nodes.slots c.move_block-done.new.nodes.slots c.self.inside.doomed c.move_block-done.ensures.same c.self.invariant.stack;
+    }
+
+-- where the nodes are as they were, so is all that is seen
+same_links : (c : After-put_tables-2) → AllLater c → c.move_block-done.new.nodes.slots ≡ c.self.inside.nodes.slots → ◌≡◌ {A = Linked} (record { entries = entries_of c.move_block-done.new.nodes.slots; spaces = c.put_tables-2.new.self.spaces }) c.args.self.now
+same_links c l e = (λ i. record { entries = entries_of (e i); spaces = (spaces_same c l) i }) ∙ c.self.view_is
 
 pub returns-clause-moved : goal.returns-clause-moved
-returns-clause-moved c = λ _.
-    subst (λ (s : Linked). MovesPages c.args.source c.args.end c.args.target c.args.rights s.entries (entries_of c.move_all.new.nodes.slots)) c.self.view_is
-    (view_moves c.args.source c.args.end c.args.target c.args.rights c.self.inside.nodes.slots c.move_all.new.nodes.slots c.can_move_all.new.pages (c.in-Ok.ensures.can c.if-not-can.false) c.move_all.ensures.moves)
+returns-clause-moved c =
+    if_both _ c.move_block-done.result _ _ _
+    (λ b moves could t. subst (λ (s : Linked). MovesPages c.args.source c.args.end c.args.target c.args.rights s.entries (entries_of c.move_block-done.new.nodes.slots)) c.self.view_is
+    (view_moves c.args.source c.args.end c.args.target c.args.rights c.self.inside.nodes.slots c.move_block-done.new.nodes.slots (could t).0 (could t).1 (moves t)))
+    c.move_block-done.ensures.moves c.move_block-done.ensures.could
 
-pub returns-then-not-can-clause-hinders : goal.returns-then-not-can-clause-hinders
-returns-then-not-can-clause-hinders c = λ _.
-    subst (λ (s : Linked). Hinders c.args.source c.args.end c.args.target c.args.rights s.entries) c.self.view_is
-    (view_hinders c.args.source c.args.end c.args.target c.args.rights c.self.inside.nodes.slots (c.in-Ok.ensures.hinders c.if-not-can.true))
+pub returns-clause-left : goal.returns-clause-left
+returns-clause-left c = let at = (goal.at.returns-clause-left c).After-put_tables-2 in let l = later (goal.at.returns-clause-left c).After-move_block-done in if_ok _ c.move_block-done.result _ _ (λ b left f. same_links at l (left f)) c.move_block-done.ensures.left
 
-pub returns-in-Err-clause-lacks : goal.returns-in-Err-clause-lacks
-returns-in-Err-clause-lacks c =
-    subst (λ (s : Linked). LacksPlace c.args.source c.args.end c.args.target c.args.rights s.entries) c.self.view_is
-    (view_lacks c.args.source c.args.end c.args.target c.args.rights c.self.inside.nodes.slots c.in-Err.ensures.lacks)
+pub returns-clause-hinders : goal.returns-clause-hinders
+returns-clause-hinders c =
+    if_ok _ c.move_block-done.result _ _
+    (λ b hinders f. subst (λ (s : Linked). Hinders c.args.source c.args.end c.args.target c.args.rights s.entries) c.self.view_is
+    (view_hinders c.args.source c.args.end c.args.target c.args.rights c.self.inside.nodes.slots (hinders f)))
+    c.move_block-done.ensures.hinders
+
+pub returns-clause-err : goal.returns-clause-err
+returns-clause-err c = let at = (goal.at.returns-clause-err c).After-put_tables-2 in let l = later (goal.at.returns-clause-err c).After-move_block-done in on_err _ c.move_block-done.result _ _ (λ e. same_links at l e) c.move_block-done.ensures.err
+
+pub returns-clause-lacks : goal.returns-clause-lacks
+returns-clause-lacks c =
+    on_err _ c.move_block-done.result _ _
+    (λ l. subst (λ (s : Linked). LacksPlace c.args.source c.args.end c.args.target c.args.rights s.entries) c.self.view_is
+    (view_lacks c.args.source c.args.end c.args.target c.args.rights c.self.inside.nodes.slots l))
+    c.move_block-done.ensures.lacks
+
+pub returns-clause-spaces : goal.returns-clause-spaces
+returns-clause-spaces c = spaces_same (goal.at.returns-clause-spaces c).After-put_tables-2 (later (goal.at.returns-clause-spaces c).After-move_block-done) ∙ ap (λ (s : Linked). s.spaces) c.self.view_is

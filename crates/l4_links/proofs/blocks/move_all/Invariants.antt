@@ -1,18 +1,19 @@
-use Rattle.std.proofs.Common.{◌≡◌, ◌≤◌, ◌-◌}
-use Rattle.l4_links.specs.Inside.Keeping.{IsIndexed}
-use Rattle.l4_links.specs.Inside.Moving.{HaveRoom, Moves}
+use Rattle.std.proofs.Common.{◌≤◌, ◌-◌, IsTrue}
+use Rattle.std.specs.FinSet as set
+use Rattle.l4_spaces.specs.Tables.{Tables}
+use Rattle.l4_links.specs.Inside.Moving.{HaveTables, Moves, AreNamed, AreOthersSame}
 use Rattle.l4_links.proofs.blocks.move_all.Given as goal
 
 -- what is at the pages before this one has gone
 abbrev pub invariant-loop-next : goal.invariant-loop-next
 invariant-loop-next l = record {
-  from : l.source.page ≤ l.page;
-  before : l.page ≤ l.end;
-  moves : Moves l.source l.page l.target l.fn.nodes.slots l.nodes.slots;
-  indexed : IsIndexed l.nodes.slots l.pages;
-  spaces : l.pages.spaces ≡ l.fn.pages.spaces;
-  room : HaveRoom l.source l.end l.target l.fn.nodes.slots l.pages;
+  from : l.of.source.page ≤ l.page;
+  before : l.page ≤ l.of.end;
+  moves : Moves l.of.source l.page l.of.target l.fn.nodes.slots l.nodes.slots;
+  made : HaveTables l.of.source l.of.end l.of.target l.fn.nodes.slots l.targets.items;
+  named : (all : Tables) → AreNamed l.of.source.space l.of.target.space l.fn.sources.items l.fn.targets.items l.fn.nodes.slots all → IsTrue (set.contains all.spaces l.of.target.space)
+      → (now : Tables) × AreNamed l.of.source.space l.of.target.space l.sources.items l.targets.items l.nodes.slots now × AreOthersSame l.of.source.space l.of.target.space all now;
 }
 
 abbrev pub decreases-loop-next : goal.decreases-loop-next
-decreases-loop-next l = l.end - l.page
+decreases-loop-next l = l.of.end - l.page

@@ -3,7 +3,7 @@ use Rattle.std.specs.Ordering.{nat_cmp}
 use Rattle.std.specs.FinSet as set
 use Rattle.std.proofs.lemmas.Result.{err_from_is_err_and}
 use Rattle.l4_spaces.specs.Tables.{Tables, space_tables}
-use Rattle.l4_spaces.specs.Inside.Two.{Rows, entry, is_made, AreWhole, AreMade}
+use Rattle.l4_spaces.specs.Rows.{Rows, entry, is_made, AreWhole, AreMade}
 use Rattle.l4_spaces.proofs.Below.{not_both}
 use Rattle.l4_spaces.proofs.Showing.{wrote, at_here, found_in, stands, laid, keys_put, keys_same, same_entries, there_more, there_same, keeps, pages_set, same_view, all_made}
 use Rattle.l4_spaces.proofs.Spaces.claim.Goals as goal

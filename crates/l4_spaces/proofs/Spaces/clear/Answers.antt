@@ -2,7 +2,7 @@ use Rattle.std.proofs.Common.{◌≡◌, ◌∙◌, ℕ, List, None, sym, ap, ar
 use Rattle.std.specs.Ordering.{nat_cmp}
 use Rattle.std.specs.FinSet as set
 use Rattle.l4_spaces.specs.Tables.{Tables}
-use Rattle.l4_spaces.specs.Inside.Two.{Rows, entry}
+use Rattle.l4_spaces.specs.Rows.{Rows, entry}
 use Rattle.l4_spaces.proofs.Finding.{no_tables_of}
 use Rattle.l4_spaces.proofs.Showing.{wrote, at_here, found, laid, whole_long, there_long, keys_put, keys_same, same_entries, keeps_same, same_view, pages_clear, pages_clear_none}
 use Rattle.l4_spaces.proofs.Spaces.clear.Goals as goal

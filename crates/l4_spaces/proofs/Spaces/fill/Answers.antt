@@ -2,7 +2,7 @@ use Rattle.std.proofs.Common.{◌∙◌, ℕ, List, Some, is_some, sym, ap, subs
 use Rattle.std.specs.Ordering.{nat_cmp}
 use Rattle.std.specs.FinSet as set
 use Rattle.l4_spaces.specs.Tables.{Tables}
-use Rattle.l4_spaces.specs.Inside.Two.{Rows, IsReady}
+use Rattle.l4_spaces.specs.Rows.{Rows, IsReady}
 use Rattle.l4_spaces.specs.Inside.Seen.{tables_of}
 use Rattle.l4_spaces.proofs.Below.{not_both}
 use Rattle.l4_spaces.proofs.Showing.{wrote, at_here, found, stands, laid, whole_long, there_long, keys_put, keeps_same, pages_set, ready_shown, ready_made, first_made}

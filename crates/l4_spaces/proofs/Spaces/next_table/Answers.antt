@@ -1,5 +1,5 @@
 use Rattle.std.proofs.Common.{◌≤◌, length, subst}
-use Rattle.l4_spaces.specs.Inside.Two.{Rows, AreWhole}
+use Rattle.l4_spaces.specs.Rows.{Rows, AreWhole}
 use Rattle.l4_spaces.specs.Tables.{space_tables}
 use Rattle.l4_spaces.proofs.Rows.{row_was}
 use Rattle.l4_spaces.proofs.Showing.{next_absent, none_at, table_in, at_here}

@@ -1,7 +1,7 @@
 use Rattle.std.proofs.Common.{◌≡◌, ◌+◌, ◌-◌, ◌<◌, ◌/◌, ℕ, List, true, length, take, drop, slice_index_or, refl, sym, ◌∙◌, subst, arith}
 use Rattle.std.proofs.lemmas.List.{length-drop, take_all}
 use Rattle.l4_spaces.specs.Tables.{table_pages}
-use Rattle.l4_spaces.specs.Inside.Two.{is_made}
+use Rattle.l4_spaces.specs.Rows.{is_made}
 use Rattle.l4_spaces.proofs.Making.{made_all}
 use Rattle.l4_spaces.proofs.tables.+make_more.Goals as goal
 

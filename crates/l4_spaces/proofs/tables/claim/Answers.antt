@@ -2,7 +2,7 @@ use Rattle.l4_spaces.specs.Tables.{table_pages}
 use Rattle.std.proofs.Common.{◌≡◌, ◌∙◌, ◌/◌, ℕ, List, Option, Vec, OnErr, slice_set, ap, subst}
 use Rattle.std.specs.declared.alloc.Global.{Global}
 use Rattle.std.proofs.lemmas.List.{set-get_or}
-use Rattle.l4_spaces.specs.Inside.Two.{Rows, is_made}
+use Rattle.l4_spaces.specs.Rows.{Rows, is_made}
 use Rattle.l4_spaces.proofs.tables.claim.Goals as goal
 use Rattle.l4_spaces.proofs.tables.claim.Goals.{then-high-len+else-low-len, else-high-len}
 

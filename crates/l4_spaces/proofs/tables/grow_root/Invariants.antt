@@ -1,5 +1,5 @@
 use Rattle.std.proofs.Common.{ℕ, ◌≤◌, ◌≡◌, ◌+◌, length, vec_capacity}
-use Rattle.l4_spaces.specs.Inside.Two.{row}
+use Rattle.l4_spaces.specs.Rows.{row}
 use Rattle.l4_spaces.proofs.tables.grow_root.Given as goal
 
 abbrev pub invariant-loop : goal.invariant-loop

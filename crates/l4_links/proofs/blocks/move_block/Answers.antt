@@ -1,0 +1,40 @@
+use Rattle.std.proofs.Common.{refl}
+use Rattle.l4_spaces.specs.Tables.{Tables}
+use Rattle.l4_spaces.proofs.Aside.{made_aside}
+use Rattle.l4_links.specs.Inside.Moving.{AreNamed}
+use Rattle.l4_links.proofs.Moving.{node_moved}
+use Rattle.l4_links.proofs.blocks.move_block.Goals.{After-can_move_all}
+use Rattle.l4_links.proofs.blocks.move_block.Goals as goal
+
+pub can_move_all-requires-clause-named : goal.can_move_all-requires-clause-named
+can_move_all-requires-clause-named c = (c.requires.named.0, c.requires.named.1)
+
+-- the tables that were made name no key
+made : (c : After-can_move_all) (all : Tables) → AreNamed c.args.of.now.source.space c.args.of.now.target.space c.args.sources.now.items c.args.targets.now.items c.args.nodes.now.slots all
+    → AreNamed c.args.of.now.source.space c.args.of.now.target.space c.args.sources.now.items c.can_move_all.new.targets.items c.args.nodes.now.slots all
+made c all n = record {
+  source = n.source;
+  target = made_aside all c.args.of.now.target.space c.args.targets.now.items c.can_move_all.new.targets.items n.target c.can_move_all.ensures.same c.can_move_all.ensures.whole c.can_move_all.ensures.full;
+  indexed = n.indexed;
+}
+
+pub move_all-requires-clause-named : goal.move_all-requires-clause-named
+move_all-requires-clause-named c = (c.requires.named.0, made (goal.at.move_all-requires-clause-named c).After-can_move_all c.requires.named.0 c.requires.named.1, c.requires.named.2)
+
+pub move_all-requires-clause-can : goal.move_all-requires-clause-can
+move_all-requires-clause-can c = c.in-Ok.ensures.can c.if-not-can.false
+
+pub returns-in-Err-clause-named : goal.returns-in-Err-clause-named
+returns-in-Err-clause-named c all n there = (all, made (goal.at.returns-in-Err-clause-named c).After-can_move_all all n, record { away = λ o p nf nt. refl; spaces = refl })
+
+pub returns-then-not-can-clause-named : goal.returns-then-not-can-clause-named
+returns-then-not-can-clause-named c all n there = (all, made (goal.at.returns-then-not-can-clause-named c).After-can_move_all all n, record { away = λ o p nf nt. refl; spaces = refl })
+
+pub returns-clause-could : goal.returns-clause-could
+returns-clause-could c = λ _. (let can = c.in-Ok.ensures.can c.if-not-can.false in (can.within, can.free))
+
+pub returns-clause-same : goal.returns-clause-same
+returns-clause-same c = node_moved c.args.of.now.source c.args.of.now.end c.args.of.now.target c.args.nodes.now.slots c.move_all.new.nodes.slots c.move_all.ensures.moves
+
+pub returns-clause-named : goal.returns-clause-named
+returns-clause-named c all n there = c.move_all.ensures.named all (made (goal.at.returns-clause-named c).After-can_move_all all n) there
