@@ -69,13 +69,18 @@ fn can_move(
     requires whole { AreWhole targets.old.items }
     requires full { length targets.old.items ≤ space_tables }
     requires fits { IsPage page }
-    ensures within { IfOk result (λ can. can ≡ true → (n : ANode) → node_at nodes.now.slots key ≡ Some n → Within n.rights rights) }
+    ensures within { IfOk result (λ can. can ≡ true → (n : ANode)
+        → node_at nodes.now.slots key ≡ Some n → Within n.rights rights) }
     ensures absent { IfOk result (λ can. can ≡ true → entry targets.old.items page ≡ None) }
-    ensures lacks { OnErr result (((n : ANode) → node_at nodes.now.slots key ≡ Some n → Within n.rights rights) × (entry targets.old.items page ≡ None)) }
-    ensures hindered { IfOk result (λ can. can ≡ false → IsHindered key page rights nodes.now.slots targets.old.items) }
-    ensures ready { IfOk result (λ can. can ≡ true → is_made targets.new.items (page / table_pages) ≡ true) }
+    ensures lacks { OnErr result (((n : ANode) → node_at nodes.now.slots key ≡ Some n
+        → Within n.rights rights) × (entry targets.old.items page ≡ None)) }
+    ensures hindered { IfOk result (λ can. can ≡ false
+        → IsHindered key page rights nodes.now.slots targets.old.items) }
+    ensures ready { IfOk result (λ can. can ≡ true
+        → is_made targets.new.items (page / table_pages) ≡ true) }
     ensures same { (other : ℕ) → entry targets.new.items other ≡ entry targets.old.items other }
-    ensures kept { (high : ℕ) → is_made targets.old.items high ≡ true → is_made targets.new.items high ≡ true }
+    ensures kept { (high : ℕ) → is_made targets.old.items high ≡ true
+        → is_made targets.new.items high ≡ true }
     ensures whole { AreWhole targets.new.items }
     ensures full { length targets.new.items ≤ space_tables }
 {
@@ -99,12 +104,16 @@ fn can_move_all(
     targets: &mut Vec<Row>,
     of: &Pages,
 ) -> Result<bool, NoMemory>
-    requires named { (all : Tables) × AreNamed of.now.source.space of.now.target.space sources.now.items targets.old.items nodes.now.slots all }
+    requires named { (all : Tables) × AreNamed of.now.source.space of.now.target.space
+        sources.now.items targets.old.items nodes.now.slots all }
     requires rising { of.now.source.page ≤ of.now.end }
     requires fits { of.now.end - of.now.source.page + of.now.target.page ≤ space_pages }
-    ensures can { IfOk result (λ can. can ≡ true → CanMove of.now.source of.now.end of.now.target of.now.rights nodes.now.slots targets.new.items) }
-    ensures lacks { OnErr result (LacksPlace of.now.source of.now.end of.now.target of.now.rights nodes.now.slots) }
-    ensures hinders { IfOk result (λ can. can ≡ false → Hinders of.now.source of.now.end of.now.target of.now.rights nodes.now.slots) }
+    ensures can { IfOk result (λ can. can ≡ true
+        → CanMove of.now.source of.now.end of.now.target of.now.rights nodes.now.slots targets.new.items) }
+    ensures lacks { OnErr result (LacksPlace of.now.source of.now.end of.now.target of.now.rights
+        nodes.now.slots) }
+    ensures hinders { IfOk result (λ can. can ≡ false
+        → Hinders of.now.source of.now.end of.now.target of.now.rights nodes.now.slots) }
     ensures same { (page : ℕ) → entry targets.new.items page ≡ entry targets.old.items page }
     ensures whole { AreWhole targets.new.items }
     ensures full { length targets.new.items ≤ space_tables }
@@ -137,13 +146,15 @@ fn move_key(
     place: Place,
 )
     requires apart { source.space ≢ place.space }
-    requires named { (all : Tables) × AreNamed source.space place.space sources.old.items targets.old.items nodes.old.slots all × IsSpace all place.space }
+    requires named { (all : Tables) × AreNamed source.space place.space sources.old.items
+        targets.old.items nodes.old.slots all × IsSpace all place.space }
     requires stands { IsOf nodes.old.slots source key }
     requires fits { IsPage place.page }
     requires free { (other : ℕ) → ¬ (IsOf nodes.old.slots place other) }
     requires made { is_made targets.old.items (place.page / table_pages) ≡ true }
     ensures sets { SetsPlace key place nodes.old.slots nodes.new.slots }
-    ensures named { (all : Tables) → AreNamed source.space place.space sources.old.items targets.old.items nodes.old.slots all → IsSpace all place.space
+    ensures named { (all : Tables) → AreNamed source.space place.space sources.old.items
+        targets.old.items nodes.old.slots all → IsSpace all place.space
         → AreNamed source.space place.space sources.new.items targets.new.items nodes.new.slots (renamed source place key all) }
     ensures kept { (high : ℕ) → is_made targets.new.items high ≡ is_made targets.old.items high }
 {
@@ -155,13 +166,17 @@ fn move_key(
 /// Moves all pages to their places.
 fn move_all(nodes: &mut Slots, sources: &mut Vec<Row>, targets: &mut Vec<Row>, of: &Pages)
     requires apart { of.now.source.space ≢ of.now.target.space }
-    requires named { (all : Tables) × AreNamed of.now.source.space of.now.target.space sources.old.items targets.old.items nodes.old.slots all × IsSpace all of.now.target.space }
+    requires named { (all : Tables) × AreNamed of.now.source.space of.now.target.space
+        sources.old.items targets.old.items nodes.old.slots all × IsSpace all of.now.target.space }
     requires rising { of.now.source.page ≤ of.now.end }
     requires fits { of.now.end - of.now.source.page + of.now.target.page ≤ space_pages }
-    requires can { CanMove of.now.source of.now.end of.now.target of.now.rights nodes.old.slots targets.old.items }
+    requires can { CanMove of.now.source of.now.end of.now.target of.now.rights nodes.old.slots
+        targets.old.items }
     ensures moves { Moves of.now.source of.now.end of.now.target nodes.old.slots nodes.new.slots }
-    ensures named { (all : Tables) → AreNamed of.now.source.space of.now.target.space sources.old.items targets.old.items nodes.old.slots all → IsSpace all of.now.target.space
-        → (later : Tables) × AreNamed of.now.source.space of.now.target.space sources.new.items targets.new.items nodes.new.slots later × AreOthersSame of.now.source.space of.now.target.space all later }
+    ensures named { (all : Tables) → AreNamed of.now.source.space of.now.target.space
+        sources.old.items targets.old.items nodes.old.slots all → IsSpace all of.now.target.space
+        → (later : Tables)
+        × AreNamed of.now.source.space of.now.target.space sources.new.items targets.new.items nodes.new.slots later × AreOthersSame of.now.source.space of.now.target.space all later }
 {
     let mut page = of.source.page;
     loop {
@@ -186,18 +201,26 @@ pub(crate) fn move_block(
     of: &Pages,
 ) -> Result<bool, NoMemory>
     requires apart { of.now.source.space ≢ of.now.target.space }
-    requires named { (all : Tables) × AreNamed of.now.source.space of.now.target.space sources.old.items targets.old.items nodes.old.slots all × IsSpace all of.now.target.space }
+    requires named { (all : Tables) × AreNamed of.now.source.space of.now.target.space
+        sources.old.items targets.old.items nodes.old.slots all × IsSpace all of.now.target.space }
     requires rising { of.now.source.page ≤ of.now.end }
     requires fits { of.now.end - of.now.source.page + of.now.target.page ≤ space_pages }
-    ensures moves { IfOk result (λ done. done ≡ true → Moves of.now.source of.now.end of.now.target nodes.old.slots nodes.new.slots) }
-    ensures could { IfOk result (λ done. done ≡ true → AreWithin of.now.source of.now.end of.now.rights nodes.old.slots × AreFree of.now.source of.now.end of.now.target nodes.old.slots) }
+    ensures moves { IfOk result (λ done. done ≡ true
+        → Moves of.now.source of.now.end of.now.target nodes.old.slots nodes.new.slots) }
+    ensures could { IfOk result (λ done. done ≡ true
+        → AreWithin of.now.source of.now.end of.now.rights nodes.old.slots
+        × AreFree of.now.source of.now.end of.now.target nodes.old.slots) }
     ensures left { IfOk result (λ done. done ≡ false → nodes.new.slots ≡ nodes.old.slots) }
-    ensures hinders { IfOk result (λ done. done ≡ false → Hinders of.now.source of.now.end of.now.target of.now.rights nodes.old.slots) }
+    ensures hinders { IfOk result (λ done. done ≡ false
+        → Hinders of.now.source of.now.end of.now.target of.now.rights nodes.old.slots) }
     ensures err { OnErr result (nodes.new.slots ≡ nodes.old.slots) }
-    ensures lacks { OnErr result (LacksPlace of.now.source of.now.end of.now.target of.now.rights nodes.old.slots) }
+    ensures lacks { OnErr result (LacksPlace of.now.source of.now.end of.now.target of.now.rights
+        nodes.old.slots) }
     ensures same { (key : ℕ) → node_at nodes.new.slots key ≡ node_at nodes.old.slots key }
-    ensures named { (all : Tables) → AreNamed of.now.source.space of.now.target.space sources.old.items targets.old.items nodes.old.slots all → IsSpace all of.now.target.space
-        → (later : Tables) × AreNamed of.now.source.space of.now.target.space sources.new.items targets.new.items nodes.new.slots later × AreOthersSame of.now.source.space of.now.target.space all later }
+    ensures named { (all : Tables) → AreNamed of.now.source.space of.now.target.space
+        sources.old.items targets.old.items nodes.old.slots all → IsSpace all of.now.target.space
+        → (later : Tables)
+        × AreNamed of.now.source.space of.now.target.space sources.new.items targets.new.items nodes.new.slots later × AreOthersSame of.now.source.space of.now.target.space all later }
 {
     let can = match can_move_all(nodes, sources, targets, of) {
         Ok(can) => can,

@@ -39,8 +39,10 @@ pub(crate) fn leave(nodes: &mut Slots, first: Link, key: usize) -> Link
     requires order { (ks : List ℕ) × IsOrder nodes.old.slots ks }
     requires there { node_at nodes.old.slots key ≢ None }
     ensures parts { Parts key nodes.old.slots nodes.new.slots }
-    ensures order { (xs ys : List ℕ) → IsOrder nodes.old.slots (xs ++ key ∷ ys) → IsOrder nodes.new.slots (xs ++ ys) }
-    ensures first { (n : ANode) → node_at nodes.old.slots key ≡ Some n → (n.prev ≡ None → result ≡ n.next) × (n.prev ≢ None → result ≡ first) }
+    ensures order { (xs ys : List ℕ) → IsOrder nodes.old.slots (xs ++ key ∷ ys)
+        → IsOrder nodes.new.slots (xs ++ ys) }
+    ensures first { (n : ANode) → node_at nodes.old.slots key ≡ Some n
+        → (n.prev ≡ None → result ≡ n.next) × (n.prev ≢ None → result ≡ first) }
 {
     let Some(node) = node_of(nodes, key) else {
         unreachable!()
