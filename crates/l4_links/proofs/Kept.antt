@@ -11,7 +11,7 @@ use Rattle.l4_links.specs.Inside.Trees.{Limb, IsTree, parent_at, Sprouts, Rises}
 use Rattle.l4_links.specs.Inside.Orders.{Link, IsLinked, first_of, last_of, position}
 use Rattle.l4_nodes.specs.Slots.{Slots, slot_at, node_at, SetsWanted}
 use Rattle.l4_links.specs.Inside.Nodes.{limbs, links, values, marks, Marks, Worth, capped_worth, IsOrder, IsForest, IsLow, IsMarked, IsStamped, AreUnmarked, HasMarks, HasSeen, Ends, Comes, Prunes, Clears, CapsBelow, IsSame}
-use Rattle.l4_links.specs.Inside.Keeping.{IsWithin, LiesWithin, IsFresh, BeginsWalk, sources_walk, IsSound}
+use Rattle.l4_links.specs.Inside.Keeping.{IsWithin, LiesWithin, IsFresh, BeginsWalk, sources_walk, IsSound, IsLive}
 use Rattle.l4_links.proofs.Writes.{stamped_same}
 use Rattle.l4_links.proofs.Linking.{parted, link_at, linked_same}
 use Rattle.l4_links.proofs.Neighbours.{order_same_nodes, in_list}
@@ -92,6 +92,12 @@ sound_fresh slots first stamp fresh walk ks forest first_is within s f = record 
   capped = λ _. fresh_marks slots ks stamp fresh (set_of_bits walk) forest s f;
   sought = λ _. fresh_seen slots ks stamp fresh forest s f;
 }
+
+pub sound_live : (slots : Slots) (first : Option ℕ) (stamp fresh walk : ℕ) → IsLive slots first stamp → IsFresh stamp fresh → IsSound slots first fresh walk
+sound_live slots first stamp fresh walk l f = sound_fresh slots first stamp fresh walk l.keys l.forest l.first_is l.within l.stamped f
+
+pub live_of : (slots : Slots) (first : Option ℕ) (stamp walk : ℕ) → IsSound slots first stamp walk → IsLive slots first stamp
+live_of slots first stamp walk s = record { keys = s.keys; forest = s.forest; first_is = s.first_is; within = s.within; stamped = s.stamped }
 
 -- no node
 pub sound_empty : (walk : ℕ) → IsSound [] None 1 walk
@@ -410,28 +416,41 @@ pub sound_root : (old new : Slots) (first : Option ℕ) (stamp fresh walk key : 
 sound_root old new first stamp fresh walk key worth s r c forest f =
     sound_fresh new (Some key) stamp fresh walk (key ∷ s.keys) (forest s.keys s.forest s.first_is) refl (within_root old new s.keys worth key s.forest s.within r c) (stamped_comes worth key old new stamp c s.stamped) f
 
+pub live_child : (old new : Slots) (first : Option ℕ) (stamp parent key : ℕ) (above : Node) (rights : RightsSet) → IsLive old first stamp → node_at old parent ≡ Some above → Sprouts (limbs old) (limbs new) parent key
+    → Comes (record { frame = above.frame; rights = common above.rights rights; source = false; granted = None }) key old new → ((xs ys : List ℕ) → IsForest old (xs ++ parent ∷ ys) → IsForest new (xs ++ parent ∷ key ∷ ys)) → IsLive new first stamp
+live_child old new first stamp parent key above rights s at sprouts c forest =
+    let p = parted s.keys parent (s.forest.order.all parent above at) in
+    record {
+      keys = p.front ++ parent ∷ key ∷ p.back;
+      forest = forest p.front p.back (subst (λ (z : List ℕ). IsForest old z) p.is s.forest);
+      first_is = first_same p.front parent (key ∷ p.back) p.back ∙ sym (ap (λ (z : List ℕ). first_of z None) p.is) ∙ s.first_is;
+      within = within_child old new s.keys parent key (worth_of above) rights s.forest s.within (ap (option_map worth_of) at) sprouts c;
+      stamped = stamped_comes (record { frame = above.frame; rights = common above.rights rights; source = false; granted = None }) key old new stamp c s.stamped;
+    }
+
 pub sound_child : (old new : Slots) (first : Option ℕ) (stamp fresh walk parent key : ℕ) (above : Node) (rights : RightsSet) → IsSound old first stamp walk → node_at old parent ≡ Some above → Sprouts (limbs old) (limbs new) parent key
     → Comes (record { frame = above.frame; rights = common above.rights rights; source = false; granted = None }) key old new → ((xs ys : List ℕ) → IsForest old (xs ++ parent ∷ ys) → IsForest new (xs ++ parent ∷ key ∷ ys)) → IsFresh stamp fresh → IsSound new first fresh walk
 sound_child old new first stamp fresh walk parent key above rights s at sprouts c forest f =
-    let p = parted s.keys parent (s.forest.order.all parent above at) in
-    sound_fresh new first stamp fresh walk (p.front ++ parent ∷ key ∷ p.back) (forest p.front p.back (subst (λ (z : List ℕ). IsForest old z) p.is s.forest))
-    (first_same p.front parent (key ∷ p.back) p.back ∙ sym (ap (λ (z : List ℕ). first_of z None) p.is) ∙ s.first_is)
-    (within_child old new s.keys parent key (worth_of above) rights s.forest s.within (ap (option_map worth_of) at) sprouts c)
-    (stamped_comes (record { frame = above.frame; rights = common above.rights rights; source = false; granted = None }) key old new stamp c s.stamped) f
+    sound_live new first stamp fresh walk (live_child old new first stamp parent key above rights (live_of old first stamp walk s) at sprouts c forest) f
 
 -- the nodes that are left after a node went with all that descends from it
-pub sound_cleared : (old new : Slots) (first after : Option ℕ) (stamp fresh walk top : ℕ) → IsSound old first stamp walk → Clears top first after old new → IsFresh stamp fresh → IsSound new after fresh walk
-sound_cleared old new first after stamp fresh walk top s p f =
-    sound_fresh new after stamp fresh walk (p.front ++ p.left) p.forest
-    (p.first_is (first_unique old (p.front ++ top ∷ p.rest) s.keys p.was.order s.forest.order ∙ s.first_is))
-    (within_kept old new (p.front ++ p.left) p.forest s.within (λ k x is. (let off = left old new first after top p limb_of k x is in (p.limbs_kept k off.0 off.1, p.values_kept k off.0 off.1))))
-    (λ some k m is. (let off = left old new first after top p marks_of k m is in s.stamped some k m (sym (p.marks_kept k off.0 off.1) ∙ is))) f
+pub live_cleared : (old new : Slots) (first after : Option ℕ) (stamp top : ℕ) → IsLive old first stamp → Clears top first after old new → IsLive new after stamp
+live_cleared old new first after stamp top s p = record {
+  keys = p.front ++ p.left;
+  forest = p.forest;
+  first_is = p.first_is (first_unique old (p.front ++ top ∷ p.rest) s.keys p.was.order s.forest.order ∙ s.first_is);
+  within = within_kept old new (p.front ++ p.left) p.forest s.within (λ k x is. (let off = left old new first after top p limb_of k x is in (p.limbs_kept k off.0 off.1, p.values_kept k off.0 off.1)));
+  stamped = λ some k m is. (let off = left old new first after top p marks_of k m is in s.stamped some k m (sym (p.marks_kept k off.0 off.1) ∙ is));
+}
   where
     left : (old new : Slots) (first after : Option ℕ) (top : ℕ) (p : Clears top first after old new) {X : Type 0} (F : Node → X) (k : ℕ) (x : X) → option_map F (node_at new k) ≡ Some x → (k ≢ top) × ¬ (Leads (parent_at (limbs old)) k top)
     left old new first after top p F k x is = (
       λ e. no_some x (sym (ap (option_map F) (ap (node_at new) e ∙ p.here)) ∙ is),
       λ l. no_some x (sym (ap (option_map F) (p.gone k l)) ∙ is),
     )
+
+pub sound_cleared : (old new : Slots) (first after : Option ℕ) (stamp fresh walk top : ℕ) → IsSound old first stamp walk → Clears top first after old new → IsFresh stamp fresh → IsSound new after fresh walk
+sound_cleared old new first after stamp fresh walk top s p f = sound_live new after stamp fresh walk (live_cleared old new first after stamp top (live_of old first stamp walk s) p) f
 
 -- the nodes that are left after all that descends from a node went
 pub sound_pruned : (old new : Slots) (first : Option ℕ) (stamp fresh walk top : ℕ) → IsSound old first stamp walk → Prunes top old new → IsFresh stamp fresh → IsSound new first fresh walk

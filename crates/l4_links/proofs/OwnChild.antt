@@ -11,11 +11,11 @@ use Rattle.l4_links.specs.Inside.Orders.{Link}
 use Rattle.l4_nodes.specs.Slots.{Slots, node_at, spots, SetsRights}
 use Rattle.l4_links.specs.Inside.Nodes.{limbs, links, values, marks, Worth}
 use Rattle.l4_links.specs.Inside.Stacks.{HasStack}
-use Rattle.l4_links.specs.Inside.Keeping.{IsWithin, LiesWithin, IsFresh, IsSound, standing_of, entries_of}
+use Rattle.l4_links.specs.Inside.Keeping.{IsWithin, LiesWithin, IsLive, standing_of, entries_of}
 use Rattle.l4_links.specs.Entries.{Sprouts}
 use Rattle.l4_links.proofs.Writes.{map_at, stamped_same, marks_of, doom_of}
 use Rattle.l4_links.proofs.Runs.{parent_is}
-use Rattle.l4_links.proofs.Kept.{sound_fresh, forest_links, low_of_parent, same_worth}
+use Rattle.l4_links.proofs.Kept.{forest_links, low_of_parent, same_worth}
 use Rattle.l4_links.proofs.Stacking.{right_at, stack_off}
 use Rattle.l4_links.proofs.Seen.{joined, shown_is, entry_same, standing_is, leads_of, descends_of, stands_joined}
 
@@ -40,7 +40,7 @@ to_child : (up : ℕ → Option ℕ) (low high p : ℕ) → up low ≡ Some p �
 to_child up low high p is (inl e) = step (is ∙ ap (λ (q : ℕ). Some q) (sym e))
 to_child up low high p is (inr l) = steps is l
 
-module _ (old new : Slots) (first : Option ℕ) (stamp walk parent key : ℕ) (above node : Node) (rights : RightsSet) (s : IsSound old first stamp walk) (at_parent : node_at old parent ≡ Some above) (at_key : node_at old key ≡ Some node)
+module _ (old new : Slots) (first : Option ℕ) (stamp parent key : ℕ) (above node : Node) (rights : RightsSet) (s : IsLive old first stamp) (at_parent : node_at old parent ≡ Some above) (at_key : node_at old key ≡ Some node)
     (up : node.parent ≡ Some parent) (leaf : (low : ℕ) → ¬ (Leads (parent_at (limbs old)) low key)) (w : SetsRights key (common above.rights rights) node.doomed old new) where
   abbrev given : Node → Node
   given n = record n { rights = common above.rights rights; doomed = node.doomed }
@@ -80,8 +80,14 @@ module _ (old new : Slots) (first : Option ℕ) (stamp walk parent key : ℕ) (a
         | inr ne ↦ s.within k p x l h was to (sym (ap (option_map worth_of) (w.others k ne)) ∙ v) high
       ]
 
-  pub sound_renewed : (fresh : ℕ) → IsFresh stamp fresh → IsSound new first fresh walk
-  sound_renewed fresh f = sound_fresh new first stamp fresh walk s.keys (forest_links old new s.keys limbs_same links_same s.forest) s.first_is still_within (stamped_same stamp old new marks_same s.stamped) f
+  pub live_renewed : IsLive new first stamp
+  live_renewed = record {
+    keys = s.keys;
+    forest = forest_links old new s.keys limbs_same links_same s.forest;
+    first_is = s.first_is;
+    within = still_within;
+    stamped = stamped_same stamp old new marks_same s.stamped;
+  }
 
   pub stack_renewed : (head : Option ℕ) → node.rights ≢ no_rights → common above.rights rights ≢ no_rights → HasStack old head → HasStack new head
   stack_renewed head was now = stack_off old new head key (right_at old key node at_key was) (right_at new key (given node) now_at now) (λ o ne. ap (option_map doom_of) (w.others o ne))

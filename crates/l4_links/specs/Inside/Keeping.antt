@@ -65,6 +65,14 @@ pub record IsSound (slots : Slots) (first : Option ℕ) (stamp walk : ℕ) : Typ
   pub capped : walk ≢ sources_walk → HasMarks (set_of_bits walk) stamp slots
   pub sought : walk ≡ sources_walk → HasSeen stamp slots
 
+-- the nodes are trees, the list begins with this key, and no mark is above this stamp; which marks are right is not said
+pub record IsLive (slots : Slots) (first : Option ℕ) (stamp : ℕ) : Type 0 where
+  pub keys : List ℕ
+  pub forest : IsForest slots keys
+  pub first_is : first_of keys None ≡ first
+  pub within : IsWithin slots
+  pub stamped : IsStamped stamp slots
+
 pub record IsKept (a : Inside) : Type 0 where
   pub sound : IsSound a.nodes.slots a.first a.stamp a.walk
   pub indexed : IsIndexed a.nodes.slots a.pages

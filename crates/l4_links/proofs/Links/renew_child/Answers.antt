@@ -7,10 +7,10 @@ use Rattle.l4_nodes.specs.Slots.{node_at, SetsRights}
 use Rattle.l4_links.specs.Inside.Nodes.{limbs}
 use Rattle.l4_links.specs.Entries.{Linked, Sprouts, Descends, standing_at}
 use Rattle.l4_links.specs.Inside.Keeping.{entries_of, standing_of}
-use Rattle.l4_links.proofs.Kept.{parent_stands}
+use Rattle.l4_links.proofs.Kept.{parent_stands, sound_live, live_of}
 use Rattle.l4_links.proofs.Naming.{indexed_same}
 use Rattle.l4_links.proofs.Seen.{standing_is, descends_of}
-use Rattle.l4_links.proofs.OwnChild.{limb_of, sound_renewed, stack_renewed, view_renewed}
+use Rattle.l4_links.proofs.OwnChild.{limb_of, live_renewed, stack_renewed, view_renewed}
 use Rattle.l4_links.proofs.Links.renew_child.Goals.{After-node_of-2, After-set_rights}
 use Rattle.l4_links.proofs.Links.renew_child.Goals as goal
 
@@ -47,12 +47,13 @@ invariant_of-self c =
     let slots = c.self.inside.nodes.slots in
     record {
       sound =
-          sound_renewed slots c.set_rights.new.nodes.slots c.self.inside.first c.self.inside.stamp c.self.inside.walk c.args.parent c.args.key c.in-Some-node_of.above c.in-Some.node c.args.rights
-          c.self.invariant.sound (parent_at_key here) (key_at at) (up_is at) (leaf_in at) (gets here) c.fresh-self-inside.result c.fresh-self-inside.ensures;
+          sound_live c.set_rights.new.nodes.slots c.self.inside.first c.self.inside.stamp c.fresh-self-inside.result c.self.inside.walk
+          (live_renewed slots c.set_rights.new.nodes.slots c.self.inside.first c.self.inside.stamp c.args.parent c.args.key c.in-Some-node_of.above c.in-Some.node c.args.rights
+          (live_of slots c.self.inside.first c.self.inside.stamp c.self.inside.walk c.self.invariant.sound) (parent_at_key here) (key_at at) (up_is at) (leaf_in at) (gets here)) c.fresh-self-inside.ensures;
       indexed = indexed_same slots c.set_rights.new.nodes.slots c.self.inside.pages c.self.inside.pages c.set_rights.ensures.spots_same refl refl c.self.invariant.indexed;
       stack =
-          stack_renewed slots c.set_rights.new.nodes.slots c.self.inside.first c.self.inside.stamp c.self.inside.walk c.args.parent c.args.key c.in-Some-node_of.above c.in-Some.node c.args.rights
-          c.self.invariant.sound (parent_at_key here) (key_at at) (up_is at) (leaf_in at) (gets here) c.self.inside.doomed (c.requires.rights c.args.key (standing_of c.in-Some.node) (child_at at))
+          stack_renewed slots c.set_rights.new.nodes.slots c.self.inside.first c.self.inside.stamp c.args.parent c.args.key c.in-Some-node_of.above c.in-Some.node c.args.rights
+          (live_of slots c.self.inside.first c.self.inside.stamp c.self.inside.walk c.self.invariant.sound) (parent_at_key here) (key_at at) (up_is at) (leaf_in at) (gets here) c.self.inside.doomed (c.requires.rights c.args.key (standing_of c.in-Some.node) (child_at at))
           (c.requires.some (standing_of c.in-Some-node_of.above) (subst (λ (s : Linked). standing_at s.entries c.args.parent ≡ Some (standing_of c.in-Some-node_of.above)) c.self.view_is
           (standing_is slots c.args.parent ∙ ap (option_map standing_of) (parent_at_key here))))
           c.self.invariant.stack;
@@ -63,5 +64,5 @@ returns-clause-sprouts c _ =
     let at = (goal.at.returns-clause-sprouts c).After-node_of-2 in
     let here = (goal.at.returns-clause-sprouts c).After-set_rights in
     subst (λ (s : Linked). Sprouts c.args.parent c.args.key c.args.rights s.entries (entries_of c.set_rights.new.nodes.slots)) c.self.view_is
-    (view_renewed c.self.inside.nodes.slots c.set_rights.new.nodes.slots c.self.inside.first c.self.inside.stamp c.self.inside.walk c.args.parent c.args.key c.in-Some-node_of.above c.in-Some.node c.args.rights
-    c.self.invariant.sound (parent_at_key here) (key_at at) (up_is at) (leaf_in at) (gets here) (c.requires.plain (standing_of c.in-Some.node) (child_at at)))
+    (view_renewed c.self.inside.nodes.slots c.set_rights.new.nodes.slots c.self.inside.first c.self.inside.stamp c.args.parent c.args.key c.in-Some-node_of.above c.in-Some.node c.args.rights
+    (live_of c.self.inside.nodes.slots c.self.inside.first c.self.inside.stamp c.self.inside.walk c.self.invariant.sound) (parent_at_key here) (key_at at) (up_is at) (leaf_in at) (gets here) (c.requires.plain (standing_of c.in-Some.node) (child_at at)))
