@@ -9,7 +9,6 @@ ghost use Rattle.l4_links.specs.Inside.Orders.{TakesOut, first_of};
 ghost use Rattle.l4_nodes.specs.Slots.{node_at, slot_at, spots, HasRoomFor};
 ghost use Rattle.l4_links.specs.Inside.Nodes.{limbs, links, values, AreKeys, IsOrder, IsForest, Parts, TakesSlot, CutsOff, ClosesGap, Comes, child, AddsUnder, Prunes, Clears};
 ghost use Rattle.l4_links.specs.Inside.Keeping.{IsIndexed};
-ghost use Rattle.l4_nodes.specs.declared.nodes.Node.{Node as ANode};
 
 use crate::names::remove;
 use crate::walks::is_leaf;
@@ -32,26 +31,6 @@ pub(crate) fn unlink(nodes: &mut Slots, key: usize)
     empty(nodes, key);
     set_next(nodes, node.prev, node.next);
     set_prev(nodes, node.next, node.prev);
-}
-
-/// Takes the node out of its list. Its slot stays, as a blank. Returns the key with which the list begins then.
-pub(crate) fn leave(nodes: &mut Slots, first: Link, key: usize) -> Link
-    requires order { (ks : List ℕ) × IsOrder nodes.old.slots ks }
-    requires there { node_at nodes.old.slots key ≢ None }
-    ensures parts { Parts key nodes.old.slots nodes.new.slots }
-    ensures order { (xs ys : List ℕ) → IsOrder nodes.old.slots (xs ++ key ∷ ys)
-        → IsOrder nodes.new.slots (xs ++ ys) }
-    ensures first { (n : ANode) → node_at nodes.old.slots key ≡ Some n
-        → (n.prev ≡ None → result ≡ n.next) × (n.prev ≢ None → result ≡ first) }
-{
-    let Some(node) = node_of(nodes, key) else {
-        unreachable!()
-    };
-    unlink(nodes, key);
-    let Some(_) = node.prev.key() else {
-        return node.next;
-    };
-    first
 }
 
 /// Takes the node out of its list, and the slot away with its page's name.
@@ -276,5 +255,12 @@ pub(crate) fn clear(nodes: &mut Slots, pages: &mut Spaces, first: Link, top: usi
     ensures spaces { pages.new.spaces ≡ pages.old.spaces }
 {
     cut_below(nodes, pages, top);
-    leave(nodes, first, top)
+    let Some(node) = node_of(nodes, top) else {
+        unreachable!()
+    };
+    unlink(nodes, top);
+    let Some(_) = node.prev.key() else {
+        return node.next;
+    };
+    first
 }
