@@ -65,8 +65,6 @@ const REGION: &[u8] = b"region";
 
 const SERVE: &[u8] = b"serve";
 
-const NAME: &[u8] = b"name";
-
 const STEPS: &[u8] = b"steps";
 
 /// `N SPACE PAGER`
@@ -308,7 +306,7 @@ fn pager_command(name: &[u8], rest: &[u8], names: &Names) -> Result<Request<'sta
     if name == SERVE {
         return serve(rest, names).ok_or(ScriptFault::BadTokens);
     }
-    if name == NAME {
+    if is_name(name) {
         return give_name(rest, names).ok_or(ScriptFault::BadTokens);
     }
     if name == STEPS {
@@ -422,6 +420,17 @@ pub(crate) fn is_fault(name: &[u8]) -> bool
 {
     match name {
         [b'f', b'a', b'u', b'l', b't'] => true,
+        _ => false,
+    }
+}
+
+/// Returns whether the name is `name`. Compares its bytes at once.
+#[inline(always)]
+fn is_name(name: &[u8]) -> bool
+    ensures { result ≡ bytes_eq name.now (codes "name") }
+{
+    match name {
+        [b'n', b'a', b'm', b'e'] => true,
         _ => false,
     }
 }
