@@ -1,7 +1,7 @@
 -- The used moves of an item, page by page, and of a letter, item by item.
-use Rattle.std.proofs.Common.{MatchOption, Option, ◌≡◌, ◌⊎◌, ℕ, ◌+◌, ◌-◌, ◌<◌, ◌≤◌, true, false, nat_lt, max, Some, None, is_some, List, length, inl, inr, refl, sym, ap, ◌∙◌, subst, arith}
+use Rattle.std.proofs.Common.{◌≡◌, ◌⊎◌, ℕ, ◌+◌, ◌-◌, ◌<◌, ◌≤◌, true, false, nat_lt, max, Option, MatchOption, Some, None, is_some, List, length, inl, inr, refl, sym, ap, ◌∙◌, subst, arith}
 use Rattle.std.proofs.lemmas.Bool.Decides.{nat_tests}
-use Rattle.std.proofs.lemmas.Option.{slice_get_cases}
+use Rattle.std.proofs.lemmas.Option.{slice_get_within}
 use Rattle.std.specs.Prelude.{slice_get}
 use Rattle.l4_fpage.specs.Pages.{InBlock}
 use Rattle.l4_fpage.specs.Rights.{RightsSet, common, no_rights}
@@ -32,12 +32,6 @@ below_or a b =
       | true ↦ λ t. inl (let lt : a < b = grind (arith, nat_tests) in lt)
       | false ↦ λ f. inr (let le : b ≤ a = grind (arith, nat_tests) in le)
     ] refl
-
-pub index_within : {A : Type 0} (xs : List A) (i : ℕ) (x : A) → slice_get xs i ≡ Some x → i < length xs
-index_within xs i x at = elim ((slice_get_cases xs i).1) [
-  | inl there ↦ there.1
-  | inr beyond ↦ let k : Some x ≡ None = sym at ∙ beyond.1 in absurd (let no : ⊥ = cc in no)
-]
 
 module _ (size : PageSize) (s : Mappings) («from» to : ℕ) (items : List Item) (window : Fpage) (item : ℕ) where
   source_is : (move : PageMove) (page : ℕ) → (h : IsOfItem size s «from» to items window item move) → move.source.page ≡ page → move.source ≡ place_at «from» page
@@ -235,7 +229,7 @@ module _ (m : Machine) (step : Step) («from» to : ℕ) (items : List Item) (wi
   passed_all item page number start p all move h reached =
       let u = moved_used move h in
       let a = p.none move h reached in
-      let b = index_within items move.item u.by u.item in
+      let b = slice_get_within items move.item u.by u.item in
       omega (arith, a, b, all)
 
   pub passed_next : (item page number start : ℕ) (moved : MovedPage) → Passed m step item page number start → MovesNext m.size m.mappings «from» to items window number start moved → IsNextMove m step item page moved
