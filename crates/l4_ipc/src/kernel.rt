@@ -2,8 +2,6 @@
 ghost use Rattle.std.specs.Prelude.{◌≡◌, ◌<◌, ◌≤◌, ◌⊎◌, ℕ, List, IsTrue, Ok, Err, IfOk, IfErr, OnErr, MatchOption, MatchResult};
 ghost use Rattle.std.specs.List.{All};
 ghost use Rattle.std.specs.Option.{option_copied};
-ghost use Rattle.std.specs.FinSet as set;
-ghost use Rattle.l4_threads.specs.Queue.{pairs_of};
 ghost use Rattle.l4_mapdb.specs.declared.Place.{Place};
 
 use crate::acting::{carry_over, expire, expire_untold, start, start_answered, transfer};
@@ -294,18 +292,11 @@ impl Kernel {
         self.forest.next_space(from)
     }
 
-    /// Returns the numbers of the threads that wait to send, in the order of their queue.
-    pub fn senders(&self) -> &[u32]
-        ensures { set.from_list (pairs_of result.now) ≡ self.now.threads.before }
+    /// Returns the threads with their states, and the queue of senders.
+    pub fn threads(&self) -> &Threads
+        ensures { result.now ≡ self.now.threads }
     {
-        self.threads.senders()
-    }
-
-    /// Returns the number of the next new space.
-    pub fn new_space(&self) -> u64
-        ensures { result ≡ self.now.threads.next_space }
-    {
-        self.threads.new_space()
+        &self.threads
     }
 
     /// Returns the size of pages and frames, which was chosen at boot.

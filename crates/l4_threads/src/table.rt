@@ -138,13 +138,6 @@ impl Threads {
         })
     }
 
-    /// Returns the numbers of the threads that wait to send, in the order of their queue.
-    pub fn senders(&self) -> &[u32]
-        ensures { set.from_list (pairs_of result.now) ≡ self.now.before }
-    {
-        self.queue.as_slice()
-    }
-
     /// Returns the number of the next new space.
     pub fn new_space(&self) -> u64
         ensures { result ≡ self.now.next_space }
