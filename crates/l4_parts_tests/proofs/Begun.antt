@@ -22,3 +22,10 @@ has_2 = set.contains-insert nat_cmp_total (set.insert (set.insert set.empty 0) 2
 
 pub has_3 : set.contains three 3 ≡ true
 has_3 = set.contains-insert nat_cmp_total (set.insert (set.insert set.empty 0) 2) 3 3
+
+-- the space 0 of a forest in which none was begun
+abbrev pub one : set.FinSet nat_cmp
+one = set.insert set.empty 0
+
+pub first_has_0 : set.contains one 0 ≡ true
+first_has_0 = set.contains-insert nat_cmp_total set.empty 0 0
