@@ -13,8 +13,8 @@ use Rattle.l4_answers.specs.Reports.{Report}
 use Rattle.l4_text.specs.Grammar.{TextLine, is_silent, ending_of}
 use Rattle.l4_fpage.specs.declared.sizes.PageSize.{PageSize}
 use Rattle.l4_names.specs.Names.{Names}
-use Rattle.l4_shell.specs.Commands.{command_of}
-use Rattle.l4_shell.specs.Requests.{asked_at, asked_of, some_request}
+use Rattle.l4_commands.specs.Commands.{command_of}
+use Rattle.l4_commands.specs.Requests.{asked_at, asked_of, some_request}
 use Rattle.l4_shell.specs.Sessions.{State, AnswersLine}
 use Rattle.l4_sinks.specs.Texts.{AreAnswerTexts}
 use Rattle.l4_text.proofs.LineSteps.{empty_list}

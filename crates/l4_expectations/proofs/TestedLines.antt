@@ -7,7 +7,7 @@ use Rattle.std.proofs.lemmas.List.Elements.{All-push}
 use Rattle.l4_fpage.specs.declared.sizes.PageSize.{PageSize}
 use Rattle.l4_shell.specs.ByLines.{state_of, IsFirst as IsFirstRun}
 use Rattle.l4_text.specs.Grammar.{TextLine, lines_of, is_silent, ending_of}
-use Rattle.l4_shell.specs.Requests.{asked_at, asked_of}
+use Rattle.l4_commands.specs.Requests.{asked_at, asked_of}
 use Rattle.l4_shell.specs.Sessions.{State, AnswersLine}
 use Rattle.l4_shell.specs.declared.by_lines.ScriptRun.{ScriptRun}
 use Rattle.l4_text.proofs.Grammar.{cut_line, none_whole}

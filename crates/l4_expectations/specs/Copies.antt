@@ -9,7 +9,7 @@ use Rattle.l4_text.specs.Grammar.{TextLine, lines_of, is_silent, ending_of}
 use Rattle.l4_text.specs.declared.lines.Ending.{Ending}
 use Rattle.l4_text.specs.declared.lines.Ending.TheVariants.{Whole, Long as TooLong, Cut as IsCut}
 use Rattle.l4_text.specs.declared.faults.RunFault.TheVariants.{Read, Write, Memory}
-use Rattle.l4_shell.specs.Requests.{asked_at}
+use Rattle.l4_commands.specs.Requests.{asked_at}
 use Rattle.l4_shell.specs.Sessions.{State, first_state, AnswersLine}
 use Rattle.l4_sinks.specs.Texts.{AreAnswerTexts}
 use Rattle.l4_expectations.specs.declared.copying.Copied.{Copied}

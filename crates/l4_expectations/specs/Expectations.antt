@@ -3,7 +3,7 @@ use Rattle.std.specs.Prelude.{ℕ, ◌≡◌, ◌+◌, ◌==◌, ◌&&◌, ◌�
 use Rattle.std.specs.List.{flat_map}
 use Rattle.l4_answers.specs.Reports.{Report}
 use Rattle.l4_text.specs.Grammar.{TextLine, is_silent}
-use Rattle.l4_shell.specs.Requests.{asked_of}
+use Rattle.l4_commands.specs.Requests.{asked_of}
 use Rattle.l4_shell.specs.Sessions.{State, AnswersLine}
 use Rattle.l4_sinks.specs.Texts.{AreAnswerTexts}
 

@@ -7,7 +7,7 @@ use Rattle.l4_ipc.specs.Machine.{Machine, IsBoot}
 use Rattle.l4_answers.specs.Reports.{Report}
 use Rattle.l4_answers.specs.Lines.{first_line, is_next}
 use Rattle.l4_text.specs.Grammar.{TextLine, lines_of, is_silent, ending_of}
-use Rattle.l4_shell.specs.Requests.{asked_of}
+use Rattle.l4_commands.specs.Requests.{asked_of}
 use Rattle.l4_shell.specs.Sessions.{State, first_state, AnswersLine}
 use Rattle.l4_sinks.specs.Texts.{AreAnswerTexts}
 use Rattle.l4_text.specs.declared.lines.Ending.{Ending}

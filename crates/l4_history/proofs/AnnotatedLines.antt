@@ -8,7 +8,7 @@ use Rattle.std.specs.Io.KnownBytes.{Appends}
 use Rattle.l4_answers.specs.Reports.{Report, AddsAll, AllOut}
 use Rattle.l4_fpage.specs.declared.sizes.PageSize.{PageSize}
 use Rattle.l4_shell.specs.ByLines.{state_of}
-use Rattle.l4_shell.specs.Requests.{asked_at}
+use Rattle.l4_commands.specs.Requests.{asked_at}
 use Rattle.l4_shell.specs.Sessions.{State, AnswersLine}
 use Rattle.l4_sinks.specs.declared.teller.Teller.{Teller}
 use Rattle.l4_sinks.specs.Inside.Tellers.{HasReported, HasWritten}

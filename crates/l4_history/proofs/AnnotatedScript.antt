@@ -22,7 +22,7 @@ use Rattle.l4_text.proofs.Grammar.{cut_line, none_whole}
 use Rattle.l4_text.proofs.LineSteps.{consumes_same}
 use Rattle.l4_text.proofs.Telling.{tells_none, tells_more, tells_is, all_out, some_out}
 use Rattle.l4_names.specs.Names.{Names}
-use Rattle.l4_shell.specs.Requests.{asked_at, asked_of}
+use Rattle.l4_commands.specs.Requests.{asked_at, asked_of}
 use Rattle.l4_shell.specs.Scripts.{IsOneAnswer}
 use Rattle.l4_shell.specs.ByLines.{state_of, IsFirst}
 use Rattle.l4_shell.specs.Sessions.{State, first_state, AnswersLine}

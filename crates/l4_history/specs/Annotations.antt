@@ -11,7 +11,7 @@ use Rattle.l4_text.specs.Grammar.{TextLine, lines_of, is_comment}
 use Rattle.l4_text.specs.Streams.{WentOut}
 use Rattle.l4_text.specs.declared.faults.RunFault.{RunFault}
 use Rattle.l4_text.specs.declared.faults.RunFault.TheVariants.{Read, Write, Memory}
-use Rattle.l4_shell.specs.Requests.{asked_of}
+use Rattle.l4_commands.specs.Requests.{asked_of}
 use Rattle.l4_shell.specs.Sessions.{State, first_state, AnswersLine}
 use Rattle.l4_sinks.specs.Scripts.{explains_by, StopsAtRefusal}
 use Rattle.l4_sinks.specs.Texts.{AreAnswerTexts, last_refusal}

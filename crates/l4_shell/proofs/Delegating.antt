@@ -5,10 +5,10 @@ use Rattle.l4_ipc.specs.declared.calls.Call.{Call}
 use Rattle.l4_msg.specs.declared.regions.Region.{Region}
 use Rattle.l4_plan.specs.declared.plans.PlanRefusal.{PlanRefusal}
 use Rattle.l4_answers.specs.Reports.{Report, RefusedLine, AddsAll}
-use Rattle.l4_shell.specs.declared.delegations.Which.{Which}
-use Rattle.l4_shell.specs.declared.partners.Partner.{Partner}
+use Rattle.l4_commands.specs.declared.requests.Which.{Which}
+use Rattle.l4_commands.specs.declared.partners.Partner.{Partner}
 use Rattle.l4_shell.specs.Refusals.{plan_refusal}
-use Rattle.l4_shell.specs.Calls.{send_call}
+use Rattle.l4_commands.specs.Calls.{send_call}
 use Rattle.l4_shell.specs.Delegations.{ArePlanWords, HasNoPlan}
 use Rattle.l4_shell.specs.Sessions.{Session, Enters, Delegates}
 

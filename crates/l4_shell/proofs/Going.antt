@@ -30,7 +30,7 @@ use Rattle.l4_threads.specs.Threads.{Threads}
 use Rattle.l4_servers.specs.Acting.{NoneReady, IsFirstReady, Follows as FollowsReply, ActsNext}
 use Rattle.l4_shell.specs.Refusals.{call_refusal, lacks_memory}
 use Rattle.l4_shell.specs.Sessions.{Session, session, done_entry, done_reports, own_report, ended_reports, ended_in, waiting_reports, Act, IsEntered, after_act, steps_in, AreActs, Follows, Refuses, Enters, Creates}
-use Rattle.l4_shell.specs.Calls.{root}
+use Rattle.l4_commands.specs.Calls.{root}
 use Rattle.l4_shell.specs.Inside.Scripts.{HasFirstSeats}
 use Rattle.l4_shell.specs.Inside.Telling.{next_reports, ended_later, TellsAppended, TellsCall, TellsRefusal, TellsActs, GoesOn}
 use Rattle.std.specs.List.{flat_map}

@@ -1,13 +1,9 @@
-pub mod MessageWords
 pub mod Going
 pub mod Listing
 pub mod Scripting
 pub mod Delegating
 pub mod Served
 pub mod Booted
-pub mod InTurn
 pub mod StraightLines
 pub mod SizesKept
 pub mod OneAnswer
-pub mod Hiding
-pub mod Standing

@@ -16,8 +16,8 @@ use Rattle.l4_threads.specs.Threads.{space_of}
 use Rattle.std.specs.Prelude.{MatchOption}
 use Rattle.l4_answers.specs.Refusals.{kernel_refusal}
 use Rattle.l4_ipc.specs.declared.steps.Refused.TheVariants.{UnknownThread}
-use Rattle.l4_shell.specs.declared.requests.Request.{Request}
-use Rattle.l4_shell.specs.declared.requests.Request.TheVariants.{TellParent, GiveName, TellSteps}
+use Rattle.l4_commands.specs.declared.requests.Request.{Request}
+use Rattle.l4_commands.specs.declared.requests.Request.TheVariants.{TellParent, GiveName, TellSteps}
 use Rattle.l4_names.specs.Names.{Names}
 use Rattle.l4_shell.specs.Sessions.{place_in, place_reports, ListsBelow, ListsPages, Shows, parent_answer, Session, TellsCount, naming_report, CarriesOut}
 use Rattle.l4_answers.proofs.Adding.{adds_more, adds_is}

@@ -20,10 +20,10 @@ use Rattle.l4_answers.specs.Reports.{Report, RefusedLine, UnreadLine, Named, End
 use Rattle.l4_names.specs.Names.{Names, given}
 use Rattle.l4_record.specs.Seated.{is_among, with_number}
 use Rattle.l4_servers.specs.Servers.{Servers, RegionFails}
-use Rattle.l4_shell.specs.declared.requests.Request.{Request}
-use Rattle.l4_shell.specs.declared.requests.Request.TheVariants.{Enter, CreateThread, EndThread, SendPlan, ListPages, TellParent, AddRegion, ServeThread, GiveName, TellSteps}
+use Rattle.l4_commands.specs.declared.requests.Request.{Request}
+use Rattle.l4_commands.specs.declared.requests.Request.TheVariants.{Enter, CreateThread, EndThread, SendPlan, ListPages, TellParent, AddRegion, ServeThread, GiveName, TellSteps}
 use Rattle.l4_shell.specs.Refusals.{script_refusal, plan_refusal, too_many_names, lacks_memory, call_refusal, region_refusal}
-use Rattle.l4_shell.specs.Requests.{Unread}
+use Rattle.l4_commands.specs.Requests.{Unread}
 use Rattle.l4_shell.specs.Scripts.{IsOneAnswer}
 use Rattle.l4_shell.specs.Sessions.{Session, State, own_report, ended_reports, done_reports, ended_in, waiting_reports, steps_in, StopsActing, Follows, RefusesLine, RefusesFor, Enters, RegionAdded, place_in, place_reports, ListsPages, CarriesOut, AnswersLine}
 

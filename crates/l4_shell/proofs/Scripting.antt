@@ -15,8 +15,8 @@ use Rattle.l4_servers.specs.Servers.{Servers, no_servers}
 use Rattle.l4_names.specs.Names.{Names}
 use Rattle.l4_text.specs.Grammar.{TextLine, lines_of}
 use Rattle.l4_text.specs.Lines.{kept_of, TakesLine, TakesRest, GivesLine, left_of}
-use Rattle.l4_shell.specs.declared.requests.Request.{Request}
-use Rattle.l4_shell.specs.Requests.{Unread, asked_at, asked_of}
+use Rattle.l4_commands.specs.declared.requests.Request.{Request}
+use Rattle.l4_commands.specs.Requests.{Unread, asked_at, asked_of}
 use Rattle.l4_answers.specs.Reports.{Report, AddsAll, Keeps, AllOut}
 use Rattle.l4_shell.specs.Sessions.{State, state, first_state, AnswersLine, AnswersLines}
 use Rattle.l4_record.specs.Seated.{Seated}

@@ -18,13 +18,13 @@ use Rattle.l4_pager.specs.Serving.{waiting}
 use Rattle.l4_pager.specs.declared.regions.Entry.{Entry}
 use Rattle.l4_servers.specs.Servers.{Servers, servers, regions_of, with_region, with_served, without, RegionFails}
 use Rattle.l4_servers.specs.Acting.{Answers, ActsNext}
-use Rattle.l4_shell.specs.declared.requests.Request.{Request}
-use Rattle.l4_shell.specs.declared.requests.Request.TheVariants.{Enter, CreateThread, EndThread, SendPlan, ListPages, TellParent, AddRegion, ServeThread, GiveName, TellSteps}
+use Rattle.l4_commands.specs.declared.requests.Request.{Request}
+use Rattle.l4_commands.specs.declared.requests.Request.TheVariants.{Enter, CreateThread, EndThread, SendPlan, ListPages, TellParent, AddRegion, ServeThread, GiveName, TellSteps}
 use Rattle.l4_answers.specs.Reports.{Report}
 use Rattle.l4_names.specs.Names.{Names}
 use Rattle.l4_text.specs.Grammar.{TextLine}
-use Rattle.l4_shell.specs.Requests.{Unread, asked_of}
-use Rattle.l4_shell.specs.Calls.{root, delete_call}
+use Rattle.l4_commands.specs.Requests.{Unread, asked_of}
+use Rattle.l4_commands.specs.Calls.{root, delete_call}
 use Rattle.l4_record.specs.Seated.{with_number}
 use Rattle.l4_shell.specs.Refusals.{region_refusal}
 use Rattle.l4_shell.specs.Sessions.{Session, State, first_session, Act, IsEntered, after_act, AreActs, StopsActing, Follows, RefusesFor, Enters, RegionAdded, CarriesOut, AnswersLine, AnswersLines}

@@ -8,11 +8,11 @@ use Rattle.l4_answers.specs.Reports.{Report, UnreadLine, AddsAll}
 use Rattle.l4_answers.proofs.Adding.{adds_none}
 use Rattle.l4_answers.specs.Refusals.{Refusal}
 use Rattle.l4_shell.specs.Refusals.{script_refusal}
-use Rattle.l4_shell.specs.declared.commands.ScriptFault.{ScriptFault}
-use Rattle.l4_shell.specs.declared.commands.ScriptFault.TheVariants.{BadTokens}
-use Rattle.l4_shell.specs.declared.requests.Request.{Request}
-use Rattle.l4_shell.specs.declared.requests.Request.TheVariants.{Enter}
-use Rattle.l4_shell.specs.Requests.{Unread, some_request}
+use Rattle.l4_commands.specs.declared.commands.ScriptFault.{ScriptFault}
+use Rattle.l4_commands.specs.declared.commands.ScriptFault.TheVariants.{BadTokens}
+use Rattle.l4_commands.specs.declared.requests.Request.{Request}
+use Rattle.l4_commands.specs.declared.requests.Request.TheVariants.{Enter}
+use Rattle.l4_commands.specs.Requests.{Unread, some_request}
 use Rattle.l4_shell.specs.Sessions.{Session, State, Enters, CarriesOut, names_after, AnswersLine}
 
 -- a line is refused

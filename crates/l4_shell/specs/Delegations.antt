@@ -8,8 +8,8 @@ use Rattle.l4_plan.specs.declared.plans.PlanRefusal.{PlanRefusal}
 use Rattle.l4_plan.specs.declared.plans.PlanRefusal.TheVariants.{Empty, OutOfSpace, NoRights, TooLong, Several, NoPart}
 use Rattle.l4_plan.specs.Shortest.{IsShortest, IsTooLong}
 use Rattle.l4_plan_lines.specs.Plans.{sending_words}
-use Rattle.l4_shell.specs.declared.delegations.Which.{Which}
-use Rattle.l4_shell.specs.declared.delegations.Which.TheVariants.{Only, Message}
+use Rattle.l4_commands.specs.declared.requests.Which.{Which}
+use Rattle.l4_commands.specs.declared.requests.Which.TheVariants.{Only, Message}
 
 -- the words of this message of the shortest list of map items that moves exactly the region, for pages of this size: of the only message, or
 -- of the one with this number, from 0

@@ -1,13 +1,8 @@
-pub mod Calls
-pub mod Commands
+pub mod ByLines
 pub mod Delegations
 pub mod Histories
-pub mod Kinds
-pub mod NameLaws
 pub mod Refusals
-pub mod Requests
 pub mod Scripts
 pub mod Sessions
 pub mod Sizes
 pub mod Inside
-pub mod ByLines

@@ -8,8 +8,8 @@ use Rattle.l4_servers.specs.declared.servers.RegionRefusal.{RegionRefusal}
 use Rattle.l4_servers.specs.declared.servers.RegionRefusal.TheVariants.{Pager, NoMemory}
 use Rattle.l4_plan.specs.declared.plans.PlanRefusal.{PlanRefusal}
 use Rattle.l4_plan.specs.declared.plans.PlanRefusal.TheVariants.{Empty, OutOfSpace, NoRights, TooLong, Several, NoPart}
-use Rattle.l4_shell.specs.declared.commands.ScriptFault.{ScriptFault}
-use Rattle.l4_shell.specs.declared.commands.ScriptFault.TheVariants.{UnknownCommand, BadTokens, LineTooLong, CutLine}
+use Rattle.l4_commands.specs.declared.commands.ScriptFault.{ScriptFault}
+use Rattle.l4_commands.specs.declared.commands.ScriptFault.TheVariants.{UnknownCommand, BadTokens, LineTooLong, CutLine}
 
 -- the code of a line that cannot be read
 abbrev pub script_refusal : ScriptFault → Refusal

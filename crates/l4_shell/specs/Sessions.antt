@@ -19,18 +19,18 @@ use Rattle.l4_ipc.specs.Following.{Done, AreNext}
 use Rattle.l4_record.specs.declared.entries.Entry.{Entry as HistoryEntry}
 use Rattle.l4_record.specs.declared.refusals.RecordRefusal.{RecordRefusal}
 use Rattle.l4_record.specs.Seated.{Seated, is_among, with_number, CanEnter, MayEnter, Refuses as RefusesCall}
-use Rattle.l4_shell.specs.declared.requests.Request.{Request}
-use Rattle.l4_shell.specs.declared.requests.Request.TheVariants.{Enter, CreateThread, EndThread, SendPlan, ListPages, TellParent, AddRegion, ServeThread, GiveName, TellSteps}
+use Rattle.l4_commands.specs.declared.requests.Request.{Request}
+use Rattle.l4_commands.specs.declared.requests.Request.TheVariants.{Enter, CreateThread, EndThread, SendPlan, ListPages, TellParent, AddRegion, ServeThread, GiveName, TellSteps}
 use Rattle.l4_answers.specs.Reports.{Report, RefusedLine, UnreadLine, RefusedAct, Transferred, TimedOut, Waits, Ended, Page, Shown, Parent, AddedRegion, Named, StepCount, AddsAll}
 use Rattle.l4_answers.specs.Refusals.{Refusal, kernel_refusal}
 use Rattle.l4_shell.specs.Refusals.{script_refusal, plan_refusal, too_many_names, lacks_memory, call_refusal, region_refusal}
 use Rattle.l4_names.specs.Names.{Names, given, after_giving}
 use Rattle.l4_text.specs.Grammar.{TextLine}
-use Rattle.l4_shell.specs.Requests.{Unread, asked_of}
-use Rattle.l4_shell.specs.Calls.{root, send_call, delete_call}
+use Rattle.l4_commands.specs.Requests.{Unread, asked_of}
+use Rattle.l4_commands.specs.Calls.{root, send_call, delete_call}
 use Rattle.l4_shell.specs.Delegations.{ArePlanWords, HasNoPlan}
-use Rattle.l4_shell.specs.declared.delegations.Which.{Which}
-use Rattle.l4_shell.specs.declared.partners.Partner.{Partner}
+use Rattle.l4_commands.specs.declared.requests.Which.{Which}
+use Rattle.l4_commands.specs.declared.partners.Partner.{Partner}
 use Rattle.l4_msg.specs.declared.regions.Region.{Region}
 use Rattle.l4_pager.specs.Regions.{CanAdd}
 use Rattle.l4_pager.specs.Serving.{waiting}

@@ -1,91 +1,29 @@
 //! Answers lines. Most lines are `recv`, `send`, `ipc` and `fault`, whose tokens are read directly into their call.
-ghost use Rattle.std.specs.Prelude.{◌≡◌, ◌∷◌, ℕ, List, [], Option, false, ok_or, option_map, codes, bytes_eq};
+ghost use Rattle.std.specs.Prelude.{◌≡◌, ◌∷◌, List, [], Option, ok_or, option_map};
 ghost use Rattle.l4_answers.specs.Reports.{Report, AddsAll};
-ghost use Rattle.l4_fpage.specs.declared.sizes.PageSize.{PageSize as APageSize};
 ghost use Rattle.l4_text.specs.Tokens.{tokens_of};
 ghost use Rattle.l4_text.specs.declared.lines.Ending.TheVariants.{Whole};
-ghost use Rattle.l4_shell.specs.declared.commands.ScriptFault.TheVariants.{BadTokens};
-ghost use Rattle.l4_shell.specs.declared.requests.Request.TheVariants.{Enter};
-ghost use Rattle.l4_shell.specs.declared.requests.Request.{Request};
-ghost use Rattle.l4_shell.specs.Commands.{command_of};
+ghost use Rattle.l4_commands.specs.declared.commands.ScriptFault.TheVariants.{BadTokens};
+ghost use Rattle.l4_commands.specs.declared.requests.Request.TheVariants.{Enter};
+ghost use Rattle.l4_commands.specs.declared.requests.Request.{Request};
+ghost use Rattle.l4_commands.specs.Commands.{command_of};
 ghost use Rattle.l4_text.specs.Grammar.{is_comment};
-ghost use Rattle.l4_shell.specs.Requests.{some_request, asked_at};
-ghost use Rattle.l4_shell.specs.Inside.Asking.{asked};
+ghost use Rattle.l4_commands.specs.Requests.{some_request, asked_at};
 ghost use Rattle.l4_shell.specs.Sessions.{state, AnswersLine};
 
-use crate::commands::{
-    ScriptFault, command_name, fault_parts, ipc_parts, is_fault, is_ipc, is_recv, is_send,
-    other_request, receive_parts, send_parts,
-};
-use crate::partners::Partner;
 use crate::refusals::script_code;
-use crate::requests::{CallPlaces, make_fault, make_ipc, make_receive, set_parts};
 use crate::session::Session;
 use l4_answers::Sink;
+use l4_commands::{
+    CallPlaces, ScriptFault, command_name, is_fault, is_ipc, is_recv, is_send, read_fault,
+    read_ipc, read_receive, read_send, request,
+};
 use l4_fpage::PageSize;
 use l4_ipc::Call;
 use l4_names::Names;
 use l4_record::{History, SeatedKernel};
 use l4_servers::Servers;
 use l4_text::Ending;
-
-/// Writes the call of a `recv` line into the buffer, and returns its thread. Returns None if the tokens cannot be read; the content of the
-/// buffer is then unspecified.
-#[inline(always)]
-fn read_receive(line: &[u8], size: PageSize, names: &Names, call: &mut Call) -> Option<u32>
-    ensures { option_map (λ n. Enter n call.new) result
-        ≡ asked size names.now (codes "recv") (tokens_of line.now) }
-{
-    let (number, from, window) = receive_parts(line, size, names)?;
-    make_receive(call, from, window);
-    Some(number)
-}
-
-/// Writes the call of a `send` line, with its words, into the buffer, as `read_receive` does.
-#[inline(always)]
-fn read_send(line: &[u8], size: PageSize, names: &Names, call: &mut Call) -> Option<u32>
-    ensures { option_map (λ n. Enter n call.new) result
-        ≡ asked size names.now (codes "send") (tokens_of line.now) }
-{
-    make_ipc(call);
-    if let Call::Ipc(exchange) = call {
-        let (number, to) = send_parts(line, size, names, &mut exchange.words)?;
-        set_parts(exchange, to, Partner::Nil, 0, 0);
-        return Some(number);
-    }
-    None
-}
-
-/// Writes the call of an `ipc` line, with its words, into the buffer, as `read_receive` does.
-#[inline(always)]
-fn read_ipc(line: &[u8], size: PageSize, names: &Names, call: &mut Call) -> Option<u32>
-    ensures { option_map (λ n. Enter n call.new) result
-        ≡ asked size names.now (codes "ipc") (tokens_of line.now) }
-{
-    make_ipc(call);
-    if let Call::Ipc(exchange) = call {
-        let (number, to, from, timeouts, window) = ipc_parts(
-            line,
-            size,
-            names,
-            &mut exchange.words,
-        )?;
-        set_parts(exchange, to, from, timeouts, window);
-        return Some(number);
-    }
-    None
-}
-
-/// Writes the call of a `fault` line into the buffer, as `read_receive` does.
-#[inline(always)]
-fn read_fault(line: &[u8], names: &Names, call: &mut Call) -> Option<u32>
-    ensures { (size : APageSize) → option_map (λ n. Enter n call.new) result
-        ≡ asked size names.now (codes "fault") (tokens_of line.now) }
-{
-    let (number, fault) = fault_parts(line, names)?;
-    make_fault(call, fault);
-    Some(number)
-}
 
 /// Returns whether a line's first byte is `#`.
 fn is_comment(line: &[u8]) -> bool
@@ -162,7 +100,7 @@ impl Script {
         session.into_history()
     }
 
-    /// Answers a line whose first token is not `recv`, `send`, `ipc` or `fault`.
+    /// Answers a line with this first token and this rest.
     #[inline(never)]
     fn answer_other<S: Sink>(
         &mut self,
@@ -172,21 +110,17 @@ impl Script {
         rest: &[u8],
         sink: &mut S,
     )
-        requires recv { bytes_eq name.now (codes "recv") ≡ false }
-        requires send { bytes_eq name.now (codes "send") ≡ false }
-        requires ipc { bytes_eq name.now (codes "ipc") ≡ false }
-        requires fault { bytes_eq name.now (codes "fault") ≡ false }
         ensures { (told : List Report) × AnswersLine (state self.old.session.kernel self.old.session.servers self.old.names) line (some_request bytes.now (command_of self.old.session.kernel.machine.size self.old.names (name.now ∷ tokens_of rest.now))) told (state self.new.session.kernel self.new.session.servers self.new.names)
             × AddsAll S.has_told sink.old sink.new told }
     {
         let size = self.session.page_size();
-        match other_request(name, rest, size, &self.names, &mut self.calls.ipc) {
+        match request(name, rest, size, &self.names, &mut self.calls.ipc) {
             Ok(request) => self.session.carry_out(line, request, &mut self.names, sink),
             Err(fault) => sink.unread_line(line, &script_code(fault), bytes, size, &self.names),
         }
     }
 
-    /// Answers a line with this first token and this rest.
+    /// Does the same. Reads the call of a frequent line directly into its buffer.
     #[inline(always)]
     fn answer_command<S: Sink>(
         &mut self,

@@ -3,7 +3,7 @@ ghost use Rattle.std.specs.Prelude.{◌≡◌, ◌≤◌, List, IfSome};
 ghost use Rattle.l4_answers.specs.Reports.{Report, AddsAll};
 ghost use Rattle.l4_fpage.specs.Pages.{max_frames};
 ghost use Rattle.l4_shell.specs.ByLines.{state_of, IsFirst};
-ghost use Rattle.l4_shell.specs.Requests.{asked_at};
+ghost use Rattle.l4_commands.specs.Requests.{asked_at};
 ghost use Rattle.l4_shell.specs.Sessions.{AnswersLine};
 
 use crate::answering::Script;

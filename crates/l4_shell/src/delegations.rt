@@ -6,18 +6,10 @@ ghost use Rattle.l4_plan.specs.Shortest.{IsShortest};
 ghost use Rattle.l4_shell.specs.Delegations.{ArePlanWords, HasNoPlan};
 
 use arrayvec::ArrayVec;
+use l4_commands::Which;
 use l4_fpage::PageSize;
 use l4_msg::{MAX_WORDS, Region};
 use l4_plan::{Plan, PlanRefusal, plan};
-
-/// The message of a plan that is sent.
-#[derive(Clone, Copy, Drop)]
-pub(crate) enum Which {
-    /// The only message.
-    Only,
-    /// The message with this number, from 0.
-    Message(u32),
-}
 
 /// Returns the words of the only message of a plan, or the number of its messages.
 fn only_words(plan: &Plan) -> Result<ArrayVec<u32, MAX_WORDS>, PlanRefusal>

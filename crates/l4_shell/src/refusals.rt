@@ -4,8 +4,8 @@ ghost use Rattle.l4_shell.specs.Refusals.{script_refusal, plan_refusal, too_many
 ghost use Rattle.l4_answers.specs.Refusals.{plainly};
 ghost use Rattle.l4_pager.specs.Regions.{code_of};
 
-use crate::commands::ScriptFault;
 use l4_answers::{Code, refused_code};
+use l4_commands::ScriptFault;
 use l4_pager::PagerRefusal;
 use l4_plan::PlanRefusal;
 use l4_record::RecordRefusal;

@@ -6,8 +6,8 @@ ghost use Rattle.l4_shell.specs.Inside.Scripts.{TellsScript, HasFirstSeats};
 ghost use Rattle.l4_shell.specs.Sessions.{state};
 
 use crate::answering::Script;
-use crate::requests::ROOT;
 use l4_answers::Sink;
+use l4_commands::ROOT;
 use l4_ipc::PageSize;
 use l4_record::SeatedKernel;
 use l4_servers::Servers;

@@ -1,23 +1,22 @@
 //! A script's kernel and its servers, and the execution of a line's request on them.
 ghost use Rattle.std.specs.Prelude.{◌≡◌, ◌⊎◌, ◌∷◌, List, [], false, MatchOption};
 ghost use Rattle.l4_answers.specs.Reports.{Report, AddsAll};
-ghost use Rattle.l4_shell.specs.Sessions.{session, Enters, Creates, ServesThread, AddsRegion, place_reports, ListsBelow, Shows, parent_answer, Delegates, TellsCount, CarriesOut, names_after, Refuses, LacksRoom};
+ghost use Rattle.l4_shell.specs.Sessions.{session, Enters, Creates, ServesThread, AddsRegion, place_reports, ListsBelow, Shows, parent_answer, Delegates, TellsCount, CarriesOut, naming_report, names_after, Refuses, LacksRoom};
 ghost use Rattle.l4_shell.specs.Inside.Telling.{TellsCall, TellsRefusal};
 ghost use Rattle.l4_pager.specs.Serving.{waiting};
 ghost use Rattle.l4_servers.specs.Servers.{Servers as AllServers, is_served, without};
-ghost use Rattle.l4_shell.specs.Calls.{root, delete_call};
+ghost use Rattle.l4_names.specs.Names.{after_giving};
+ghost use Rattle.l4_commands.specs.Calls.{root, delete_call};
 
-use crate::delegations::{Which, plan_words};
-use crate::naming::give_name;
-use crate::partners::Partner;
-use crate::refusals::{call_code, memory_code, plan_code, region_code};
-use crate::requests::{ROOT, Request, delete_call, send_call};
+use crate::delegations::plan_words;
+use crate::refusals::{call_code, memory_code, plan_code, region_code, too_many_names_code};
 use crate::serving::tell_appended;
 use l4_answers::{Sink, refused_code};
+use l4_commands::{Partner, ROOT, Request, Which, delete_call, send_call};
 use l4_fpage::PageSize;
 use l4_ipc::{Call, Kernel, Refused};
 use l4_msg::Region;
-use l4_names::Names;
+use l4_names::{Name, Names};
 use l4_pager::{Entry, wait};
 use l4_record::{Appended, History, SeatedKernel};
 use l4_servers::Servers;
@@ -101,6 +100,20 @@ fn tell_count<S: Sink>(kernel: &mut SeatedKernel, sink: &mut S)
 {
     let count = kernel.steps();
     sink.steps(count);
+}
+
+/// Gives a name to a thread. Refuses the line if there are too many names.
+#[inline(never)]
+fn give_name<S: Sink>(line: u64, name: Name, number: u32, names: &mut Names, sink: &mut S)
+    ensures told { AddsAll S.has_told sink.old sink.new
+        (naming_report names.old line name number ∷ []) }
+    ensures names { names.new ≡ after_giving names.old name number }
+{
+    if names.give(name, number) {
+        sink.named(number);
+    } else {
+        sink.refused_line(line, &too_many_names_code());
+    }
 }
 
 impl Session {

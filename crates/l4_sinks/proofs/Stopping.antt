@@ -17,10 +17,10 @@ use Rattle.l4_symbols.specs.declared.reasons.Reason.{Reason}
 use Rattle.l4_symbols.specs.declared.words.WordKind.{WordKind}
 use Rattle.l4_symbols.specs.declared.words.WordKind.TheVariants.{Fpage, Window, Timeouts}
 use Rattle.l4_text.specs.Numbers.{number_of, decimal_of}
-use Rattle.l4_shell.specs.declared.kinds.TokenKind.{TokenKind}
-use Rattle.l4_shell.specs.declared.kinds.TokenKind.TheVariants.{ThreadNumber, ThreadOrNew, ThreadOrNil, ThreadNilOrAny, Number, Symbol, Rights, NewName}
-use Rattle.l4_shell.specs.Commands.{thread_of, nil_or_thread_of, partner_of, new_space_of, rights_of, symbol_of, new_name_of, is_language_word, each_fpage, fpages_of, words_of, ◌▹◌, no_more, all_by, last_rights_of, region_of, command_of, is_word}
-use Rattle.l4_shell.specs.Kinds.{is_of}
+use Rattle.l4_commands.specs.declared.kinds.TokenKind.{TokenKind}
+use Rattle.l4_commands.specs.declared.kinds.TokenKind.TheVariants.{ThreadNumber, ThreadOrNew, ThreadOrNil, ThreadNilOrAny, Number, Symbol, Rights, NewName}
+use Rattle.l4_commands.specs.Commands.{thread_of, nil_or_thread_of, partner_of, new_space_of, rights_of, symbol_of, new_name_of, is_language_word, each_fpage, fpages_of, words_of, ◌▹◌, no_more, all_by, last_rights_of, region_of, command_of, is_word}
+use Rattle.l4_commands.specs.Kinds.{is_of}
 use Rattle.l4_sinks.specs.declared.stops.Expected.{Expected}
 use Rattle.l4_sinks.specs.declared.stops.Expected.TheVariants.{TagOrEnd, WordOrEnd, FpageOrEnd, LineEnd}
 use Rattle.l4_sinks.specs.declared.stops.Rest.{Rest}

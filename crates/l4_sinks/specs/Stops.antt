@@ -8,10 +8,10 @@ use Rattle.l4_symbols.specs.Rows.{Row, row_begun, row_added}
 use Rattle.l4_symbols.specs.declared.reasons.Reason.{Reason}
 use Rattle.l4_symbols.specs.declared.reasons.Reason.TheVariants.{NoTag, Unknown, Window as NoWindow, Fpage as NoFpage, Timeouts as NoTimeouts}
 use Rattle.l4_symbols.specs.declared.words.WordKind.TheVariants.{Fpage, Window, Timeouts}
-use Rattle.l4_shell.specs.declared.kinds.TokenKind.{TokenKind}
-use Rattle.l4_shell.specs.declared.kinds.TokenKind.TheVariants.{ThreadNumber, ThreadOrNew, ThreadOrNil, ThreadNilOrAny, Number, Symbol, Rights, NewName}
-use Rattle.l4_shell.specs.Commands.{is_word, command_of}
-use Rattle.l4_shell.specs.Kinds.{is_of}
+use Rattle.l4_commands.specs.declared.kinds.TokenKind.{TokenKind}
+use Rattle.l4_commands.specs.declared.kinds.TokenKind.TheVariants.{ThreadNumber, ThreadOrNew, ThreadOrNil, ThreadNilOrAny, Number, Symbol, Rights, NewName}
+use Rattle.l4_commands.specs.Commands.{is_word, command_of}
+use Rattle.l4_commands.specs.Kinds.{is_of}
 use Rattle.l4_sinks.specs.declared.stops.Expected.{Expected}
 use Rattle.l4_sinks.specs.declared.stops.Expected.TheVariants.{CommandName, Token, Because, OtherName, TagOrEnd, WordOrEnd, FpageOrEnd, LineEnd}
 use Rattle.l4_sinks.specs.declared.stops.Form.{Form}

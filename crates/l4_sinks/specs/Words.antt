@@ -16,8 +16,8 @@ use Rattle.l4_reasons.specs.Reasons.{line_says, token_says, symbol_says, missing
 use Rattle.l4_symbols.specs.Reasons.{reason_text}
 use Rattle.l4_symbols.specs.declared.words.WordKind.TheVariants.{Fpage, Window, Timeouts}
 use Rattle.l4_text.specs.Tokens.{tokens_of}
-use Rattle.l4_shell.specs.declared.kinds.TokenKind.{TokenKind}
-use Rattle.l4_shell.specs.declared.kinds.TokenKind.TheVariants.{ThreadNumber, ThreadOrNew, ThreadOrNil, ThreadNilOrAny, Number, Symbol, Rights, NewName}
+use Rattle.l4_commands.specs.declared.kinds.TokenKind.{TokenKind}
+use Rattle.l4_commands.specs.declared.kinds.TokenKind.TheVariants.{ThreadNumber, ThreadOrNew, ThreadOrNil, ThreadNilOrAny, Number, Symbol, Rights, NewName}
 use Rattle.l4_sinks.specs.declared.stops.Expected.{Expected}
 use Rattle.l4_sinks.specs.declared.stops.Expected.TheVariants.{CommandName, Token, Because, OtherName, TagOrEnd, WordOrEnd, FpageOrEnd, LineEnd}
 use Rattle.l4_sinks.specs.Stops.{Place as Stopped, stop_of}

@@ -3,10 +3,10 @@ ghost use Rattle.std.specs.Prelude.{◌≡◌, ◌≤◌, length, bytes_eq};
 ghost use Rattle.l4_sinks.specs.Words.{transfer_says, origin_says, parent_says, failed_says, ipc_says, gone_says, reply_says, code_says, number_name, kind_says, expected_says, expired_says, waits_says, page_says, shown_says, region_says, named_says, steps_says};
 
 use crate::stops::Expected;
+use l4_commands::TokenKind;
 use l4_ipc::Outcome;
 use l4_mapdb::{Mapping, Place};
 use l4_refusals::{number_of, text_of};
-use l4_shell::TokenKind;
 use l4_symbols::WordKind;
 use l4_threads::Reply;
 

@@ -7,10 +7,10 @@ ghost use Rattle.l4_text.specs.Tokens.{tokens_of};
 ghost use Rattle.l4_sinks.specs.Stops.{with_rest, pager_shape_of, shape_of, shape_in, expected_for, expected_at, symbol_expected, expected_name, end_stop, fpages_stop, row_stop, message_stop, rest_stop, kinds_stop, stop_of, place_in, IsStop};
 
 use crate::sentences::is;
+use l4_commands::{TokenKind, is_of_kind};
 use l4_fpage::PageSize;
 use l4_msg::MAX_WORDS;
 use l4_names::{Names, is_name};
-use l4_shell::{TokenKind, is_of_kind};
 use l4_symbols::{MessageTokens, Reason, WordKind, word_of};
 use l4_text::next_token;
 

@@ -5,7 +5,7 @@ use Rattle.std.specs.Io.KnownBytes.{Consumes, IsAtEnd}
 use Rattle.l4_answers.specs.Reports.{Report}
 use Rattle.l4_answers.specs.Lines.{first_line, later_lines, is_next}
 use Rattle.l4_text.specs.Grammar.{TextLine, lines_of, is_silent, ending_of}
-use Rattle.l4_shell.specs.Requests.{asked_at}
+use Rattle.l4_commands.specs.Requests.{asked_at}
 use Rattle.l4_shell.specs.Sessions.{State, AnswersLine}
 use Rattle.l4_sinks.specs.Texts.{AreAnswerTexts}
 use Rattle.l4_text.specs.declared.lines.Ending.{Ending}

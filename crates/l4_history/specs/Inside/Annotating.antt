@@ -9,7 +9,7 @@ use Rattle.l4_text.specs.Streams.{Tells}
 use Rattle.l4_text.specs.declared.faults.RunFault.{RunFault}
 use Rattle.l4_text.specs.declared.faults.RunFault.TheVariants.{Read, Write, Memory}
 use Rattle.l4_text.specs.declared.lines.Ending.{Ending}
-use Rattle.l4_shell.specs.Requests.{asked_at}
+use Rattle.l4_commands.specs.Requests.{asked_at}
 use Rattle.l4_shell.specs.Sessions.{State, AnswersLine}
 use Rattle.l4_sinks.specs.Scripts.{StopsAtRefusal}
 use Rattle.l4_sinks.specs.Texts.{AreAnswerTexts, last_refusal}

@@ -1,7 +1,7 @@
 use Rattle.std.proofs.Common.{sym, codes, ◌∙◌}
 use Rattle.l4_text.specs.Tokens.{tokens_of}
-use Rattle.l4_shell.specs.Inside.Asking.{asked}
-use Rattle.l4_shell.proofs.InTurn.{recv_is, send_is, ipc_is, fault_is, in_size}
+use Rattle.l4_commands.specs.Commands.{asked}
+use Rattle.l4_commands.proofs.InTurn.{recv_is, send_is, ipc_is, fault_is, in_size}
 use Rattle.l4_shell.proofs.StraightLines.{answers_as}
 use Rattle.l4_shell.proofs.answering.Script.answer_command.Goals as goal
 

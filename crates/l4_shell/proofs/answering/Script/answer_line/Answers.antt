@@ -1,7 +1,7 @@
 use Rattle.std.proofs.Common.{[], sym, ap}
 use Rattle.l4_text.specs.declared.lines.Ending.{Ending}
-use Rattle.l4_shell.specs.declared.commands.ScriptFault.TheVariants.{LineTooLong, CutLine}
-use Rattle.l4_shell.specs.Requests.{asked_at}
+use Rattle.l4_commands.specs.declared.commands.ScriptFault.TheVariants.{LineTooLong, CutLine}
+use Rattle.l4_commands.specs.Requests.{asked_at}
 use Rattle.l4_shell.specs.Sessions.{state}
 use Rattle.l4_shell.proofs.StraightLines.{refuses_line}
 use Rattle.l4_shell.proofs.answering.Script.answer_line.Goals as goal

@@ -1,6 +1,6 @@
 use Rattle.std.proofs.Common.{◌∙◌}
 use Rattle.l4_shell.specs.Sessions.{state}
-use Rattle.l4_shell.proofs.InTurn.{in_size}
+use Rattle.l4_commands.proofs.InTurn.{in_size}
 use Rattle.l4_shell.proofs.StraightLines.{carries_request, faults_as, refuses_line}
 use Rattle.l4_shell.proofs.answering.Script.answer_other.Goals as goal
 

@@ -1,5 +1,5 @@
 use Rattle.std.proofs.Common.{◌≡◌, ℕ, Option, option_map, subst}
-use Rattle.l4_shell.specs.declared.requests.Request.TheVariants.{Enter}
+use Rattle.l4_commands.specs.declared.requests.Request.TheVariants.{Enter}
 use Rattle.l4_shell.specs.Sessions.{state}
 use Rattle.l4_shell.proofs.StraightLines.{no_call, enters_call}
 use Rattle.l4_shell.proofs.session.Session.answer_call.Goals as goal

@@ -1,0 +1,4 @@
+pub mod InTurn
+pub mod MessageWords
+pub mod Hiding
+pub mod Standing

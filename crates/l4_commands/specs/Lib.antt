@@ -1,0 +1,6 @@
+pub mod Calls
+pub mod Commands
+pub mod Kinds
+pub mod NameLaws
+pub mod Requests
+pub mod Inside

@@ -1,5 +1,0 @@
-use Rattle.l4_shell.proofs.Hiding.{no_kind, no_command}
-use Rattle.l4_shell.proofs.laws.names_hide_no_word.Goals as goal
-
-pub returns : goal.returns
-returns c = (no_kind, no_command)
