@@ -11,7 +11,7 @@ mod tested;
 
 ghost use Rattle.std.specs.Prelude.{◌≡◌, IfErr};
 ghost use Rattle.l4.specs.Statuses.{script_status, judged_status, why_status, plan_status, check_status, text_status};
-ghost use Rattle.l4_options.specs.Ranges.{IsFrameCount};
+ghost use Rattle.l4_options.specs.Ranges.{IsFrameCount, IsInRange};
 
 use l4_decode::{Reading, decode};
 use l4_fpage::PageSize;
@@ -199,6 +199,15 @@ fn text_ended<W: Write>(
     }
 }
 
+/// Returns the annotations of the answers to a script, by these switches.
+fn annotations(strict: bool, explain: bool, number: bool, moves: bool) -> Annotations {
+    Annotations {
+        style: Style { strict, explain },
+        number,
+        moves,
+    }
+}
+
 /// Answers a script: up to its first refused line in a strict run, with explanations in an explained run.
 #[inline(never)]
 fn run<R: AllocGlobal + Files + Input + Print + Eprint>(
@@ -304,7 +313,8 @@ fn judge_list<R: AllocGlobal + Files + Input + Print + Eprint>(
 fn tell_why<R: AllocGlobal + Files + Input + Print + Eprint>(
     rt: &R,
     script: &ScriptOptions,
-    question: Question,
+    strict: bool,
+    page: ThreadPage,
 ) -> u8
     requires { IsFrameCount script.now.frames }
 {
@@ -318,7 +328,7 @@ fn tell_why<R: AllocGlobal + Files + Input + Print + Eprint>(
         rt.alloc(),
         script.frames,
         script.size,
-        question,
+        Question { page, strict },
         &mut reader,
         &mut writer,
     );
@@ -358,67 +368,53 @@ fn print_words<R: Print + Eprint>(rt: &R, words: &[u32]) -> u8 {
     text_ended(rt, told, &writer)
 }
 
-/// Executes the command that these words request.
-fn obey<R: AllocGlobal + Files + Input + Print + Eprint>(rt: &R, words: &[String]) -> u8 {
-    match options(rt.alloc(), words) {
-        Ok(
-            Options::Run {
-                script,
-                strict,
-                explain,
-                number,
-                moves,
-            },
-        ) => run(
-            rt,
-            &script,
-            Annotations {
-                style: Style { strict, explain },
-                number,
-                moves,
-            },
-        ),
-        Ok(
-            Options::History {
-                script,
-                strict,
-                answers,
-            },
-        ) => tell_history(rt, &script, strict, answers),
-        Ok(Options::Judge { list, all }) => judge_list(rt, &list, all),
-        Ok(
-            Options::Why {
-                script,
-                strict,
-                thread,
-                page,
-            },
-        ) => tell_why(
-            rt,
-            &script,
-            Question {
-                page: ThreadPage { thread, page },
-                strict,
-            },
-        ),
-        Ok(Options::Plan { region, size }) => write_plan(rt, &region, size),
-        Ok(Options::Check { region, size }) => check(rt, &region, size),
-        Ok(
-            Options::Decode {
-                words,
-                reading,
-                size,
-            },
-        ) => tell_words(rt, words.as_slice(), reading, size),
-        Ok(Options::Test { files, tap, write }) => {
+/// Executes a command.
+fn execute<R: AllocGlobal + Files + Input + Print + Eprint>(rt: &R, asked: Options) -> u8
+    requires { IsInRange asked }
+{
+    match asked {
+        Options::Run {
+            script,
+            strict,
+            explain,
+            number,
+            moves,
+        } => run(rt, &script, annotations(strict, explain, number, moves)),
+        Options::History {
+            script,
+            strict,
+            answers,
+        } => tell_history(rt, &script, strict, answers),
+        Options::Judge { list, all } => judge_list(rt, &list, all),
+        Options::Why {
+            script,
+            strict,
+            thread,
+            page,
+        } => tell_why(rt, &script, strict, ThreadPage { thread, page }),
+        Options::Plan { region, size } => write_plan(rt, &region, size),
+        Options::Check { region, size } => check(rt, &region, size),
+        Options::Decode {
+            words,
+            reading,
+            size,
+        } => tell_words(rt, words.as_slice(), reading, size),
+        Options::Test { files, tap, write } => {
             if write {
                 copy_files(rt, files.as_slice())
             } else {
                 test_files(rt, files.as_slice(), tap)
             }
         }
-        Ok(Options::Encode(words)) => print_words(rt, words.as_slice()),
-        Ok(Options::Show(text)) => show(rt, text.as_str()),
+        Options::Encode(words) => print_words(rt, words.as_slice()),
+        Options::Show(text) => show(rt, text.as_str()),
+    }
+}
+
+/// Executes the command that these words request.
+fn obey<R: AllocGlobal + Files + Input + Print + Eprint>(rt: &R, words: &[String]) -> u8 {
+    match options(rt.alloc(), words) {
+        Ok(asked) => execute(rt, asked),
         Err(fault) => misread(rt, &fault),
     }
 }
