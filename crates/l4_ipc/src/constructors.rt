@@ -91,8 +91,7 @@ fn unmap_control(own: bool, fpages: &[Fpage]) -> u32
 }
 
 impl Call {
-    /// Returns the call that sends the message in these registers, MR0 first, and receives nothing (L4 X.2 manual,
-    /// Send).
+    /// Returns the call that sends the message in these registers, MR0 first, and receives nothing (L4 X.2 manual, Send).
     pub fn send(to: ThreadId, words: ArrayVec<u32, MAX_WORDS>, timeout: Timeout) -> Call
         ensures value { result
             ≡ Ipc (ipc_call to nilthread timeout Timeout.Never NilFpage words.items) }

@@ -32,8 +32,7 @@ fn caller_first(number: u32, others: ArrayVec<u32, MAX_THREADS>) -> ArrayVec<u32
 }
 
 /// Deletes a thread for a running thread, and overwrites the answer that the caller passes with the threads whose calls
-/// ended. It is a function of its own because its list has room for all threads, and no other call should clear that
-/// room.
+/// ended. It is a function of its own because its list has room for all threads, and no other call should clear that room.
 #[inline(never)]
 pub fn delete(
     threads: &mut Threads,

@@ -60,8 +60,7 @@ impl Kernel {
     /// Boots a kernel with 1 to 4,096 page frames, and pages of this size. sigma0 is thread 1 in space 0, where frame
     /// *i* is mapped at page *i* with all rights. Root is thread 2 in space 1, which is empty.
     ///
-    /// Errors, in this order: `BadFrames` (K6) for any other number of frames; `Lower(NoMemory)` if an allocation
-    /// failed.
+    /// Errors, in this order: `BadFrames` (K6) for any other number of frames; `Lower(NoMemory)` if an allocation failed.
     pub fn boot(alloc: Global, frames: u32, size: PageSize) -> Result<Kernel, Refused>
         ensures { MatchResult result
             (λ m. IsBoot frames m × (m.size ≡ size))
@@ -88,8 +87,7 @@ impl Kernel {
     }
 
     /// Copies the kernel: threads with their states and message registers, the queue of senders, and the mappings of
-    /// every space. The copy has its own memory, and shares nothing with the original, so you can continue a run in
-    /// two ways.
+    /// every space. The copy has its own memory, and shares nothing with the original, so you can continue a run in two ways.
     ///
     /// Returns `NoMemory` if an allocation failed. The kernel does not change. A copy takes memory for the greatest
     /// number of pages that were ever present at once.
@@ -106,8 +104,7 @@ impl Kernel {
         })
     }
 
-    /// Executes one step. Returns its outcome and the threads whose calls ended in it. A refused step changes
-    /// nothing.
+    /// Executes one step. Returns its outcome and the threads whose calls ended in it. A refused step changes nothing.
     ///
     /// Errors of a Start, in this order: `UnknownThread` (K2), `Busy` (K3), `BadTimeout` (K4), `Lower` (K5) with the
     /// first refusal of the message, of the window, of the fpages of an Unmap, or of a thread control, and last
@@ -152,8 +149,7 @@ impl Kernel {
         )
     }
 
-    /// Ghost function: gives a proof the invariant that the queue is a strict order of the senders. It compiles to
-    /// nothing.
+    /// Ghost function: gives a proof the invariant that the queue is a strict order of the senders. It compiles to nothing.
     pub fn law_consistent(&self)
         ensures { IsConsistent self.now.threads }
     {
@@ -168,8 +164,7 @@ impl Kernel {
         self.forest.law_forest();
     }
 
-    /// Ghost function: gives a proof the invariant that each present page is below the number of pages in a space. It
-    /// compiles to nothing.
+    /// Ghost function: gives a proof the invariant that each present page is below the number of pages in a space. It compiles to nothing.
     pub fn law_pages(&self)
         ensures { FitIn self.now.size self.now.mappings }
     {
