@@ -1,11 +1,13 @@
 //! Receivers of the answers of a script.
 ghost use Rattle.std.specs.Prelude.{◌≡◌, List, Bool, OnOk, IfErr};
 ghost use Rattle.std.specs.Option.{option_copied};
+ghost use Rattle.l4_ipc.specs.declared.steps.Refused.TheVariants.{UnknownThread};
+ghost use Rattle.l4_answers.specs.Refusals.{kernel_refusal};
 ghost use Rattle.l4_answers.specs.Reports.{Report, RefusedLine, UnreadLine, RefusedAct, Transferred, TimedOut, Waits, Ended, Page, Shown, Parent, AddedRegion, Named, StepCount, Adds, Keeps, AllOut};
 
-use crate::refusals::Code;
+use crate::refusals::{Code, refused_code};
 use l4_fpage::PageSize;
-use l4_ipc::Outcome;
+use l4_ipc::{Outcome, Refused};
 use l4_mapdb::Mapping;
 use l4_names::Names;
 use l4_text::{LineReader, RunFault};
@@ -37,6 +39,12 @@ pub trait Sink {
     /// Reports that a line of the script is refused.
     fn refused_line(&mut self, line: u64, code: &Code)
         ensures { Adds has_told self.old self.new (RefusedLine line code.now) };
+    /// Reports that a line of the script is refused because a thread does not exist.
+    fn unknown_thread(&mut self, line: u64)
+        ensures { Adds has_told self.old self.new (RefusedLine line (kernel_refusal UnknownThread)) }
+    {
+        self.refused_line(line, &refused_code(Refused::UnknownThread));
+    }
     /// Reports that a line of the script can't be read, with its bytes. Pages have this size, and threads these names.
     fn unread_line(&mut self, line: u64, code: &Code, bytes: &[u8], size: PageSize, names: &Names)
         ensures { Adds has_told self.old self.new (UnreadLine size names.now line code.now bytes.now) };
@@ -70,7 +78,6 @@ pub trait Sink {
     /// Reports that a thread was given a name.
     fn named(&mut self, number: u32)
         ensures { Adds has_told self.old self.new (Named number) };
-
     /// Reports how many entries the history has.
     fn steps(&mut self, count: u64)
         ensures { Adds has_told self.old self.new (StepCount count) };

@@ -11,10 +11,10 @@ ghost use Rattle.l4_commands.specs.Calls.{root, delete_call};
 use crate::delegations::plan_words;
 use crate::refusals::{call_code, memory_code, plan_code, region_code, too_many_names_code};
 use crate::serving::tell_appended;
-use l4_answers::{Sink, refused_code};
+use l4_answers::Sink;
 use l4_commands::{Partner, ROOT, Request, Which, delete_call, send_call};
 use l4_fpage::PageSize;
-use l4_ipc::{Call, Kernel, Refused};
+use l4_ipc::{Call, Kernel};
 use l4_msg::Region;
 use l4_names::{Name, Names};
 use l4_pager::{Entry, wait};
@@ -69,8 +69,7 @@ fn show<S: Sink>(kernel: &Kernel, line: u64, number: u32, pages: (u32, u32), sin
         × AddsAll S.has_told sink.old sink.new told }
 {
     let Some(space) = kernel.space_of(number) else {
-        let code = refused_code(Refused::UnknownThread);
-        return sink.refused_line(line, &code);
+        return sink.unknown_thread(line);
     };
     let (first, count) = pages;
     let most = kernel.page_size().space_pages();
@@ -86,8 +85,7 @@ fn tell_parent<S: Sink>(kernel: &Kernel, line: u64, number: u32, page: u32, sink
         (parent_answer kernel.now line number page ∷ []) }
 {
     let Some(space) = kernel.space_of(number) else {
-        let code = refused_code(Refused::UnknownThread);
-        return sink.refused_line(line, &code);
+        return sink.unknown_thread(line);
     };
     sink.parent(kernel.mapping(space, page));
 }
@@ -265,8 +263,7 @@ impl Session {
             × AddsAll S.has_told sink.old sink.new told }
     {
         let Some(_) = self.kernel.kernel().space_of(thread) else {
-            let code = refused_code(Refused::UnknownThread);
-            return sink.refused_line(line, &code);
+            return sink.unknown_thread(line);
         };
         match self.servers.add_region(thread, entry) {
             Ok(()) => sink.region_added(),
