@@ -18,7 +18,6 @@ use Rattle.l4_fpage.specs.declared.sizes.PageSize.{PageSize}
 use Rattle.l4_shell.specs.ByLines.{state_of, IsFirst as IsFirstRun}
 use Rattle.l4_shell.specs.Sessions.{State}
 use Rattle.l4_shell.specs.declared.by_lines.ScriptRun.{ScriptRun}
-use Rattle.l4_shell.proofs.Scripting.{something_kept, nothing_kept}
 use Rattle.l4_answers.proofs.AnswerTexts.{begins}
 use Rattle.l4_expectations.specs.Copies.{expecting, expecting_all, CopiesBy, CopiesLine, CopiesLines, NoneAnswered, RestExpected, IsMalformed, FailsAtFirst, CopiesFirst, IsCopy, CopiesScript}
 use Rattle.l4_expectations.specs.Expectations.{is_marked, expected_in, is_rest}
@@ -35,7 +34,7 @@ use Rattle.l4_expectations.specs.declared.outcomes.Failure.{Failure}
 use Rattle.l4_expectations.specs.declared.outcomes.Failure.TheVariants.{Differs, Malformed, Stopped}
 use Rattle.l4_expectations.specs.declared.outcomes.Fault.{Fault}
 use Rattle.l4_expectations.specs.declared.outcomes.Fault.TheVariants.{Cut, Long, NoAnswer, NoLine, AfterRest}
-use Rattle.l4_answers.proofs.Taking.{Taken, taken_none, taken_more, taken_with, rest_is, line_of_more, ending_whole, ending_long}
+use Rattle.l4_answers.proofs.Taking.{Taken, taken_none, taken_more, taken_with, rest_is, line_of_more, ending_whole, ending_long, something_kept, nothing_kept}
 
 -- the answers that were added so far
 pub record Adding (old now : Copying) (text rest : List ℕ) : Type 0 where

@@ -1,9 +1,8 @@
 -- A script that is answered with annotations, line by line.
-use Rattle.std.proofs.Common.{◌≡◌, ◌⊎◌, ℕ, ◌+◌, ◌-◌, ◌<◌, ◌≤◌, Bool, true, false, cond, nat_lt, List, [], ◌∷◌, ◌++◌, length, length-append, take, filter, Option, Some, None, is_some, Result, Ok, Err, inl, inr, refl, sym, ap, subst, ◌∙◌, arith}
+use Rattle.std.proofs.Common.{◌≡◌, ◌⊎◌, ℕ, ◌+◌, ◌-◌, ◌<◌, Bool, true, false, cond, List, [], ◌∷◌, ◌++◌, length, length-append, take, filter, Option, Some, None, is_some, Result, Ok, Err, inl, inr, refl, sym, ap, subst, ◌∙◌, arith}
 use Rattle.std.proofs.lemmas.Bool.{false≢true}
-use Rattle.std.proofs.lemmas.Bool.Decides.{nat_tests}
-use Rattle.std.proofs.lemmas.List.{append-nil, take_all}
-use Rattle.std.proofs.lemmas.List.Elements.{All-head, All-tail, All-push}
+use Rattle.std.proofs.lemmas.List.{append-nil}
+use Rattle.std.proofs.lemmas.List.Elements.{All-push}
 use Rattle.std.specs.Io.KnownBytes.{Consumes, Appends}
 use Rattle.std.specs.List.{All}
 use mathlib.Core.List.{append_assoc}
@@ -11,7 +10,7 @@ use denote.Enum.Bare.{sameb}
 use Rattle.l4_fpage.specs.declared.sizes.PageSize.{PageSize}
 use Rattle.l4_answers.specs.Reports.{Report, refused_line, has_refusal}
 use Rattle.l4_text.specs.Grammar.{TextLine, lines_of}
-use Rattle.l4_text.specs.Lines.{kept_of, TakesLine, TakesRest, GivesLine}
+use Rattle.l4_text.specs.Lines.{TakesLine, TakesRest, GivesLine}
 use Rattle.l4_text.specs.Streams.{WentOut, HasTold, Tells}
 use Rattle.l4_text.specs.declared.faults.RunFault.{RunFault}
 use Rattle.l4_text.specs.declared.faults.RunFault.TheVariants.{Read, Write, Memory}
@@ -21,19 +20,18 @@ use Rattle.l4_text.specs.contracts.lines.Ending.{the_type}
 use Rattle.l4_text.proofs.Grammar.{cut_line, none_whole}
 use Rattle.l4_text.proofs.LineSteps.{consumes_same}
 use Rattle.l4_text.proofs.Telling.{tells_none, tells_more, tells_is, all_out, some_out}
-use Rattle.l4_names.specs.Names.{Names}
 use Rattle.l4_commands.specs.Requests.{asked_at, asked_of}
 use Rattle.l4_shell.specs.Scripts.{IsOneAnswer}
 use Rattle.l4_shell.specs.ByLines.{state_of, IsFirst}
 use Rattle.l4_shell.specs.Sessions.{State, first_state, AnswersLine}
 use Rattle.l4_shell.proofs.OneAnswer.{none_more, one_answer}
-use Rattle.l4_shell.proofs.Scripting.{something_kept, nothing_kept}
+use Rattle.l4_shell.proofs.Scripting.{whole_front, asked_whole, asked_long}
 use Rattle.l4_sinks.specs.Scripts.{explains_by, StopsAtRefusal}
 use Rattle.l4_sinks.specs.Texts.{last_refusal}
 use Rattle.l4_sinks.specs.Words.{says}
 use Rattle.l4_sinks.specs.declared.scripts.Ended.{Ended}
 use Rattle.l4_sinks.proofs.Running.{some_said}
-use Rattle.l4_answers.proofs.Taking.{Taken, taken_none, taken_more, taken_parts, taken_with}
+use Rattle.l4_answers.proofs.Taking.{Taken, taken_none, taken_more, taken_parts, taken_with, something_kept, nothing_kept}
 use Rattle.l4_history.specs.Annotations.{AnnotatesLine, AnnotatesLines, IsFirstFollower, AnnotatesFirst, AnnotatesScript}
 use Rattle.l4_history.specs.Inside.Annotating.{refusal_of, TellsLine, RanOut, TellsFirst, TellsLines}
 use Rattle.l4_history.specs.declared.annotating.Annotated.{Annotated}
@@ -41,25 +39,6 @@ use Rattle.l4_history.specs.declared.annotating.Annotations.{Annotations}
 use Rattle.l4_history.specs.declared.moves.Follower.{Follower}
 
 -- ---- lines and refusals
-
--- whole lines, and others of which none is
-whole_front : (lines more : List TextLine) → All (λ line. line.whole ≡ true) lines → filter (λ line. line.whole) more ≡ [] → lines ≡ filter (λ line. line.whole) (lines ++ more)
-whole_front [] more h none = sym none
-whole_front (line ∷ lines) more h none =
-    ap (λ ls. line ∷ ls) (whole_front lines more (All-tail (λ (l : TextLine). l.whole ≡ true) line lines h) none)
-    ∙ sym (ap (λ v. cond v (line ∷ filter (λ (l : TextLine). l.whole) (lines ++ more)) (filter (λ (l : TextLine). l.whole) (lines ++ more))) (All-head (λ (l : TextLine). l.whole ≡ true) line lines h))
-
--- what is kept of a line says what the line asks for
-asked_whole : (size : PageSize) (names : Names) (bytes : List ℕ) (kept : List ℕ × Bool) → kept ≡ kept_of bytes → kept.1 ≡ false → asked_at size names Whole kept.0 ≡ asked_of size names (record { bytes = bytes; whole = true })
-asked_whole size names bytes kept is short =
-    let f : nat_lt 4096 (length bytes) ≡ false = sym (ap (λ k. k.1) is) ∙ short in
-    let le : length bytes ≤ 4096 = grind (arith, nat_tests) in
-    ap (asked_at size names Whole) (ap (λ k. k.0) is ∙ take_all 4096 bytes le) ∙ sym (ap (λ v. asked_at size names (cond v Long Whole) bytes) f)
-
-asked_long : (size : PageSize) (names : Names) (bytes : List ℕ) (kept : List ℕ × Bool) → kept ≡ kept_of bytes → kept.1 ≡ true → asked_at size names Long kept.0 ≡ asked_of size names (record { bytes = bytes; whole = true })
-asked_long size names bytes kept is long =
-    let t : nat_lt 4096 (length bytes) ≡ true = sym (ap (λ k. k.1) is) ∙ long in
-    sym (ap (λ v. asked_at size names (cond v Long Whole) bytes) t)
 
 -- the last refusal of answers and of more
 last_more : (before : Option (List ℕ)) (told more : List Report) → last_refusal before (told ++ more) ≡ last_refusal (last_refusal before told) more

@@ -1,6 +1,5 @@
 -- The lines of a script, answered one by one.
-use Rattle.std.proofs.Common.{◌≡◌, ℕ, ◌+◌, ◌-◌, ◌<◌, ◌≤◌, ◌⊎◌, Bool, true, false, cond, nat_lt, List, [], ◌∷◌, ◌++◌, length, length-append, take, filter, Option, Some, None, Result, Ok, Err, inl, inr, sym, ap, subst, ◌∙◌, refl, arith, length-take}
-use Rattle.std.specs.Io.KnownBytes.{Consumes}
+use Rattle.std.proofs.Common.{◌≡◌, ℕ, ◌+◌, ◌-◌, ◌<◌, ◌≤◌, ◌⊎◌, Bool, true, false, cond, nat_lt, List, [], ◌∷◌, ◌++◌, length, length-append, take, filter, Option, Some, None, Result, Ok, Err, inl, inr, sym, ap, subst, ◌∙◌, refl, arith}
 use Rattle.std.specs.List.{All}
 use Rattle.std.proofs.lemmas.List.{append-nil, take_all}
 use Rattle.std.proofs.lemmas.List.Elements.{All-head, All-tail, All-push}
@@ -14,7 +13,7 @@ use Rattle.l4_record.specs.declared.entries.Entry.{Entry}
 use Rattle.l4_servers.specs.Servers.{Servers, no_servers}
 use Rattle.l4_names.specs.Names.{Names}
 use Rattle.l4_text.specs.Grammar.{TextLine, lines_of}
-use Rattle.l4_text.specs.Lines.{kept_of, TakesLine, TakesRest, GivesLine, left_of}
+use Rattle.l4_text.specs.Lines.{kept_of, TakesLine, TakesRest, GivesLine}
 use Rattle.l4_commands.specs.declared.requests.Request.{Request}
 use Rattle.l4_commands.specs.Requests.{Unread, asked_at, asked_of}
 use Rattle.l4_answers.specs.Reports.{Report, AddsAll, Keeps, AllOut}
@@ -28,15 +27,15 @@ use Rattle.l4_text.specs.declared.lines.Ending.TheVariants.{Whole, Long, Cut}
 use Rattle.l4_text.specs.contracts.lines.Ending.{the_type}
 use Rattle.l4_text.specs.declared.faults.RunFault.{RunFault}
 use Rattle.l4_text.specs.declared.faults.RunFault.TheVariants.{Read, Write, Memory}
-use Rattle.l4_text.proofs.Grammar.{lines_more, cut_line, none_whole}
-use Rattle.l4_text.proofs.LineSteps.{consumes_more, consumes_same, empty_list}
+use Rattle.l4_text.proofs.Grammar.{cut_line, none_whole}
+use Rattle.l4_answers.proofs.Taking.{Taken, taken_none, taken_more, taken_parts, taken_with, rest_is, something_kept, nothing_kept}
 use Rattle.l4_answers.proofs.Adding.{adds_none, adds_more, adds_kept}
 use Rattle.l4_shell.proofs.OneAnswer.{one_answer}
 
 -- LINES
 
 -- whole lines, and others of which none is
-whole_front : (lines more : List TextLine) → All (λ line. line.whole ≡ true) lines → filter (λ line. line.whole) more ≡ [] → lines ≡ filter (λ line. line.whole) (lines ++ more)
+pub whole_front : (lines more : List TextLine) → All (λ line. line.whole ≡ true) lines → filter (λ line. line.whole) more ≡ [] → lines ≡ filter (λ line. line.whole) (lines ++ more)
 whole_front [] more h none = sym none
 whole_front (line ∷ lines) more h none =
     ap (λ ls. line ∷ ls) (whole_front lines more (All-tail (λ (l : TextLine). l.whole ≡ true) line lines h) none)
@@ -66,13 +65,13 @@ answers_more old between new number (first ∷ lines) told line last are is =
     )
 
 -- what is kept of a line says what the line asks for
-asked_whole : (size : PageSize) (names : Names) (bytes : List ℕ) (kept : List ℕ × Bool) → kept ≡ kept_of bytes → kept.1 ≡ false → asked_at size names Whole kept.0 ≡ asked_of size names (record { bytes = bytes; whole = true })
+pub asked_whole : (size : PageSize) (names : Names) (bytes : List ℕ) (kept : List ℕ × Bool) → kept ≡ kept_of bytes → kept.1 ≡ false → asked_at size names Whole kept.0 ≡ asked_of size names (record { bytes = bytes; whole = true })
 asked_whole size names bytes kept is short =
     let f : nat_lt 4096 (length bytes) ≡ false = sym (ap (λ k. k.1) is) ∙ short in
     let le : length bytes ≤ 4096 = grind (arith, nat_tests) in
     ap (asked_at size names Whole) (ap (λ k. k.0) is ∙ take_all 4096 bytes le) ∙ sym (ap (λ v. asked_at size names (cond v Long Whole) bytes) f)
 
-asked_long : (size : PageSize) (names : Names) (bytes : List ℕ) (kept : List ℕ × Bool) → kept ≡ kept_of bytes → kept.1 ≡ true → asked_at size names Long kept.0 ≡ asked_of size names (record { bytes = bytes; whole = true })
+pub asked_long : (size : PageSize) (names : Names) (bytes : List ℕ) (kept : List ℕ × Bool) → kept ≡ kept_of bytes → kept.1 ≡ true → asked_at size names Long kept.0 ≡ asked_of size names (record { bytes = bytes; whole = true })
 asked_long size names bytes kept is long =
     let t : nat_lt 4096 (length bytes) ≡ true = sym (ap (λ k. k.1) is) ∙ long in
     sym (ap (λ v. asked_at size names (cond v Long Whole) bytes) t)
@@ -81,37 +80,23 @@ asked_long size names bytes kept is long =
 
 -- the lines that were answered so far, before the one of this number
 pub record Answered {T : Type 0} (has_told : T → T → List Report → Type 0) (closed : T → Bool) (m : State) (old new : Option (List ℕ)) (now : List ℕ × ℕ) (number : ℕ) (last : State) (before after : T) : Type 0 where
-  pub read : List ℕ
-  pub done : List ℕ
-  pub from : Consumes old new read
-  pub same : read ≡ done ++ now.0
   pub lines : List TextLine
-  pub front : (more : List ℕ) → lines_of (done ++ more) ≡ lines ++ lines_of more
-  pub number_is : number ≡ 1 + length lines
+  pub taken : Taken old new now number lines
   pub whole : All (λ line. line.whole ≡ true) lines
   pub told : List Report
   pub answers : AnswersLines m 1 lines told last
   pub was_open : (told ≡ []) ⊎ WasOpen has_told closed before (length lines) told
   pub adds : AddsAll has_told before after told
-  pub bound : left_of now + number ≤ 68736253953
-  pub few : now.1 ≤ 16777216
 
 pub answered_none : {T : Type 0} (has_told : T → T → List Report → Type 0) (closed : T → Bool) (m : State) (a : Option (List ℕ)) (now : List ℕ × ℕ) (s : T) → now ≡ ([], 0) → Answered has_told closed m a a now 1 m s s
 answered_none has_told closed m a now s is = record {
-  read = [];
-  done = [];
-  «from» = consumes_same a;
-  same = sym (ap (λ x. x.0) is);
   lines = [];
-  front = λ more. refl;
-  number_is = refl;
+  taken = taken_none a now is;
   whole = λ k d lt. absurd (omega arith);
   told = [];
   answers = (refl, refl);
   was_open = inl refl;
   adds = adds_none has_told s;
-  bound = omega (arith, ap left_of is);
-  few = omega (arith, ap (λ x. x.1) is);
 }
 
 -- the line of this number was answered while the sink was open
@@ -132,54 +117,38 @@ answered_more : {T : Type 0} (has_told : T → T → List Report → Type 0) (cl
 answered_more has_told closed m last next old mid new now after kept number before s t ending opened a l asks is =
     let line : TextLine = record { bytes = l.bytes; whole = true } in
     record {
-      read = a.read ++ l.takes.read;
-      done = a.done ++ (l.bytes ++ (10 ∷ []));
-      «from» = consumes_more old mid new a.read l.takes.read a.from l.takes.from;
-      same = ap (λ x. x ++ l.takes.read) a.same ∙ append_assoc a.done now.0 l.takes.read ∙ ap (λ x. a.done ++ x) l.takes.same ∙ sym (append_assoc a.done (l.bytes ++ (10 ∷ [])) after.0);
       lines = a.lines ++ line ∷ [];
-      front = λ more.
-          ap lines_of (append_assoc a.done (l.bytes ++ (10 ∷ [])) more ∙ ap (λ x. a.done ++ x) (append_assoc l.bytes (10 ∷ []) more))
-          ∙ a.front (l.bytes ++ (10 ∷ more)) ∙ ap (λ x. a.lines ++ x) (lines_more l.bytes more l.plain) ∙ sym (append_assoc a.lines (line ∷ []) (lines_of more));
-      number_is = omega (arith, a.number_is, length-append a.lines (line ∷ []));
+      taken = taken_more old mid new now after kept number a.lines a.taken l;
       whole = All-push (λ (l : TextLine). l.whole ≡ true) a.lines line a.whole refl;
       told = a.told ++ is.0;
       answers = answers_more m last next 1 a.lines a.told line is.0 a.answers
-          (subst (λ (n : ℕ). AnswersLine last n (asked_of last.session.machine.size last.names line) is.0 next) a.number_is (subst (λ (q : Result _ _). AnswersLine last number q is.0 next) asks is.1));
-      was_open = inr (opened_before has_told closed m next last a.lines line number (asked_at last.session.machine.size last.names ending kept.0) before s a.told is.0 a.number_is is.1 a.adds opened);
+          (subst (λ (n : ℕ). AnswersLine last n (asked_of last.session.machine.size last.names line) is.0 next) a.taken.number_is (subst (λ (q : Result _ _). AnswersLine last number q is.0 next) asks is.1));
+      was_open = inr (opened_before has_told closed m next last a.lines line number (asked_at last.session.machine.size last.names ending kept.0) before s a.told is.0 a.taken.number_is is.1 a.adds opened);
       adds = adds_more has_told before s t _ _ a.adds is.2;
-      bound = omega (arith, a.bound, l.shorter);
-      few = l.few;
     }
 
 -- what was held back went out
 pub answered_sent : {T : Type 0} (has_told : T → T → List Report → Type 0) (closed : T → Bool) (m last : State) (old new : Option (List ℕ)) (now : List ℕ × ℕ) (number : ℕ) (before s t : T)
     → Answered has_told closed m old new now number last before s → Keeps has_told s t → Answered has_told closed m old new now number last before t
 answered_sent has_told closed m last old new now number before s t a sent = record {
-  read = a.read;
-  done = a.done;
-  «from» = a.from;
-  same = a.same;
   lines = a.lines;
-  front = a.front;
-  number_is = a.number_is;
+  taken = a.taken;
   whole = a.whole;
   told = a.told;
   answers = a.answers;
   was_open = a.was_open;
   adds = adds_kept has_told before s t a.told a.adds sent;
-  bound = a.bound;
-  few = a.few;
 }
 
 -- the lines so far, as lines of what was read
 beginning_of : {T : Type 0} (has_told : T → T → List Report → Type 0) (closed : T → Bool) (m last : State) (old new : Option (List ℕ)) (now : List ℕ × ℕ) (number : ℕ) (before after : T)
     → Answered has_told closed m old new now number last before after → TellsBeginning m last old new has_told closed before after
 beginning_of has_told closed m last old new now number before after a = record {
-  read = a.read;
-  «from» = a.from;
+  read = a.taken.read;
+  «from» = a.taken.from;
   lines = a.lines;
   later = lines_of now.0;
-  parts = ap lines_of a.same ∙ a.front now.0;
+  parts = taken_parts old new now number a.lines a.taken;
   sure = inl a.whole;
   told = a.told;
   answers = a.answers;
@@ -193,70 +162,54 @@ pub answered_closed : {T : Type 0} (has_told : T → T → List Report → Type 
 unfolding beginning_of
 answered_closed has_told closed m last old new now number before after a over = record {
   some = beginning_of has_told closed m last old new now number before after a;
-  number = omega (arith, a.number_is);
+  number = omega (arith, a.taken.number_is);
   end = inr over;
 }
 
--- all that was read and not taken has no newline
-same_rest : {T : Type 0} (has_told : T → T → List Report → Type 0) (closed : T → Bool) (m last : State) (old mid new : Option (List ℕ)) (now after : List ℕ × ℕ) (kept : List ℕ × Bool) (number : ℕ) (before s : T)
-    → (a : Answered has_told closed m old mid now number last before s) → (l : TakesRest mid new now after kept) → lines_of (a.read ++ l.takes.read) ≡ a.lines ++ lines_of l.bytes
-same_rest has_told closed m last old mid new now after kept number before s a l =
-    ap lines_of (ap (λ x. x ++ l.takes.read) a.same ∙ append_assoc a.done now.0 l.takes.read
-    ∙ ap (λ x. a.done ++ x) (l.takes.same ∙ ap (λ x. l.bytes ++ x) l.empty ∙ append-nil l.bytes)) ∙ a.front l.bytes
+-- the lines so far, where more was read, whose lines these are
+some_with : {T : Type 0} (has_told : T → T → List Report → Type 0) (closed : T → Bool) (m last : State) (old mid new : Option (List ℕ)) (now after : List ℕ × ℕ) (kept : List ℕ × Bool) (number : ℕ) (before s : T)
+    → Answered has_told closed m old mid now number last before s → (l : TakesRest mid new now after kept) → TellsBeginning m last old new has_told closed before s
+some_with has_told closed m last old mid new now after kept number before s a l =
+    let w = taken_with old mid new now number a.lines l.takes.read l.bytes a.taken l.takes.from (rest_is mid new now after kept l) in
+    record {
+      read = a.taken.read ++ l.takes.read;
+      «from» = w.0;
+      lines = a.lines;
+      later = lines_of l.bytes;
+      parts = w.1;
+      sure = inl a.whole;
+      told = a.told;
+      answers = a.answers;
+      was_open = a.was_open;
+      adds = a.adds;
+    }
 
 -- reading failed
 pub answered_read : {T : Type 0} (has_told : T → T → List Report → Type 0) (closed : T → Bool) (m last : State) (old mid new : Option (List ℕ)) (now after : List ℕ × ℕ) (kept : List ℕ × Bool) (number : ℕ) (before s : T)
     (e : RunFault) → Answered has_told closed m old mid now number last before s → GivesLine mid new now after kept (Err e) → TellsWhole m last old new has_told closed before s
+unfolding some_with
 answered_read has_told closed m last old mid new now after kept number before s e a gives =
     let l = gives.0 in
-    let parts = same_rest has_told closed m last old mid new now after kept number before s a l in
+    let some = some_with has_told closed m last old mid new now after kept number before s a l in
     record {
-      some = record {
-        read = a.read ++ l.takes.read;
-        «from» = consumes_more old mid new a.read l.takes.read a.from l.takes.from;
-        lines = a.lines;
-        later = lines_of l.bytes;
-        parts = parts;
-        sure = inl a.whole;
-        told = a.told;
-        answers = a.answers;
-        was_open = a.was_open;
-        adds = a.adds;
-      };
-      whole = whole_front a.lines (lines_of l.bytes) a.whole (none_whole l.bytes l.plain) ∙ sym (ap (λ lines. filter (λ (line : TextLine). line.whole) lines) parts);
+      some = some;
+      whole = whole_front a.lines (lines_of l.bytes) a.whole (none_whole l.bytes l.plain) ∙ sym (ap (λ lines. filter (λ (line : TextLine). line.whole) lines) some.parts);
     }
-
--- where nothing is kept of a line there is nothing of it
-pub nothing_kept : (bytes : List ℕ) → take 4096 bytes ≡ [] → bytes ≡ []
-nothing_kept bytes h = empty_list bytes (omega (arith, ap length h, length-take 4096 bytes))
-
-pub something_kept : (bytes : List ℕ) → 0 < length (take 4096 bytes) → 0 < length bytes
-something_kept bytes h = omega (arith, h, length-take 4096 bytes)
 
 -- at the end no line is left
 pub answered_end : {T : Type 0} (has_told : T → T → List Report → Type 0) (closed : T → Bool) (m last : State) (old mid new : Option (List ℕ)) (now after : List ℕ × ℕ) (kept : List ℕ × Bool) (number : ℕ) (before s : T)
     (r : Option Ending) → Answered has_told closed m old mid now number last before s → GivesLine mid new now after kept (Ok r) → r ≡ None
     → TellsAll m last old new has_told closed before s (number - 1)
+unfolding some_with
 answered_end has_told closed m last old mid new now after kept number before s r a gives is =
     let g = subst (λ (o : Option Ending). GivesLine mid new now after kept (Ok o)) is gives in
     let l = g.0 in
     let none : l.bytes ≡ [] = nothing_kept l.bytes (sym (ap (λ k. k.0) l.kept_is) ∙ g.2) in
-    let parts = same_rest has_told closed m last old mid new now after kept number before s a l in
-    let all : lines_of (a.read ++ l.takes.read) ≡ a.lines = parts ∙ ap (λ x. a.lines ++ lines_of x) none ∙ append-nil a.lines in
+    let some = some_with has_told closed m last old mid new now after kept number before s a l in
+    let all : lines_of some.read ≡ a.lines = some.parts ∙ ap (λ x. a.lines ++ lines_of x) none ∙ append-nil a.lines in
     record {
-      some = record {
-        read = a.read ++ l.takes.read;
-        «from» = consumes_more old mid new a.read l.takes.read a.from l.takes.from;
-        lines = a.lines;
-        later = lines_of l.bytes;
-        parts = parts;
-        sure = inl a.whole;
-        told = a.told;
-        answers = a.answers;
-        was_open = a.was_open;
-        adds = a.adds;
-      };
-      number = omega (arith, a.number_is);
+      some = some;
+      number = omega (arith, a.taken.number_is);
       end = inl (g.1, sym all);
     }
 
@@ -281,22 +234,22 @@ after_line has_told closed Cut m last next old mid new now after kept number bef
     let l = g.0 in
     let some : 0 < length (take 4096 l.bytes) = omega (arith, g.2, ap (λ k. length k.0) l.kept_is) in
     let line : TextLine = record { bytes = l.bytes; whole = false } in
-    let parts = same_rest has_told closed m last old mid new now after kept number before s a l in
-    let all : lines_of (a.read ++ l.takes.read) ≡ a.lines ++ line ∷ [] = parts ∙ ap (λ x. a.lines ++ x) (cut_line l.bytes l.plain (something_kept l.bytes some)) in
+    let w = taken_with old mid new now number a.lines l.takes.read l.bytes a.taken l.takes.from (rest_is mid new now after kept l) in
+    let all : lines_of (a.taken.read ++ l.takes.read) ≡ a.lines ++ line ∷ [] = w.1 ∙ ap (λ x. a.lines ++ x) (cut_line l.bytes l.plain (something_kept l.bytes some)) in
     record {
       some = record {
-        read = a.read ++ l.takes.read;
-        «from» = consumes_more old mid new a.read l.takes.read a.from l.takes.from;
+        read = a.taken.read ++ l.takes.read;
+        «from» = w.0;
         lines = a.lines ++ line ∷ [];
         later = [];
         parts = all ∙ sym (append-nil (a.lines ++ line ∷ []));
         sure = inr g.1;
         told = a.told ++ told.0;
-        answers = answers_more m last next 1 a.lines a.told line told.0 a.answers (subst (λ (n : ℕ). AnswersLine last n (asked_of last.session.machine.size last.names line) told.0 next) a.number_is told.1);
-        was_open = inr (opened_before has_told closed m next last a.lines line number (asked_at last.session.machine.size last.names Cut kept.0) before s a.told told.0 a.number_is told.1 a.adds opened);
+        answers = answers_more m last next 1 a.lines a.told line told.0 a.answers (subst (λ (n : ℕ). AnswersLine last n (asked_of last.session.machine.size last.names line) told.0 next) a.taken.number_is told.1);
+        was_open = inr (opened_before has_told closed m next last a.lines line number (asked_at last.session.machine.size last.names Cut kept.0) before s a.told told.0 a.taken.number_is told.1 a.adds opened);
         adds = adds_more has_told before s t _ _ a.adds told.2;
       };
-      number = omega (arith, a.number_is, length-append a.lines (line ∷ []));
+      number = omega (arith, a.taken.number_is, length-append a.lines (line ∷ []));
       end = inl (g.1, sym all);
     }
 
