@@ -4,19 +4,16 @@ use Rattle.std.specs.List.{All, flat_map}
 use Rattle.std.specs.Io.KnownBytes.{Consumes, IsAtEnd}
 use Rattle.l4_fpage.specs.declared.sizes.PageSize.{PageSize}
 use Rattle.l4_ipc.specs.Machine.{Machine, IsBoot}
-use Rattle.l4_answers.specs.Reports.{Report}
 use Rattle.l4_text.specs.Grammar.{TextLine, lines_of, is_silent, ending_of}
 use Rattle.l4_text.specs.declared.lines.Ending.{Ending}
 use Rattle.l4_text.specs.declared.lines.Ending.TheVariants.{Whole, Long as TooLong, Cut as IsCut}
 use Rattle.l4_text.specs.declared.faults.RunFault.TheVariants.{Read, Write, Memory}
-use Rattle.l4_commands.specs.Requests.{asked_at}
-use Rattle.l4_shell.specs.Sessions.{State, first_state, AnswersLine}
-use Rattle.l4_sinks.specs.Texts.{AreAnswerTexts}
+use Rattle.l4_shell.specs.Sessions.{State, first_state}
 use Rattle.l4_expectations.specs.declared.copying.Copied.{Copied}
 use Rattle.l4_expectations.specs.declared.outcomes.Failure.{Failure}
 use Rattle.l4_expectations.specs.declared.outcomes.Failure.TheVariants.{Malformed, Stopped}
 use Rattle.l4_expectations.specs.declared.outcomes.Fault.TheVariants.{Cut, Long, NoAnswer, NoLine, AfterRest}
-use Rattle.l4_expectations.specs.Expectations.{is_marked, expected_in, is_rest}
+use Rattle.l4_expectations.specs.Expectations.{is_marked, expected_in, is_rest, HasAnswers}
 use Rattle.l4_expectations.specs.Tests.{Passes}
 
 -- THE LINES OF A COPY
@@ -28,10 +25,6 @@ expecting answer = codes "#= " ++ (answer.bytes ++ 10 ∷ [])
 -- expectations of all lines of this text
 abbrev pub expecting_all : List ℕ → List ℕ
 expecting_all text = flat_map expecting (lines_of text)
-
--- the line was answered as the line with this number, and this is the text of its answers
-abbrev pub HasAnswers : State → ℕ → List ℕ → List ℕ → State → Type 0
-HasAnswers old number line text new = (told : List Report) × AnswersLine old number (asked_at old.session.machine.size old.names Whole line) told new × AreAnswerTexts None told text
 
 -- What a copy has for a line, which is the next one of the copy and has this number there: an expectation is left out, and any other line stays.
 -- Below a line that has answers, the copy expects all of them. The last number is that of the lines that the copy has more.

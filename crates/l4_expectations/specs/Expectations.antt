@@ -3,7 +3,8 @@ use Rattle.std.specs.Prelude.{ℕ, ◌≡◌, ◌+◌, ◌==◌, ◌&&◌, ◌�
 use Rattle.std.specs.List.{flat_map}
 use Rattle.l4_answers.specs.Reports.{Report}
 use Rattle.l4_text.specs.Grammar.{TextLine, is_silent}
-use Rattle.l4_commands.specs.Requests.{asked_of}
+use Rattle.l4_text.specs.declared.lines.Ending.TheVariants.{Whole}
+use Rattle.l4_commands.specs.Requests.{asked_at, asked_of}
 use Rattle.l4_shell.specs.Sessions.{State, AnswersLine}
 use Rattle.l4_sinks.specs.Texts.{AreAnswerTexts}
 
@@ -56,6 +57,10 @@ Begins expected text = (first : List (List ℕ)) × (more : List ℕ) × (expect
 -- nothing is expected, or exactly the answers in this text, or the first of them
 abbrev pub Agrees : List (List ℕ) → List ℕ → Type 0
 Agrees expected text = (expected ≡ []) ⊎ ((text ≡ lines_text expected) ⊎ Begins expected text)
+
+-- the line was answered as the line with this number, and this is the text of its answers
+abbrev pub HasAnswers : State → ℕ → List ℕ → List ℕ → State → Type 0
+HasAnswers old number line text new = (told : List Report) × AnswersLine old number (asked_at old.session.machine.size old.names Whole line) told new × AreAnswerTexts None told text
 
 -- The line with this number was answered, and its answers, as `l4 run` writes them, agree with those expected below it. A line that begins
 -- with `#=` has an answer behind that.

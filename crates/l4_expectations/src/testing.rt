@@ -3,8 +3,9 @@ ghost use Rattle.std.specs.Prelude.{◌≡◌, ◌≤◌, ◌<◌, ◌+◌, ◌^
 ghost use Rattle.std.specs.Option.{option_copied};
 ghost use Rattle.l4_fpage.specs.Pages.{max_frames};
 ghost use Rattle.l4_shell.specs.ByLines.{state_of};
+ghost use Rattle.l4_expectations.specs.Expectations.{HasAnswers};
 ghost use Rattle.l4_expectations.specs.Tests.{is_ended, has_surplus, Tests};
-ghost use Rattle.l4_expectations.specs.Inside.Lines.{Reports, EndsWhole, Closes, Answered, ComparesAnswer, AnswersNext, TestsLine, TestsEnd, TestsLines, IsFirst};
+ghost use Rattle.l4_expectations.specs.Inside.Lines.{Reports, EndsWhole, Closes, ComparesAnswer, AnswersNext, TestsLine, TestsEnd, TestsLines, IsFirst};
 
 use crate::due::{Due, Stage};
 use crate::marks::{expected_in, is_marked, is_silent};
@@ -92,7 +93,7 @@ pub(crate) fn answered(
     line: &[u8],
 ) -> Option<Vec<u8>>
     ensures { IfSome result
-        (λ text. Answered (state_of run.old) number line.now text.items (state_of run.new)) }
+        (λ text. HasAnswers (state_of run.old) number line.now text.items (state_of run.new)) }
 {
     let mut teller = Teller::new(Vec::new(alloc), false, None);
     run.answer_line(number, Ending::Whole, line, &mut teller);

@@ -6,8 +6,8 @@ use Rattle.l4_text.specs.Grammar.{TextLine, lines_of, is_silent, ending_of}
 use Rattle.l4_text.specs.declared.lines.Ending.TheVariants.{Whole}
 use Rattle.l4_text.specs.declared.faults.RunFault.TheVariants.{Read, Write, Memory}
 use Rattle.l4_shell.specs.Sessions.{State}
-use Rattle.l4_expectations.specs.Copies.{expecting_all, HasAnswers, CopiesLine, CopiesLines, FailsAtFirst}
-use Rattle.l4_expectations.specs.Expectations.{is_marked, expected_in, is_rest}
+use Rattle.l4_expectations.specs.Copies.{expecting_all, CopiesLine, CopiesLines, FailsAtFirst}
+use Rattle.l4_expectations.specs.Expectations.{is_marked, expected_in, is_rest, HasAnswers}
 use Rattle.l4_expectations.specs.declared.copying.Above.{Above}
 use Rattle.l4_expectations.specs.declared.copying.Above.TheVariants.{Nothing, Answers, Rest}
 use Rattle.l4_expectations.specs.declared.copying.Copying.{Copying}

@@ -2,12 +2,9 @@
 use Rattle.std.specs.Prelude.{ℕ, ◌≡◌, ◌+◌, ◌==◌, ◌⊎◌, Bool, true, false, List, [], ◌++◌, length, filter, Option, Some, None, Result, Ok, Err}
 use Rattle.std.specs.List.{All}
 use Rattle.std.specs.Io.KnownBytes.{Consumes, IsAtEnd}
-use Rattle.l4_answers.specs.Reports.{Report}
 use Rattle.l4_answers.specs.Lines.{first_line, later_lines, is_next}
 use Rattle.l4_text.specs.Grammar.{TextLine, lines_of, is_silent, ending_of}
-use Rattle.l4_commands.specs.Requests.{asked_at}
-use Rattle.l4_shell.specs.Sessions.{State, AnswersLine}
-use Rattle.l4_sinks.specs.Texts.{AreAnswerTexts}
+use Rattle.l4_shell.specs.Sessions.{State}
 use Rattle.l4_text.specs.declared.lines.Ending.{Ending}
 use Rattle.l4_text.specs.declared.lines.Ending.TheVariants.{Whole}
 use Rattle.l4_text.specs.declared.faults.RunFault.TheVariants.{Read, Write, Memory}
@@ -17,7 +14,7 @@ use Rattle.l4_expectations.specs.declared.outcomes.Failure.{Failure}
 use Rattle.l4_expectations.specs.declared.outcomes.Failure.TheVariants.{Differs, Malformed, Stopped}
 use Rattle.l4_expectations.specs.declared.outcomes.Passed.{Passed}
 use Rattle.l4_expectations.specs.declared.testing.Tested.{Tested}
-use Rattle.l4_expectations.specs.Expectations.{is_marked, expected_in, is_rest, expected_by, expected_below, AreAsExpected}
+use Rattle.l4_expectations.specs.Expectations.{is_marked, expected_in, is_rest, expected_by, expected_below, HasAnswers, AreAsExpected}
 use Rattle.l4_expectations.specs.declared.outcomes.Fault.TheVariants.{NoLine, AfterRest}
 use Rattle.l4_expectations.specs.Tests.{AgreesSoFar, Differ, FailsAt, FailsNext, IsWrong, is_ended, is_surplus, has_surplus}
 
@@ -49,10 +46,6 @@ abbrev pub Closes : Option Due → Result (Unit {0}) Failure → Type 0
 Closes due (Ok u) = has_surplus due ≡ false
 Closes due (Err failure) = SurplusReported due failure
 
--- the line of this number was answered, and this is the text of its answers
-abbrev pub Answered : State → ℕ → List ℕ → List ℕ → State → Type 0
-Answered m number line text n = (told : List Report) × AnswersLine m number (asked_at m.session.machine.size m.names Whole line) told n × AreAnswerTexts None told text
-
 -- an expected answer was compared, and agrees
 pub record Compared (old : Tested) (answer : List ℕ) (new : Tested) : Type 0 where
   pub before : Due
@@ -78,7 +71,7 @@ ComparesAnswer old number answer new (Err failure) = Fails (ExpectationFails old
 pub record Goes (m : State) (old : Tested) (number : ℕ) (line : List ℕ) (n : State) (new : Tested) : Type 0 where
   pub closed : has_surplus old.due ≡ false
   pub text : List ℕ
-  pub answered : Answered m number line text n
+  pub answered : HasAnswers m number line text n
   pub due_is : new.due ≡ Some (record { number = number; left = text; stage = Untouched })
   pub same : new.expectations ≡ old.expectations
 
