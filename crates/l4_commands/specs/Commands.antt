@@ -1,11 +1,12 @@
 -- The commands of a script, from the tokens of a line (this profile's own).
-use Rattle.std.specs.Prelude.{ℕ, ◌==◌, Bool, true, false, List, [], ◌∷◌, length, nat_le, slice_index, Option, Some, None, Result, Err, ok_or, if◌then◌else◌, codes}
+use Rattle.std.specs.Prelude.{ℕ, ◌==◌, Bool, true, false, List, [], ◌∷◌, length, map, nat_le, slice_index, Option, Some, None, Result, Err, ok_or, if◌then◌else◌, codes}
 use Rattle.std.specs.Str.{bytes_eq}
 use Rattle.std.specs.List.{list_any}
 use Rattle.std.specs.Option.{option_map_or, option_or}
 use Rattle.std.specs.Result.{result_ok}
 use Rattle.l4_fpage.specs.Rights.{RightsSet}
 use Rattle.l4_fpage.specs.declared.sizes.PageSize.{PageSize}
+use Rattle.l4_fpage.specs.declared.sizes.PageSize.TheVariants.{Kib4}
 use Rattle.l4_msg.specs.Sizes.{max_words}
 use Rattle.l4_threads.specs.Sizes.{numbers}
 use Rattle.l4_names.specs.Names.{Names, thread_named, name_of}
@@ -77,32 +78,6 @@ fpages_of size tokens = if nat_le (length tokens) max_words then each_fpage size
 unfoldable pub words_of : PageSize → List (List ℕ) → Option (List ℕ)
 words_of size tokens = result_ok (message_words_in size tokens)
 
--- NEW NAMES
-
--- the names of all commands
-abbrev pub command_names : List (List ℕ)
-command_names =
-    codes "thread" ∷ codes "setpager" ∷ codes "delete" ∷ codes "recv" ∷ codes "send" ∷ codes "ipc" ∷ codes "delegate" ∷ codes "part" ∷ codes "unmap"
-    ∷ codes "show" ∷ codes "parent" ∷ codes "fault" ∷ codes "region" ∷ codes "serve" ∷ codes "name" ∷ codes "steps" ∷ []
-
--- the words that have the form of a name, and that stand for themselves in some place of a line or begin a symbolic token
-abbrev pub token_words : List (List ℕ)
-token_words =
-    codes "nil" ∷ codes "any" ∷ codes "new" ∷ codes "all" ∷ codes "none" ∷ codes "never" ∷ codes "zero" ∷ codes "tag" ∷ codes "map" ∷ codes "grant"
-    ∷ codes "rwx" ∷ codes "rw-" ∷ codes "r-x" ∷ codes "r--" ∷ []
-
--- whether a token is one of these words
-abbrev pub is_one_of : List (List ℕ) → List ℕ → Bool
-is_one_of words token = list_any (λ word. is_word word token) words
-
--- whether a token is a word of the language
-unfoldable pub is_language_word : List ℕ → Bool
-is_language_word token = if is_one_of command_names token then true else is_one_of token_words token
-
--- a token that may become a name: it has the form of one, and is no word of the language
-unfoldable pub new_name_of : List ℕ → Option (List ℕ)
-new_name_of token = if is_language_word token then None else name_of token
-
 -- TOKENS IN ORDER
 
 -- the value that the first token spells, and the tokens after it
@@ -139,10 +114,10 @@ region_of tokens =
 abbrev pub entry_with : ℕ → ℕ → ℕ → RightsSet → Entry
 entry_with f s c r = record { first = f; source = s; count = c; rights = r }
 
--- Each command's name, the tokens after it, and what it requests, where pages have this size and threads these names. A thread's number
--- is below 2^18; the first of the words of a message is its tag.
-abbrev pub commands : PageSize → Names → List (List ℕ × (List (List ℕ) → Option Request))
-commands size names =
+-- Each command's name, the tokens after it, and what it requests, where a new name is read in this way, pages have this size and threads
+-- these names. A thread's number is below 2^18; the first of the words of a message is its tag.
+abbrev pub commands_by : (List ℕ → Option (List ℕ)) → PageSize → Names → List (List ℕ × (List (List ℕ) → Option Request))
+commands_by new_name size names =
     -- thread N SPACE PAGER: root creates a thread of this number, in this space and with this pager
     (codes "thread", (thread_of names ▹ new_space_of names ▹ nil_or_thread_of names ▹ no_more) (λ n space pager. CreateThread n (create_call n space pager)))
     -- setpager N PAGER: root changes a thread's pager
@@ -177,10 +152,40 @@ commands size names =
     -- serve P: a thread is served
     ∷ (codes "serve", (thread_of names ▹ no_more) ServeThread)
     -- name NAME N: a name is given to a thread
-    ∷ (codes "name", (new_name_of ▹ thread_of names ▹ no_more) GiveName)
+    ∷ (codes "name", (new_name ▹ thread_of names ▹ no_more) GiveName)
     -- how many entries the history has
     ∷ (codes "steps", no_more TellSteps)
     ∷ []
+
+-- NEW NAMES
+
+-- the names of all commands, which are the same for each reader of new names, each size and all names
+abbrev pub command_names : List (List ℕ)
+command_names = map (λ row. row.0) (commands_by name_of Kib4 [])
+
+-- the words that have the form of a name, and that stand for themselves in some place of a line or begin a symbolic token
+abbrev pub token_words : List (List ℕ)
+token_words =
+    codes "nil" ∷ codes "any" ∷ codes "new" ∷ codes "all" ∷ codes "none" ∷ codes "never" ∷ codes "zero" ∷ codes "tag" ∷ codes "map" ∷ codes "grant"
+    ∷ codes "rwx" ∷ codes "rw-" ∷ codes "r-x" ∷ codes "r--" ∷ []
+
+-- whether a token is one of these words
+abbrev pub is_one_of : List (List ℕ) → List ℕ → Bool
+is_one_of words token = list_any (λ word. is_word word token) words
+
+-- whether a token is a word of the language
+unfoldable pub is_language_word : List ℕ → Bool
+is_language_word token = if is_one_of command_names token then true else is_one_of token_words token
+
+-- a token that may become a name: it has the form of one, and is no word of the language
+unfoldable pub new_name_of : List ℕ → Option (List ℕ)
+new_name_of token = if is_language_word token then None else name_of token
+
+-- A LINE
+
+-- the commands, where a new name is no word of the language
+abbrev pub commands : PageSize → Names → List (List ℕ × (List (List ℕ) → Option Request))
+commands size names = commands_by new_name_of size names
 
 -- what a name and the tokens after it request, by these rows; or the reason why they cannot be read
 abbrev pub command_in : List (List ℕ × (List (List ℕ) → Option Request)) → List ℕ → List (List ℕ) → Result Request ScriptFault

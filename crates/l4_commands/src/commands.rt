@@ -60,7 +60,15 @@ const REGION: &[u8] = b"region";
 
 const SERVE: &[u8] = b"serve";
 
+const NAME: &[u8] = b"name";
+
 const STEPS: &[u8] = b"steps";
+
+/// The names of all commands.
+pub(crate) const COMMAND_NAMES: &[&[u8]] = &[
+    THREAD, SETPAGER, DELETE, RECV, SEND, IPC, DELEGATE, PART, UNMAP, SHOW, PARENT, FAULT, REGION,
+    SERVE, NAME, STEPS,
+];
 
 /// `N SPACE PAGER`
 #[inline(never)]

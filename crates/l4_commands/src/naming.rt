@@ -4,28 +4,9 @@ ghost use Rattle.std.specs.List.{list_any};
 ghost use Rattle.l4_text.specs.Tokens.{tokens_of};
 ghost use Rattle.l4_commands.specs.Commands.{first_by, is_word, is_language_word, new_name_of};
 
+use crate::commands::COMMAND_NAMES;
 use l4_names::Name;
 use l4_text::next_token;
-
-/// The names of all commands.
-const COMMAND_NAMES: &[&[u8]] = &[
-    b"thread",
-    b"setpager",
-    b"delete",
-    b"recv",
-    b"send",
-    b"ipc",
-    b"delegate",
-    b"part",
-    b"unmap",
-    b"show",
-    b"parent",
-    b"fault",
-    b"region",
-    b"serve",
-    b"name",
-    b"steps",
-];
 
 /// The words that have the form of a name, and that a command accepts as keywords or that begin a symbolic token.
 const TOKEN_WORDS: &[&[u8]] = &[
