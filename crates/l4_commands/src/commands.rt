@@ -73,7 +73,8 @@ pub(crate) const COMMAND_NAMES: &[&[u8]] = &[
 /// `N SPACE PAGER`
 #[inline(never)]
 fn thread<'a>(line: &[u8], names: &Names, call: &'a mut Call) -> Option<Request<'a>>
-    ensures { (size : APageSize) → result ≡ asked size names.now (codes "thread") (tokens_of line.now) }
+    ensures { (size : APageSize)
+        → result ≡ asked size names.now (codes "thread") (tokens_of line.now) }
 {
     let (number, rest) = next_thread(line, names)?;
     let (space, rest) = next_space(rest, names)?;
@@ -87,7 +88,8 @@ fn thread<'a>(line: &[u8], names: &Names, call: &'a mut Call) -> Option<Request<
 /// `N PAGER`
 #[inline(never)]
 fn set_pager<'a>(line: &[u8], names: &Names, call: &'a mut Call) -> Option<Request<'a>>
-    ensures { (size : APageSize) → result ≡ asked size names.now (codes "setpager") (tokens_of line.now) }
+    ensures { (size : APageSize)
+        → result ≡ asked size names.now (codes "setpager") (tokens_of line.now) }
 {
     let (number, rest) = next_thread(line, names)?;
     let (pager, rest) = next_pager(rest, names)?;
@@ -100,7 +102,8 @@ fn set_pager<'a>(line: &[u8], names: &Names, call: &'a mut Call) -> Option<Reque
 /// `N`
 #[inline(never)]
 fn delete(line: &[u8], names: &Names) -> Option<Request<'static>>
-    ensures { (size : APageSize) → result ≡ asked size names.now (codes "delete") (tokens_of line.now) }
+    ensures { (size : APageSize)
+        → result ≡ asked size names.now (codes "delete") (tokens_of line.now) }
 {
     let (number, rest) = next_thread(line, names)?;
     match next_token(rest) {
@@ -144,7 +147,8 @@ fn ipc<'a>(line: &[u8], size: PageSize, names: &Names, call: &'a mut Call) -> Op
 /// `N FIRST COUNT`
 #[inline(never)]
 fn show(line: &[u8], names: &Names) -> Option<Request<'static>>
-    ensures { (size : APageSize) → result ≡ asked size names.now (codes "show") (tokens_of line.now) }
+    ensures { (size : APageSize)
+        → result ≡ asked size names.now (codes "show") (tokens_of line.now) }
 {
     let (number, rest) = next_thread(line, names)?;
     let (first, rest) = next_word(rest)?;
@@ -158,7 +162,8 @@ fn show(line: &[u8], names: &Names) -> Option<Request<'static>>
 /// `N PAGE`
 #[inline(never)]
 fn parent(line: &[u8], names: &Names) -> Option<Request<'static>>
-    ensures { (size : APageSize) → result ≡ asked size names.now (codes "parent") (tokens_of line.now) }
+    ensures { (size : APageSize)
+        → result ≡ asked size names.now (codes "parent") (tokens_of line.now) }
 {
     let (number, rest) = next_thread(line, names)?;
     let (page, rest) = next_word(rest)?;
@@ -171,7 +176,8 @@ fn parent(line: &[u8], names: &Names) -> Option<Request<'static>>
 /// `N TO SOURCE TARGET COUNT RIGHTS`
 #[inline(never)]
 fn delegate(line: &[u8], names: &Names) -> Option<Request<'static>>
-    ensures { (size : APageSize) → result ≡ asked size names.now (codes "delegate") (tokens_of line.now) }
+    ensures { (size : APageSize)
+        → result ≡ asked size names.now (codes "delegate") (tokens_of line.now) }
 {
     let (number, rest) = next_thread(line, names)?;
     let (to, rest) = next_partner(rest, names)?;
@@ -181,7 +187,8 @@ fn delegate(line: &[u8], names: &Names) -> Option<Request<'static>>
 /// `N TO K SOURCE TARGET COUNT RIGHTS`
 #[inline(never)]
 fn part(line: &[u8], names: &Names) -> Option<Request<'static>>
-    ensures { (size : APageSize) → result ≡ asked size names.now (codes "part") (tokens_of line.now) }
+    ensures { (size : APageSize)
+        → result ≡ asked size names.now (codes "part") (tokens_of line.now) }
 {
     let (number, rest) = next_thread(line, names)?;
     let (to, rest) = next_partner(rest, names)?;
@@ -203,7 +210,8 @@ fn unmap<'a>(line: &[u8], size: PageSize, names: &Names, call: &'a mut Call) -> 
 /// `N ADDRESS IP RIGHTS`
 #[inline(never)]
 fn fault<'a>(line: &[u8], names: &Names, call: &'a mut Call) -> Option<Request<'a>>
-    ensures { (size : APageSize) → result ≡ asked size names.now (codes "fault") (tokens_of line.now) }
+    ensures { (size : APageSize)
+        → result ≡ asked size names.now (codes "fault") (tokens_of line.now) }
 {
     let number = read_fault(line, names, call)?;
     Some(Request::Enter(number, LentCall { call }))
@@ -212,7 +220,8 @@ fn fault<'a>(line: &[u8], names: &Names, call: &'a mut Call) -> Option<Request<'
 /// `P FIRST SOURCE COUNT RIGHTS`
 #[inline(never)]
 fn add_region(line: &[u8], names: &Names) -> Option<Request<'static>>
-    ensures { (size : APageSize) → result ≡ asked size names.now (codes "region") (tokens_of line.now) }
+    ensures { (size : APageSize)
+        → result ≡ asked size names.now (codes "region") (tokens_of line.now) }
 {
     let (number, rest) = next_thread(line, names)?;
     let (first, rest) = next_word(rest)?;
@@ -231,7 +240,8 @@ fn add_region(line: &[u8], names: &Names) -> Option<Request<'static>>
 /// `P`
 #[inline(never)]
 fn serve(line: &[u8], names: &Names) -> Option<Request<'static>>
-    ensures { (size : APageSize) → result ≡ asked size names.now (codes "serve") (tokens_of line.now) }
+    ensures { (size : APageSize)
+        → result ≡ asked size names.now (codes "serve") (tokens_of line.now) }
 {
     let (number, rest) = next_thread(line, names)?;
     match next_token(rest) {
@@ -257,7 +267,8 @@ fn give_name(line: &[u8], names: &Names) -> Option<Request<'static>>
 /// No tokens.
 #[inline(never)]
 fn steps(line: &[u8]) -> Option<Request<'static>>
-    ensures { (size : APageSize) (names : AllNames) → result ≡ asked size names (codes "steps") (tokens_of line.now) }
+    ensures { (size : APageSize) (names : AllNames)
+        → result ≡ asked size names (codes "steps") (tokens_of line.now) }
 {
     match next_token(line) {
         None => Some(Request::TellSteps),

@@ -45,7 +45,9 @@ impl Session {
         sink: &mut S,
     )
         ensures { (request : Option Request) → option_map (λ n. Enter n call.now) number ≡ request
-            → (told : List Report) × AnswersLine (state self.old.kernel self.old.servers names.now) line (some_request bytes.now (ok_or request BadTokens)) told (state self.new.kernel self.new.servers names.now)
+            → (told : List Report) × AnswersLine (state self.old.kernel self.old.servers names.now)
+            line (some_request bytes.now (ok_or request BadTokens)) told
+            (state self.new.kernel self.new.servers names.now)
             × AddsAll S.has_told sink.old sink.new told }
     {
         match number {
@@ -72,7 +74,8 @@ pub(crate) struct Script {
 impl Script {
     /// Creates a script of which no line was read.
     pub(crate) fn new(kernel: SeatedKernel, servers: Servers) -> Script
-        ensures { (result.session.kernel ≡ kernel) × (result.session.servers ≡ servers) × (result.names ≡ []) }
+        ensures { (result.session.kernel ≡ kernel) × (result.session.servers ≡ servers)
+            × (result.names ≡ []) }
     {
         Script {
             session: Session::new(kernel, servers),
@@ -110,7 +113,12 @@ impl Script {
         rest: &[u8],
         sink: &mut S,
     )
-        ensures { (told : List Report) × AnswersLine (state self.old.session.kernel self.old.session.servers self.old.names) line (some_request bytes.now (command_of self.old.session.kernel.machine.size self.old.names (name.now ∷ tokens_of rest.now))) told (state self.new.session.kernel self.new.session.servers self.new.names)
+        ensures { (told : List Report)
+            × AnswersLine (state self.old.session.kernel self.old.session.servers self.old.names)
+            line (some_request bytes.now
+            (command_of self.old.session.kernel.machine.size self.old.names
+            (name.now ∷ tokens_of rest.now))) told
+            (state self.new.session.kernel self.new.session.servers self.new.names)
             × AddsAll S.has_told sink.old sink.new told }
     {
         let size = self.session.page_size();
@@ -130,7 +138,12 @@ impl Script {
         rest: &[u8],
         sink: &mut S,
     )
-        ensures { (told : List Report) × AnswersLine (state self.old.session.kernel self.old.session.servers self.old.names) line (some_request bytes.now (command_of self.old.session.kernel.machine.size self.old.names (name.now ∷ tokens_of rest.now))) told (state self.new.session.kernel self.new.session.servers self.new.names)
+        ensures { (told : List Report)
+            × AnswersLine (state self.old.session.kernel self.old.session.servers self.old.names)
+            line (some_request bytes.now
+            (command_of self.old.session.kernel.machine.size self.old.names
+            (name.now ∷ tokens_of rest.now))) told
+            (state self.new.session.kernel self.new.session.servers self.new.names)
             × AddsAll S.has_told sink.old sink.new told }
     {
         let Script {
@@ -160,7 +173,10 @@ impl Script {
     /// Answers a line that ends with a newline, and is not too long.
     #[inline(always)]
     fn answer_whole<S: Sink>(&mut self, line: u64, bytes: &[u8], sink: &mut S)
-        ensures { (told : List Report) × AnswersLine (state self.old.session.kernel self.old.session.servers self.old.names) line (asked_at self.old.session.kernel.machine.size self.old.names Whole bytes.now) told (state self.new.session.kernel self.new.session.servers self.new.names)
+        ensures { (told : List Report)
+            × AnswersLine (state self.old.session.kernel self.old.session.servers self.old.names)
+            line (asked_at self.old.session.kernel.machine.size self.old.names Whole bytes.now) told
+            (state self.new.session.kernel self.new.session.servers self.new.names)
             × AddsAll S.has_told sink.old sink.new told }
     {
         if is_comment(bytes) {
@@ -180,7 +196,10 @@ impl Script {
         bytes: &[u8],
         sink: &mut S,
     )
-        ensures { (told : List Report) × AnswersLine (state self.old.session.kernel self.old.session.servers self.old.names) line (asked_at self.old.session.kernel.machine.size self.old.names ending bytes.now) told (state self.new.session.kernel self.new.session.servers self.new.names)
+        ensures { (told : List Report)
+            × AnswersLine (state self.old.session.kernel self.old.session.servers self.old.names)
+            line (asked_at self.old.session.kernel.machine.size self.old.names ending bytes.now)
+            told (state self.new.session.kernel self.new.session.servers self.new.names)
             × AddsAll S.has_told sink.old sink.new told }
     {
         match ending {

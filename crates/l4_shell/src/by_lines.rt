@@ -45,7 +45,9 @@ impl ScriptRun {
 
     /// Answers the line with this number and this ending.
     pub fn answer_line<S: Sink>(&mut self, line: u64, ending: Ending, bytes: &[u8], sink: &mut S)
-        ensures { (told : List Report) × AnswersLine (state_of self.old) line (asked_at (state_of self.old).session.machine.size (state_of self.old).names ending bytes.now) told (state_of self.new)
+        ensures { (told : List Report) × AnswersLine (state_of self.old) line
+            (asked_at (state_of self.old).session.machine.size (state_of self.old).names ending
+            bytes.now) told (state_of self.new)
             × AddsAll S.has_told sink.old sink.new told }
     {
         self.script.answer_line(line, ending, bytes, sink);

@@ -24,8 +24,10 @@ pub fn record<R: Read, S: Sink>(
 ) -> Option<(History, Result<u64, RunFault>)>
     requires some { 1 ≤ frames }
     requires fit { frames ≤ max_frames }
-    ensures { MatchOption result ((R.remaining reader.new ≡ R.remaining reader.old) × (sink.new ≡ sink.old))
-        (λ r. Records frames size (R.remaining reader.old) (R.remaining reader.new) S.has_told S.closed sink.old sink.new r.0.entries r.1) }
+    ensures { MatchOption result
+        ((R.remaining reader.new ≡ R.remaining reader.old) × (sink.new ≡ sink.old))
+        (λ r. Records frames size (R.remaining reader.old) (R.remaining reader.new) S.has_told
+        S.closed sink.old sink.new r.0.entries r.1) }
 {
     let Some(kernel) = booted(alloc, frames, size) else {
         return None;

@@ -42,7 +42,9 @@ impl Script {
         reader: &mut R,
         sink: &mut S,
     ) -> Result<u64, RunFault>
-        ensures { TellsScript (state self.old.session.kernel self.old.session.servers self.old.names) (state self.new.session.kernel self.new.session.servers self.new.names)
+        ensures { TellsScript
+            (state self.old.session.kernel self.old.session.servers self.old.names)
+            (state self.new.session.kernel self.new.session.servers self.new.names)
             (R.remaining reader.old) (R.remaining reader.new)
             S.has_told S.closed sink.old sink.new result }
     {

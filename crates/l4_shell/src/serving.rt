@@ -128,7 +128,8 @@ impl Session {
     #[inline(never)]
     fn serve<S: Sink>(&mut self, first: u32, thread: u32, sink: &mut S) -> bool
         requires { IsFirstReady self.old.kernel.machine.threads self.old.servers first }
-        ensures { TellsActs (session self.old.kernel self.old.servers) thread result (session self.new.kernel self.new.servers)
+        ensures { TellsActs (session self.old.kernel self.old.servers) thread result
+            (session self.new.kernel self.new.servers)
             S.has_told sink.old sink.new }
     {
         let mut server = first;
@@ -162,7 +163,8 @@ impl Session {
     #[inline(always)]
     pub(crate) fn follow<S: Sink>(&mut self, thread: u32, ended: bool, sink: &mut S)
         ensures { (had : List ℕ) → ended ≡ is_among thread had
-            → (told : List Report) × GoesOn (session self.old.kernel self.old.servers) thread had told (session self.new.kernel self.new.servers)
+            → (told : List Report) × GoesOn (session self.old.kernel self.old.servers) thread had
+            told (session self.new.kernel self.new.servers)
             × AddsAll S.has_told sink.old sink.new told }
     {
         let Some(first) = self.servers.first_ready(self.kernel.kernel()) else {

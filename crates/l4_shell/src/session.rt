@@ -93,7 +93,8 @@ fn tell_parent<S: Sink>(kernel: &Kernel, line: u64, number: u32, page: u32, sink
 /// Reports the number of entries of the history.
 #[inline(never)]
 fn tell_count<S: Sink>(kernel: &mut SeatedKernel, sink: &mut S)
-    ensures { (s : AllServers) → (told : List Report) × TellsCount (session kernel.old s) told (session kernel.new s)
+    ensures { (s : AllServers) → (told : List Report) × TellsCount (session kernel.old s) told
+        (session kernel.new s)
         × AddsAll S.has_told sink.old sink.new told }
 {
     let count = kernel.steps();
@@ -159,8 +160,10 @@ impl Session {
         sink: &mut S,
     ) -> Option<bool>
         ensures told { MatchOption result
-            (TellsRefusal self.old.kernel line thread call.now self.new.kernel S.has_told sink.old sink.new)
-            (λ ended. TellsCall self.old.kernel thread call.now thread ended self.new.kernel S.has_told sink.old sink.new) }
+            (TellsRefusal self.old.kernel line thread call.now self.new.kernel S.has_told sink.old
+            sink.new)
+            (λ ended. TellsCall self.old.kernel thread call.now thread ended self.new.kernel
+            S.has_told sink.old sink.new) }
         ensures servers { self.new.servers ≡ self.old.servers }
     {
         let entered = self
@@ -186,7 +189,9 @@ impl Session {
         call: &Call,
         sink: &mut S,
     )
-        ensures { (told : List Report) × Enters (session self.old.kernel self.old.servers) line thread call.now self.old.servers told (session self.new.kernel self.new.servers)
+        ensures { (told : List Report)
+            × Enters (session self.old.kernel self.old.servers) line thread call.now
+            self.old.servers told (session self.new.kernel self.new.servers)
             × AddsAll S.has_told sink.old sink.new told }
     {
         let Some(ended) = self.enter_and_tell(line, thread, call, sink) else {
@@ -198,7 +203,9 @@ impl Session {
     /// Root creates a thread, whose number has its seat from then on.
     #[inline(never)]
     fn create_thread<S: Sink>(&mut self, line: u64, number: u32, call: &Call, sink: &mut S)
-        ensures { (told : List Report) × Creates (session self.old.kernel self.old.servers) line number call.now told (session self.new.kernel self.new.servers)
+        ensures { (told : List Report)
+            × Creates (session self.old.kernel self.old.servers) line number call.now told
+            (session self.new.kernel self.new.servers)
             × AddsAll S.has_told sink.old sink.new told }
     {
         let Ok(()) = self.kernel.give(number) else {
@@ -210,7 +217,9 @@ impl Session {
     /// Root deletes a thread, which is served no longer and has no table.
     #[inline(never)]
     fn end_thread<S: Sink>(&mut self, line: u64, thread: u32, sink: &mut S)
-        ensures { (told : List Report) × Enters (session self.old.kernel self.old.servers) line root (delete_call thread) (without self.old.servers thread) told (session self.new.kernel self.new.servers)
+        ensures { (told : List Report) × Enters (session self.old.kernel self.old.servers) line root
+            (delete_call thread) (without self.old.servers thread) told
+            (session self.new.kernel self.new.servers)
             × AddsAll S.has_told sink.old sink.new told }
     {
         let call = delete_call(thread);
@@ -226,7 +235,9 @@ impl Session {
     #[inline(never)]
     fn refuse_to_serve<S: Sink>(&mut self, line: u64, thread: u32, sink: &mut S)
         ensures told { (s : AllServers) → is_served s thread ≡ false → (told : List Report)
-            × (Refuses (session self.old.kernel s) line thread waiting told (session self.new.kernel s) ⊎ LacksRoom (session self.old.kernel s) line thread told (session self.new.kernel s))
+            × (Refuses (session self.old.kernel s) line thread waiting told
+            (session self.new.kernel s) ⊎ LacksRoom (session self.old.kernel s) line thread told
+            (session self.new.kernel s))
             × AddsAll S.has_told sink.old sink.new told }
         ensures servers { self.new.servers ≡ self.old.servers }
     {
@@ -240,7 +251,9 @@ impl Session {
     /// Makes a thread receive from any thread, and serves it from then on.
     #[inline(never)]
     fn serve_thread<S: Sink>(&mut self, line: u64, thread: u32, sink: &mut S)
-        ensures { (told : List Report) × ServesThread (session self.old.kernel self.old.servers) line thread told (session self.new.kernel self.new.servers)
+        ensures { (told : List Report)
+            × ServesThread (session self.old.kernel self.old.servers) line thread told
+            (session self.new.kernel self.new.servers)
             × AddsAll S.has_told sink.old sink.new told }
     {
         let Ok(begins) = self.servers.serve(thread) else {
@@ -259,7 +272,8 @@ impl Session {
     /// Adds a region to a thread's table.
     #[inline(never)]
     fn add_region<S: Sink>(&mut self, line: u64, thread: u32, entry: Entry, sink: &mut S)
-        ensures { (told : List Report) × AddsRegion (session self.old.kernel self.old.servers) line thread entry told (session self.new.kernel self.new.servers)
+        ensures { (told : List Report) × AddsRegion (session self.old.kernel self.old.servers) line
+            thread entry told (session self.new.kernel self.new.servers)
             × AddsAll S.has_told sink.old sink.new told }
     {
         let Some(_) = self.kernel.kernel().space_of(thread) else {
@@ -282,7 +296,9 @@ impl Session {
         region: Region,
         sink: &mut S,
     )
-        ensures { (told : List Report) × Delegates (session self.old.kernel self.old.servers) line thread to which region told (session self.new.kernel self.new.servers)
+        ensures { (told : List Report)
+            × Delegates (session self.old.kernel self.old.servers) line thread to which region told
+            (session self.new.kernel self.new.servers)
             × AddsAll S.has_told sink.old sink.new told }
     {
         let size = self.page_size();
@@ -303,7 +319,9 @@ impl Session {
         names: &mut Names,
         sink: &mut S,
     )
-        ensures told { (told : List Report) × CarriesOut names.old (session self.old.kernel self.old.servers) line request.entry told (session self.new.kernel self.new.servers)
+        ensures told { (told : List Report)
+            × CarriesOut names.old (session self.old.kernel self.old.servers) line request.entry
+            told (session self.new.kernel self.new.servers)
             × AddsAll S.has_told sink.old sink.new told }
         ensures names { names.new ≡ names_after names.old request.entry }
     {
