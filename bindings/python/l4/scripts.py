@@ -308,6 +308,16 @@ class Script:
         self.names[name] = number
         yield self._told(f"named {number}")
 
+    def _reply(self, tokens: _Tokens) -> Iterator[Event]:
+        number = tokens.thread()
+        tokens.end()
+        self._space(number)
+        reply = self.kernel.reply(number)
+        if reply is not None:
+            yield self._told(_reply_text(number, reply))
+        else:
+            yield self._told(f"{number} waits" if number in self.calls else f"{number} none")
+
     def _steps(self, tokens: _Tokens) -> Iterator[Event]:
         tokens.end()
         yield self._told(f"steps {self.steps}")
@@ -417,5 +427,6 @@ _COMMANDS: Dict[str, Callable[[Script, _Tokens], Iterator[Event]]] = {
     "show": Script._show,
     "parent": Script._parent,
     "name": Script._name,
+    "reply": Script._reply,
     "steps": Script._steps,
 }

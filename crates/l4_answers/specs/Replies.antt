@@ -38,6 +38,10 @@ numbered_text number rest = decimal number ++ rest ++ newline
 abbrev pub waits_text : ℕ → List ℕ
 waits_text number = numbered_text number (codes " waits")
 
+-- no call of the thread has ended
+abbrev pub none_text : ℕ → List ℕ
+none_text number = numbered_text number (codes " none")
+
 -- a thread by its id: nilthread, or its number
 abbrev pub from_text : ThreadId → List ℕ
 from_text id = if id.0 == 0 then codes "nil" else decimal (number_of id)

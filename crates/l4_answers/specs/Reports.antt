@@ -8,7 +8,7 @@ use Rattle.l4_names.specs.Names.{Names}
 use Rattle.l4_threads.specs.declared.Reply.{Reply}
 use Rattle.l4_answers.specs.Pages.{page_text, shown_text, parent_text}
 use Rattle.l4_answers.specs.Refusals.{Refusal, number_text, refused_text}
-use Rattle.l4_answers.specs.Replies.{newline, numbered_text, transfer_text, expire_text, waits_text, reply_text}
+use Rattle.l4_answers.specs.Replies.{newline, numbered_text, transfer_text, expire_text, waits_text, none_text, reply_text}
 
 -- an answer
 pub data Report : Type 0 where
@@ -26,6 +26,8 @@ pub data Report : Type 0 where
   Waits : ℕ → Report
   -- a thread's call ended; a deleted thread has no reply
   Ended : ℕ → Option Reply → Report
+  -- no call of a thread has ended
+  NoneEnded : ℕ → Report
   -- a page that is present
   Page : ℕ → Mapping → Report
   -- the number of pages that were listed
@@ -60,6 +62,7 @@ report_text (Transferred sender receiver outcome) = transfer_text sender receive
 report_text (TimedOut n) = expire_text n
 report_text (Waits n) = waits_text n
 report_text (Ended n reply) = reply_text n reply
+report_text (NoneEnded n) = none_text n
 report_text (Page page mapping) = page_text page mapping
 report_text (Shown count) = shown_text count
 report_text (Parent mapping) = parent_text mapping

@@ -3,7 +3,7 @@ ghost use Rattle.std.specs.Prelude.{◌≡◌, ◌<◌, ◌≤◌, ◌+◌, ◌+
 ghost use Rattle.l4_ipc.specs.declared.steps.Outcome.TheVariants.{Done};
 ghost use Rattle.l4_threads.specs.declared.Reply.TheVariants.{Ipc, Answered};
 ghost use Rattle.std.specs.Option.{option_copied};
-ghost use Rattle.l4_answers.specs.Replies.{outcome_word, transfer_text, expire_text, waits_text, from_text, space, ipc_head, reply_head, reply_words, reply_text, newline};
+ghost use Rattle.l4_answers.specs.Replies.{outcome_word, transfer_text, expire_text, waits_text, none_text, from_text, space, ipc_head, reply_head, reply_words, reply_text, newline};
 ghost use Rattle.l4_text.specs.Texts.{words_text};
 ghost use Rattle.l4_text.specs.Streams.{Tells};
 ghost use Rattle.l4_text.specs.Sizes.{answer_bytes, held_bytes};
@@ -93,6 +93,14 @@ pub fn put_waits<W: Write>(number: u32, out: &mut Output, writer: &mut W)
 {
     out.make_room(writer);
     add_numbered(out, number, *b" waits\n");
+}
+
+/// Writes `N none`.
+pub fn put_none<W: Write>(number: u32, out: &mut Output, writer: &mut W)
+    ensures { Tells (W.contents writer.old) (W.contents writer.new) out.old out.new (none_text number) }
+{
+    out.make_room(writer);
+    add_numbered(out, number, *b" none\n");
 }
 
 /// Adds a thread's number after a space, or `nil`.

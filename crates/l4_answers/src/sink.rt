@@ -3,7 +3,7 @@ ghost use Rattle.std.specs.Prelude.{◌≡◌, List, Bool, OnOk, IfErr};
 ghost use Rattle.std.specs.Option.{option_copied};
 ghost use Rattle.l4_ipc.specs.declared.steps.Refused.TheVariants.{UnknownThread};
 ghost use Rattle.l4_answers.specs.Refusals.{kernel_refusal};
-ghost use Rattle.l4_answers.specs.Reports.{Report, RefusedLine, UnreadLine, RefusedAct, Transferred, TimedOut, Waits, Ended, Page, Shown, Parent, AddedRegion, Named, StepCount, Adds, Keeps, AllOut};
+ghost use Rattle.l4_answers.specs.Reports.{Report, RefusedLine, UnreadLine, RefusedAct, Transferred, TimedOut, Waits, Ended, NoneEnded, Page, Shown, Parent, AddedRegion, Named, StepCount, Adds, Keeps, AllOut};
 
 use crate::refusals::{Code, refused_code};
 use l4_fpage::PageSize;
@@ -63,6 +63,10 @@ pub trait Sink {
     /// Reports how a thread's call ended. A thread that is gone has no reply.
     fn ended(&mut self, number: u32, reply: Option<&Reply>)
         ensures { Adds has_told self.old self.new (Ended number (option_copied reply.entry)) };
+    /// Reports that no call of a thread has ended.
+    fn none_ended(&mut self, number: u32)
+        ensures { Adds has_told self.old self.new (NoneEnded number) };
+
     /// Reports a page that is present.
     fn page(&mut self, page: u32, mapping: &Mapping)
         ensures { Adds has_told self.old self.new (Page page mapping.now) };

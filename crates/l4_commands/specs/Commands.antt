@@ -18,7 +18,7 @@ use Rattle.l4_commands.specs.declared.partners.NewSpace.{NewSpace}
 use Rattle.l4_commands.specs.declared.partners.NewSpace.TheVariants.{New, Of}
 use Rattle.l4_commands.specs.declared.requests.Which.TheVariants.{Only, Message}
 use Rattle.l4_commands.specs.declared.requests.Request.{Request}
-use Rattle.l4_commands.specs.declared.requests.Request.TheVariants.{Enter, CreateThread, EndThread, SendPlan, ListPages, TellParent, AddRegion, ServeThread, GiveName, TellSteps}
+use Rattle.l4_commands.specs.declared.requests.Request.TheVariants.{Enter, CreateThread, EndThread, SendPlan, ListPages, TellParent, AddRegion, ServeThread, GiveName, TellReply, TellSteps}
 use Rattle.l4_commands.specs.Calls.{create_call, set_pager_call, receive_call, send_call, ipc_call, unmap_call, fault_call, root}
 use Rattle.l4_commands.specs.declared.commands.ScriptFault.{ScriptFault}
 use Rattle.l4_commands.specs.declared.commands.ScriptFault.TheVariants.{UnknownCommand, BadTokens}
@@ -153,6 +153,8 @@ commands_by new_name size names =
     ∷ (codes "serve", (thread_of names ▹ no_more) ServeThread)
     -- name NAME N: a name is given to a thread
     ∷ (codes "name", (new_name ▹ thread_of names ▹ no_more) GiveName)
+    -- reply N: how the last call of a thread ended, or that it has not ended
+    ∷ (codes "reply", (thread_of names ▹ no_more) TellReply)
     -- how many entries the history has
     ∷ (codes "steps", no_more TellSteps)
     ∷ []

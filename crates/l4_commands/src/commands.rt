@@ -62,12 +62,14 @@ const SERVE: &[u8] = b"serve";
 
 const NAME: &[u8] = b"name";
 
+const REPLY: &[u8] = b"reply";
+
 const STEPS: &[u8] = b"steps";
 
 /// The names of all commands.
 pub(crate) const COMMAND_NAMES: &[&[u8]] = &[
     THREAD, SETPAGER, DELETE, RECV, SEND, IPC, DELEGATE, PART, UNMAP, SHOW, PARENT, FAULT, REGION,
-    SERVE, NAME, STEPS,
+    SERVE, NAME, REPLY, STEPS,
 ];
 
 /// `N SPACE PAGER`
@@ -264,6 +266,19 @@ fn give_name(line: &[u8], names: &Names) -> Option<Request<'static>>
     }
 }
 
+/// `N`
+#[inline(never)]
+fn reply(line: &[u8], names: &Names) -> Option<Request<'static>>
+    ensures { (size : APageSize)
+        → result ≡ asked size names.now (codes "reply") (tokens_of line.now) }
+{
+    let (number, rest) = next_thread(line, names)?;
+    match next_token(rest) {
+        None => Some(Request::TellReply(number)),
+        Some(_) => None,
+    }
+}
+
 /// No tokens.
 #[inline(never)]
 fn steps(line: &[u8]) -> Option<Request<'static>>
@@ -276,8 +291,8 @@ fn steps(line: &[u8]) -> Option<Request<'static>>
     }
 }
 
-/// Reads a command of page faults, pagers, names or the history, from its name and its tokens. If it enters a call, writes the call into
-/// the buffer.
+/// Reads a command of page faults, pagers, names, replies or the history, from its name and its tokens. If it enters a call, writes the
+/// call into the buffer.
 fn pager_command<'a>(
     name: &[u8],
     rest: &[u8],
@@ -298,6 +313,9 @@ fn pager_command<'a>(
     }
     if is_name(name) {
         return give_name(rest, names).ok_or(ScriptFault::BadTokens);
+    }
+    if name == REPLY {
+        return reply(rest, names).ok_or(ScriptFault::BadTokens);
     }
     if name == STEPS {
         return steps(rest).ok_or(ScriptFault::BadTokens);

@@ -81,6 +81,8 @@ pub enum Request<'a> {
     ServeThread(u32),
     /// Gives the name to the thread.
     GiveName(Name, u32),
+    /// Prints how the thread's last call ended, or that it has not ended.
+    TellReply(u32),
     /// Prints the number of entries of the history.
     TellSteps,
 }

@@ -281,6 +281,8 @@ lines that begin with #, are skipped.
                          thread. NAME is a letter and then letters, digits or
                          hyphens, at most 24 in all, and no word of the language.
                          A script has at most 64 names
+  reply N                prints how the last call of N ended, or that it has not
+                         ended
   steps                  prints the number of steps so far: calls that started,
                          transfers and expiries
 
@@ -324,6 +326,7 @@ In answers, TAG and WORD are hexadecimal without the prefix.
                                    or no-memory
   expire N                         a zero timeout of N expired
   N waits                          the call blocks until a later line ends it
+  N none                           no call of N has ended yet (for reply N)
   page P frame F RIGHTS            a page that show lists. Then shown K gives the
                                    number of these pages
   parent SPACE PAGE                the parent of the page, with the number of its

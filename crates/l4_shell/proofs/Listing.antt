@@ -17,9 +17,9 @@ use Rattle.std.specs.Prelude.{MatchOption}
 use Rattle.l4_answers.specs.Refusals.{kernel_refusal}
 use Rattle.l4_ipc.specs.declared.steps.Refused.TheVariants.{UnknownThread}
 use Rattle.l4_commands.specs.declared.requests.Request.{Request}
-use Rattle.l4_commands.specs.declared.requests.Request.TheVariants.{TellParent, GiveName, TellSteps}
+use Rattle.l4_commands.specs.declared.requests.Request.TheVariants.{TellParent, GiveName, TellReply, TellSteps}
 use Rattle.l4_names.specs.Names.{Names}
-use Rattle.l4_shell.specs.Sessions.{place_in, place_reports, ListsBelow, ListsPages, Shows, parent_answer, Session, TellsCount, naming_report, CarriesOut}
+use Rattle.l4_shell.specs.Sessions.{place_in, place_reports, ListsBelow, ListsPages, Shows, parent_answer, reply_answer, Session, TellsCount, naming_report, CarriesOut}
 use Rattle.l4_answers.proofs.Adding.{adds_more, adds_is}
 
 below_or : (a b : ℕ) → (a < b) ⊎ (b ≤ a)
@@ -138,6 +138,15 @@ carries_parent has_told names m read line thread page request before t is same t
   parent_answer m.machine line thread page ∷ [],
   subst (λ (r : Request). CarriesOut names m line r (parent_answer m.machine line thread page ∷ []) m) (sym is) (refl, refl),
   subst (λ (x : Machine). AddsAll has_told before t (parent_answer x line thread page ∷ [])) same tells,
+)
+
+-- how a thread's last call ended was told, and nothing else was done
+pub carries_reply : {T : Type 0} (has_told : T → T → List Report → Type 0) (names : Names) (m : Session) (read : Machine) (line thread : ℕ) (request : Request) (before t : T) → request ≡ TellReply thread → read ≡ m.machine
+    → AddsAll has_told before t (reply_answer read line thread ∷ []) → (told : List Report) × CarriesOut names m line request told m × AddsAll has_told before t told
+carries_reply has_told names m read line thread request before t is same tells = (
+  reply_answer m.machine line thread ∷ [],
+  subst (λ (r : Request). CarriesOut names m line r (reply_answer m.machine line thread ∷ []) m) (sym is) (refl, refl),
+  subst (λ (x : Machine). AddsAll has_told before t (reply_answer x line thread ∷ [])) same tells,
 )
 
 -- how many entries there are was told

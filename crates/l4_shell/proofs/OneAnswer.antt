@@ -5,7 +5,8 @@ use Rattle.std.specs.List.{flat_map}
 use Rattle.std.specs.Option.{option_map_or}
 use Rattle.l4_mapdb.specs.Mappings.{shown}
 use Rattle.l4_mapdb.specs.declared.Mapping.{Mapping}
-use Rattle.l4_threads.specs.Threads.{space_of}
+use Rattle.l4_threads.specs.Threads.{space_of, runs}
+use Rattle.l4_threads.specs.declared.Reply.{Reply}
 use Rattle.l4_pager.specs.declared.regions.Entry.{Entry}
 use Rattle.l4_ipc.specs.declared.calls.Call.{Call}
 use Rattle.l4_ipc.specs.declared.steps.Step.{Step}
@@ -16,16 +17,16 @@ use Rattle.l4_ipc.specs.Machine.{Machine}
 use Rattle.l4_ipc.specs.Reading.{reply_of}
 use Rattle.l4_ipc.specs.Following.{Done}
 use Rattle.l4_answers.specs.Refusals.{Refusal, kernel_refusal}
-use Rattle.l4_answers.specs.Reports.{Report, RefusedLine, UnreadLine, Named, Ended, Page, Shown, Parent, refused_line, has_refusal}
+use Rattle.l4_answers.specs.Reports.{Report, RefusedLine, UnreadLine, Named, Ended, Page, Shown, Parent, Waits, refused_line, has_refusal}
 use Rattle.l4_names.specs.Names.{Names, given}
 use Rattle.l4_record.specs.Seated.{is_among, with_number}
 use Rattle.l4_servers.specs.Servers.{Servers, RegionFails}
 use Rattle.l4_commands.specs.declared.requests.Request.{Request}
-use Rattle.l4_commands.specs.declared.requests.Request.TheVariants.{Enter, CreateThread, EndThread, SendPlan, ListPages, TellParent, AddRegion, ServeThread, GiveName, TellSteps}
+use Rattle.l4_commands.specs.declared.requests.Request.TheVariants.{Enter, CreateThread, EndThread, SendPlan, ListPages, TellParent, AddRegion, ServeThread, GiveName, TellReply, TellSteps}
 use Rattle.l4_shell.specs.Refusals.{script_refusal, plan_refusal, too_many_names, lacks_memory, call_refusal, region_refusal}
 use Rattle.l4_commands.specs.Requests.{Unread}
 use Rattle.l4_shell.specs.Scripts.{IsOneAnswer}
-use Rattle.l4_shell.specs.Sessions.{Session, State, own_report, ended_reports, done_reports, ended_in, waiting_reports, steps_in, StopsActing, Follows, RefusesLine, RefusesFor, Enters, RegionAdded, place_in, place_reports, ListsPages, CarriesOut, AnswersLine}
+use Rattle.l4_shell.specs.Sessions.{Session, State, own_report, ended_reports, done_reports, ended_in, waiting_reports, steps_in, StopsActing, Follows, RefusesLine, RefusesFor, Enters, RegionAdded, place_in, place_reports, ListsPages, ended_answer, CarriesOut, AnswersLine}
 
 or_none : (a b c : Bool) → (a || b) ≡ false → (b ≡ false → c ≡ false) → (a || c) ≡ false
 or_none true b c h f = h
@@ -101,6 +102,19 @@ parent_one : (o : Option ℕ) (m : Machine) (line page : ℕ) (told : List Repor
 parent_one None m line page told s = inr (RefusedLine line (kernel_refusal UnknownThread), refl, s)
 parent_one (Some space) m line page told s = inl (ap has_refusal s)
 
+ended_none : (thread : ℕ) (reply : Option Reply) → has_refusal (ended_answer thread reply ∷ []) ≡ false
+ended_none thread None = refl
+ended_none thread (Some reply) = refl
+
+running_none : (running : Bool) (thread : ℕ) (reply : Option Reply) → has_refusal (cond running (ended_answer thread reply) (Waits thread) ∷ []) ≡ false
+running_none true thread reply = ended_none thread reply
+running_none false thread reply = refl
+
+reply_one : (o : Option ℕ) (m : Machine) (line thread : ℕ) (told : List Report)
+    → told ≡ option_map_or (λ space. cond (runs m.threads thread) (ended_answer thread (reply_of m.threads thread)) (Waits thread)) o (RefusedLine line (kernel_refusal UnknownThread)) ∷ [] → IsOneAnswer line told
+reply_one None m line thread told s = inr (RefusedLine line (kernel_refusal UnknownThread), refl, s)
+reply_one (Some space) m line thread told s = inl (ap has_refusal s ∙ running_none (runs m.threads thread) thread (reply_of m.threads thread))
+
 -- LINES
 
 adds_one : (o : Option ℕ) (old : Session) (line thread : ℕ) (entry : Entry) (told : List Report) (new : Session)
@@ -134,6 +148,7 @@ carries_one names old line (ServeThread thread) told new c = elim c [
   | inr more ↦ elim more [ inl r ↦ for_one _ call_refusal old line told new r | inr lacks ↦ line_one old line lacks_memory told new lacks.lacks ]
 ]
 carries_one names old line (GiveName name thread) told new c = naming_one (is_some (given names name thread)) line thread told c.0
+carries_one names old line (TellReply thread) told new c = reply_one (space_of old.machine.threads thread) old.machine line thread told c.0
 carries_one names old line TellSteps told new c = inl (ap has_refusal c.3)
 
 pub one_answer : (old : State) (line : ℕ) (asked : Result (Option Request) Unread) (told : List Report) (new : State) → AnswersLine old line asked told new → IsOneAnswer line told

@@ -6,7 +6,8 @@ use Rattle.l4_fpage.specs.Pages.{space_pages}
 use Rattle.l4_fpage.specs.declared.sizes.PageSize.{PageSize}
 use Rattle.l4_mapdb.specs.Mappings.{shown, IsPresent}
 use Rattle.l4_mapdb.specs.declared.Place.{Place}
-use Rattle.l4_threads.specs.Threads.{space_of}
+use Rattle.l4_threads.specs.Threads.{space_of, runs}
+use Rattle.l4_threads.specs.declared.Reply.{Reply}
 use Rattle.l4_ipc.specs.declared.calls.Call.{Call}
 use Rattle.l4_ipc.specs.declared.steps.Step.{Step}
 use Rattle.l4_ipc.specs.declared.steps.Step.TheVariants.{Start, Transfer, Expire}
@@ -20,8 +21,8 @@ use Rattle.l4_record.specs.declared.entries.Entry.{Entry as HistoryEntry}
 use Rattle.l4_record.specs.declared.refusals.RecordRefusal.{RecordRefusal}
 use Rattle.l4_record.specs.Seated.{Seated, is_among, with_number, CanEnter, MayEnter, Refuses as RefusesCall}
 use Rattle.l4_commands.specs.declared.requests.Request.{Request}
-use Rattle.l4_commands.specs.declared.requests.Request.TheVariants.{Enter, CreateThread, EndThread, SendPlan, ListPages, TellParent, AddRegion, ServeThread, GiveName, TellSteps}
-use Rattle.l4_answers.specs.Reports.{Report, RefusedLine, UnreadLine, RefusedAct, Transferred, TimedOut, Waits, Ended, Page, Shown, Parent, AddedRegion, Named, StepCount, AddsAll}
+use Rattle.l4_commands.specs.declared.requests.Request.TheVariants.{Enter, CreateThread, EndThread, SendPlan, ListPages, TellParent, AddRegion, ServeThread, GiveName, TellReply, TellSteps}
+use Rattle.l4_answers.specs.Reports.{Report, RefusedLine, UnreadLine, RefusedAct, Transferred, TimedOut, Waits, Ended, NoneEnded, Page, Shown, Parent, AddedRegion, Named, StepCount, AddsAll}
 use Rattle.l4_answers.specs.Refusals.{Refusal, kernel_refusal}
 use Rattle.l4_shell.specs.Refusals.{script_refusal, plan_refusal, too_many_names, lacks_memory, call_refusal, region_refusal}
 use Rattle.l4_names.specs.Names.{Names, given, after_giving}
@@ -251,6 +252,19 @@ abbrev pub parent_answer : Machine → ℕ → ℕ → ℕ → Report
 parent_answer m line thread page =
     option_map_or (λ space. Parent (shown m.mappings (place_in space page))) (space_of m.threads thread) (RefusedLine line (kernel_refusal UnknownThread))
 
+-- REPLIES
+
+-- how the last call of a running thread ended, or that no call of it has ended
+abbrev pub ended_answer : ℕ → Option Reply → Report
+ended_answer thread None = NoneEnded thread
+ended_answer thread (Some reply) = Ended thread (Some reply)
+
+-- how the last call of a thread ended, or that it has not ended; a thread that does not exist is refused
+abbrev pub reply_answer : Machine → ℕ → ℕ → Report
+reply_answer m line thread =
+    option_map_or (λ space. if runs m.threads thread then ended_answer thread (reply_of m.threads thread) else Waits thread)
+    (space_of m.threads thread) (RefusedLine line (kernel_refusal UnknownThread))
+
 -- COUNTS
 
 -- The number of entries of the history, as its board has it. All that is known about this number is that it is not below the number that
@@ -282,6 +296,7 @@ CarriesOut names old line (TellParent thread page) told new = (told ≡ parent_a
 CarriesOut names old line (AddRegion thread entry) told new = AddsRegion old line thread entry told new
 CarriesOut names old line (ServeThread thread) told new = ServesThread old line thread told new
 CarriesOut names old line (GiveName name thread) told new = (told ≡ naming_report names line name thread ∷ []) × (new ≡ old)
+CarriesOut names old line (TellReply thread) told new = (told ≡ reply_answer old.machine line thread ∷ []) × (new ≡ old)
 CarriesOut names old line TellSteps told new = TellsCount old told new
 
 -- the state of a script between two lines: its session, and the names of its threads

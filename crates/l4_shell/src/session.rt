@@ -1,7 +1,7 @@
 //! A script's kernel and its servers, and the execution of a line's request on them.
 ghost use Rattle.std.specs.Prelude.{◌≡◌, ◌⊎◌, ◌∷◌, List, [], false, MatchOption};
 ghost use Rattle.l4_answers.specs.Reports.{Report, AddsAll};
-ghost use Rattle.l4_shell.specs.Sessions.{session, Enters, Creates, ServesThread, AddsRegion, place_reports, ListsBelow, Shows, parent_answer, Delegates, TellsCount, CarriesOut, naming_report, names_after, Refuses, LacksRoom};
+ghost use Rattle.l4_shell.specs.Sessions.{session, Enters, Creates, ServesThread, AddsRegion, place_reports, ListsBelow, Shows, parent_answer, reply_answer, Delegates, TellsCount, CarriesOut, naming_report, names_after, Refuses, LacksRoom};
 ghost use Rattle.l4_shell.specs.Inside.Telling.{TellsCall, TellsRefusal};
 ghost use Rattle.l4_pager.specs.Serving.{waiting};
 ghost use Rattle.l4_servers.specs.Servers.{Servers as AllServers, is_served, without};
@@ -88,6 +88,24 @@ fn tell_parent<S: Sink>(kernel: &Kernel, line: u64, number: u32, page: u32, sink
         return sink.unknown_thread(line);
     };
     sink.parent(kernel.mapping(space, page));
+}
+
+/// Reports how the last call of a thread ended, or that it has not ended.
+#[inline(never)]
+fn tell_reply<S: Sink>(kernel: &Kernel, line: u64, number: u32, sink: &mut S)
+    ensures { AddsAll S.has_told sink.old sink.new
+        (reply_answer kernel.now line number ∷ []) }
+{
+    let Some(_) = kernel.space_of(number) else {
+        return sink.unknown_thread(line);
+    };
+    if !kernel.runs(number) {
+        return sink.waits(number);
+    }
+    let Some(reply) = kernel.reply(number) else {
+        return sink.none_ended(number);
+    };
+    sink.ended(number, Some(reply));
 }
 
 /// Reports the number of entries of the history.
@@ -343,6 +361,7 @@ impl Session {
             Request::AddRegion(thread, entry) => self.add_region(line, thread, entry, sink),
             Request::ServeThread(thread) => self.serve_thread(line, thread, sink),
             Request::GiveName(name, number) => give_name(line, name, number, names, sink),
+            Request::TellReply(thread) => tell_reply(self.kernel.kernel(), line, thread, sink),
             Request::TellSteps => tell_count(&mut self.kernel, sink),
         }
     }

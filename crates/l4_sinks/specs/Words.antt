@@ -9,7 +9,7 @@ use Rattle.l4_threads.specs.declared.IpcReply.{IpcReply}
 use Rattle.l4_threads.specs.declared.Reply.{Reply}
 use Rattle.l4_threads.specs.declared.Reply.TheVariants.{Ipc, Hit, Answered, FaultFailed, Unmapped, Controlled, Gone}
 use Rattle.l4_answers.specs.Refusals.{Refusal}
-use Rattle.l4_answers.specs.Reports.{Report, RefusedLine, UnreadLine, RefusedAct, Transferred, TimedOut, Waits, Ended, Page, Shown, Parent, AddedRegion, Named, StepCount}
+use Rattle.l4_answers.specs.Reports.{Report, RefusedLine, UnreadLine, RefusedAct, Transferred, TimedOut, Waits, Ended, NoneEnded, Page, Shown, Parent, AddedRegion, Named, StepCount}
 use Rattle.l4_names.specs.Names.{Names}
 use Rattle.l4_refusals.specs.Texts.{texts, text_in, spelled}
 use Rattle.l4_reasons.specs.Reasons.{line_says, token_says, symbol_says, missing_says}
@@ -102,6 +102,9 @@ expired_says = codes "the thread's zero timeout expired"
 unfoldable pub waits_says : List ℕ
 waits_says = codes "the call blocks until a later line ends it"
 
+unfoldable pub none_says : List ℕ
+none_says = codes "no call of this thread has ended yet"
+
 unfoldable pub page_says : List ℕ
 page_says = codes "a present page, its frame and its rights: r to read, w to write, x to execute"
 
@@ -173,6 +176,7 @@ says (Transferred sender receiver outcome) = transfer_says outcome
 says (TimedOut thread) = expired_says
 says (Waits thread) = waits_says
 says (Ended thread reply) = reply_says reply
+says (NoneEnded thread) = none_says
 says (Page page mapping) = page_says
 says (Shown count) = shown_says
 says (Parent mapping) = parent_says mapping

@@ -1,6 +1,6 @@
 //! What answers mean, each in a sentence.
 ghost use Rattle.std.specs.Prelude.{◌≡◌, ◌≤◌, length, bytes_eq};
-ghost use Rattle.l4_sinks.specs.Words.{transfer_says, origin_says, parent_says, failed_says, ipc_says, gone_says, reply_says, code_says, number_name, kind_says, expected_says, expired_says, waits_says, page_says, shown_says, region_says, named_says, steps_says};
+ghost use Rattle.l4_sinks.specs.Words.{transfer_says, origin_says, parent_says, failed_says, ipc_says, gone_says, reply_says, code_says, number_name, kind_says, expected_says, expired_says, waits_says, none_says, page_says, shown_says, region_says, named_says, steps_says};
 
 use crate::stops::Expected;
 use l4_commands::TokenKind;
@@ -146,6 +146,15 @@ pub(crate) fn waits_says() -> &'static [u8]
     ensures short { length result.now ≤ 160 }
 {
     b"the call blocks until a later line ends it"
+}
+
+/// The meaning of a `none` line.
+#[tactic(auto, unfolding(crate::specs::Words::none_says))]
+pub(crate) fn none_says() -> &'static [u8]
+    ensures says { result.now ≡ none_says }
+    ensures short { length result.now ≤ 160 }
+{
+    b"no call of this thread has ended yet"
 }
 
 /// The meaning of a `page` line.

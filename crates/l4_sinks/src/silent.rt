@@ -91,6 +91,8 @@ impl Sink for Silent {
 
     fn ended(&mut self, number: u32, reply: Option<&Reply>) {}
 
+    fn none_ended(&mut self, number: u32) {}
+
     fn page(&mut self, page: u32, mapping: &Mapping) {}
 
     fn shown(&mut self, count: u32) {}

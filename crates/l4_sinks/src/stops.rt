@@ -143,7 +143,7 @@ fn of_kinds(kinds: &'static [TokenKind], rest: Rest) -> Option<Form>
     Some(Form { kinds, rest })
 }
 
-/// The tokens of a command of pagers, of names or of the history.
+/// The tokens of a command of pagers, of names, of replies or of the history.
 fn pager_form(name: &[u8]) -> Option<Form>
     ensures form { option_map shape_in result ≡ pager_shape_of name.now }
     ensures few { IfSome result (λ f. length f.kinds.now ≤ 10) }
@@ -159,6 +159,9 @@ fn pager_form(name: &[u8]) -> Option<Form>
     }
     if is(name, b"name") {
         return of_kinds(NAME_KINDS, Rest::Nothing);
+    }
+    if is(name, b"reply") {
+        return of_kinds(ONE_THREAD, Rest::Nothing);
     }
     if is(name, b"steps") {
         return of_kinds(&[], Rest::Nothing);

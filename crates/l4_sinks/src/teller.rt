@@ -12,13 +12,13 @@ ghost use Rattle.l4_sinks.specs.Inside.Tellers.{HasReported, HasWritten, is_over
 
 use crate::reasons::{act_reason, refusal_reason, unread_reason};
 use crate::sentences::{
-    expired_says, gone_says, known_says, named_says, page_says, parent_says, region_says,
-    shown_says, steps_says, transfer_says, waits_says,
+    expired_says, gone_says, known_says, named_says, none_says, page_says, parent_says,
+    region_says, shown_says, steps_says, transfer_says, waits_says,
 };
 use arrayvec::ArrayVec;
 use l4_answers::{
-    Code, Sink, put_expire, put_named, put_page, put_parent, put_refused_act, put_refused_line,
-    put_region, put_reply, put_shown, put_steps, put_transfer, put_waits,
+    Code, Sink, put_expire, put_named, put_none, put_page, put_parent, put_refused_act,
+    put_refused_line, put_region, put_reply, put_shown, put_steps, put_transfer, put_waits,
 };
 use l4_decode::put_message;
 use l4_fpage::PageSize;
@@ -347,6 +347,12 @@ impl<W: Write> Sink for Teller<W> {
             None => put_reply(number, reply, &mut self.out, &mut self.writer),
             Some(size) => put_explained_reply(number, reply, size, &mut self.out, &mut self.writer),
         }
+    }
+
+    #[inline(never)]
+    fn none_ended(&mut self, number: u32) {
+        put_none(number, &mut self.out, &mut self.writer);
+        say(self.explains, none_says(), &mut self.out, &mut self.writer);
     }
 
     #[inline(always)]

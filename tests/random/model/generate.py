@@ -13,9 +13,9 @@ NEVER, SEND_AT_ONCE, RECEIVE_AT_ONCE = 0, 0x04000000, 0x0400
 LONGEST_MESSAGE = 31
 # how many tokens after a command's name stand for threads
 THREAD_PLACES = {"thread": 3, "setpager": 2, "delete": 1, "recv": 2, "send": 2, "ipc": 3, "delegate": 2, "part": 2, "unmap": 1, "show": 1, "parent": 1,
-                 "fault": 1, "region": 1, "serve": 1}
+                 "fault": 1, "region": 1, "serve": 1, "reply": 1}
 COMMON_NAMES = ["pager", "a", "B", "worker-1", "Worker-1", "x" * 24]
-OTHER_NAMES = ["nil", "any", "new", "all", "none", "never", "zero", "tag", "map", "grant", "rwx", "r--", "-w-", "send", "name", "steps", "x" * 25, "4", "a_b",
+OTHER_NAMES = ["nil", "any", "new", "all", "none", "never", "zero", "tag", "map", "grant", "rwx", "r--", "-w-", "send", "name", "reply", "steps", "x" * 25, "4", "a_b",
                "1a", "a:b", "-", "a-", "sends", "Nil", "r-w", "rwxr", "sigma0", "root"]
 MOST_REFUSALS = 30
 
@@ -493,8 +493,8 @@ class ScriptMaker(Maker):
         if random.random() < 0.01:
             return random.choice(["", "  ", "# a comment", "frob 1", "show 1 0", "send 1", "recv 1 any 0x20", "parent 1 4294967296", "thread 0 new nil"])
         number = self.running()
-        kinds = ["send", "recv", "ipc", "unmap", "fault", "thread", "setpager", "delete", "delegate", "part", "region", "serve", "show", "parent"]
-        kind = random.choices(kinds, [22, 14, 14, 8, 8, 6, 2, 3, 6, 3, 3, 3, 2, 2])[0]
+        kinds = ["send", "recv", "ipc", "unmap", "fault", "thread", "setpager", "delete", "delegate", "part", "region", "serve", "show", "parent", "reply"]
+        kind = random.choices(kinds, [22, 14, 14, 8, 8, 6, 2, 3, 6, 3, 3, 3, 2, 2, 2])[0]
         return getattr(self, "any_" + kind)(number)
 
     def freeing_line(self):
@@ -580,6 +580,9 @@ class ScriptMaker(Maker):
 
     def any_parent(self, number):
         return f"parent {number} {self.page_of(number)}"
+
+    def any_reply(self, _):
+        return f"reply {self.thread()}"
 
     # plans
 

@@ -345,6 +345,17 @@ class Shell:
         self.names[name] = number
         self.out.append(f"named {number}")
 
+    def do_reply(self, tokens):
+        number = tokens.thread()
+        tokens.end()
+        thread = self.known(number)
+        if thread.phase is not None:
+            self.out.append(f"{number} waits")
+        elif thread.reply is None:
+            self.out.append(f"{number} none")
+        else:
+            self.out.append(f"{number} {reply_text(thread.reply)}")
+
     def do_steps(self, tokens):
         tokens.end()
         self.out.append(f"steps {self.steps}")
@@ -417,7 +428,7 @@ class Shell:
 
     def questions(self):
         """Returns the lines that query everything that is visible."""
-        lines = ["steps"]
+        lines = ["steps", *(f"reply {number}" for number in sorted(self.machine.threads))]
         told = set()
         for number in sorted(self.machine.threads):
             space = self.machine.threads[number].space

@@ -5,6 +5,6 @@ use Rattle.l4_names.specs.Names.{Names}
 use Rattle.l4_commands.specs.Commands.{commands}
 use Rattle.l4_commands.specs.declared.requests.Request.{Request}
 
--- the rows of page faults, of pagers, of names and of the history
+-- the rows of page faults, of pagers, of names, of replies and of the history
 abbrev pub pager_commands : PageSize → Names → List (List ℕ × (List (List ℕ) → Option Request))
 pager_commands size names = drop 11 (commands size names)

@@ -14,4 +14,7 @@ pub returns-then-is_name : goal.returns-then-is_name
 returns-then-is_name c = λ size. let e = c.give_name.ensures size in search rules
 
 pub returns-then-eq-3 : goal.returns-then-eq-3
-returns-then-eq-3 c = λ size. let e = c.steps.ensures size c.args.names.now in search rules
+returns-then-eq-3 c = λ size. let e = c.reply.ensures size in search rules
+
+pub returns-then-eq-4 : goal.returns-then-eq-4
+returns-then-eq-4 c = λ size. let e = c.steps.ensures size c.args.names.now in search rules
