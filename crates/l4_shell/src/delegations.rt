@@ -64,11 +64,6 @@ pub(crate) fn plan_words(
             Ok(words) => Ok(words),
             Err(refusal) => Err(refusal),
         },
-        Err(PlanRefusal::Empty) => Err(PlanRefusal::Empty),
-        Err(PlanRefusal::OutOfSpace) => Err(PlanRefusal::OutOfSpace),
-        Err(PlanRefusal::NoRights) => Err(PlanRefusal::NoRights),
-        Err(PlanRefusal::TooLong(pages)) => Err(PlanRefusal::TooLong(pages)),
-        Err(PlanRefusal::Several(messages)) => Err(PlanRefusal::Several(messages)),
-        Err(PlanRefusal::NoPart(messages)) => Err(PlanRefusal::NoPart(messages)),
+        Err(refusal) => Err(refusal),
     }
 }
