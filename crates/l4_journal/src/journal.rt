@@ -116,6 +116,14 @@ impl<T: FromWords> Journal<T> {
     {
         self.store.push(head, tail);
     }
+
+    /// Removes all items. The room for further items stays, and so does the memory.
+    pub fn clear(&mut self)
+        ensures items { self.new.items ≡ [] }
+        ensures room { self.old.room ≡ self.new.room + length self.old.items }
+    {
+        self.store.clear();
+    }
 }
 
 /// An iterator over items of a journal. Contracts see the items that are left.

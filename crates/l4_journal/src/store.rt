@@ -131,4 +131,14 @@ impl Store {
         put_parts(&mut self.words, head, tail);
         self.ends.push_reserved(self.words.len() as u32);
     }
+
+    /// Removes all records. The room for further records stays.
+    pub fn clear(&mut self)
+        ensures records { self.new.records ≡ [] }
+        ensures room { self.old.room ≡ self.new.room + length self.old.records }
+    {
+        self.room -= self.ends.len();
+        self.words.clear();
+        self.ends.clear();
+    }
 }
