@@ -181,6 +181,7 @@ uint32_t l4_version(void);
 #define L4_L4 UINT32_C(0x4C34) /* the seat of this number was already given out */
 #define L4_L6 UINT32_C(0x4C36) /* a transfer (entry detail, from 0) that ran out of memory in the history succeeded when the history was replayed */
 #define L4_L7 UINT32_C(0x4C37) /* the given links do not match the way the page got there */
+#define L4_L8 UINT32_C(0x4C38) /* the entries or receipts that this needs were handed out */
 #define L4_X1 UINT32_C(0x5831) /* the seat of this number (detail) was given out, but was not returned */
 #define L4_X2 UINT32_C(0x5832) /* the seat of this number (detail) was never given out, or was returned twice */
 #define L4_X3 UINT32_C(0x5833) /* the seat of this number (detail) does not match the lock's records */
@@ -648,8 +649,9 @@ l4_verdict l4_check_too_long_sized(const l4_region *region, const uint32_t *page
  * call waiting, a later call of another seat may end it. Let the waiting thread sleep, for instance on a condition variable of your lock,
  * and then fetch the reply with l4_lock_take.
  *
- * The history has room for 1,000,000 entries. Once it has more than 999,871, l4_lock_enter refuses every call with L1, for good: entries
- * are never removed. Every other function still works. */
+ * The lock keeps at most 1,000,000 entries of the history. Once it keeps more than 999,871, l4_lock_enter refuses every call with L1, and
+ * every other function still works. To run longer, hand out the entries from time to time with l4_lock_hand_out. Entries and receipts are
+ * numbered from 0 since boot, and the numbers continue after a hand-out. */
 typedef struct l4_lock {
     void *hidden;
 } l4_lock;
@@ -684,8 +686,11 @@ l4_seated l4_lock_enter(l4_lock *lock, uint32_t seat, const l4_call *call, const
  * there is none. This call allocates no memory. Refusals: B1. */
 l4_reply l4_lock_take(l4_lock *lock, uint32_t seat);
 
-/* Returns the number of entries of the history: at most 1,000,000. Refusals: B1. */
+/* Returns the number of entries since boot. Entries that were handed out are counted. Refusals: B1. */
 l4_count l4_lock_length(l4_lock *lock);
+
+/* Returns the number of the first entry that the lock keeps. All entries with lower numbers were handed out. Refusals: B1. */
+l4_count l4_lock_kept_from(l4_lock *lock);
 
 /* One more kind of step: a call was started. */
 #define L4_START UINT32_C(3)
@@ -707,22 +712,48 @@ typedef struct l4_entry {
     l4_call call;
 } l4_entry;
 
-/* Returns the entry at a place of the history, from 0. Refusals: B1. */
-l4_entry l4_lock_entry(l4_lock *lock, size_t place);
+/* Returns the entry with this number since boot, from 0. Refusals in this order: B1; L8 if the entry was handed out. */
+l4_entry l4_lock_entry(l4_lock *lock, size_t number);
 
-/* The counts of a seat: the number of calls that it has started, each of which is in the history once, and the number of its receipts.
+/* A segment of a history: entries that a locked kernel handed out. All segments of a locked kernel in their order, followed by the entries
+ * that it keeps, are its history since boot. */
+typedef struct l4_segment {
+    void *hidden;
+} l4_segment;
+
+/* Hands out the entries that the locked kernel keeps, and forgets the receipts of all seats. From then on, the locked kernel keeps the
+ * entries and receipts of later calls only, and their numbers continue. So it runs in memory that does not grow, if you call this function
+ * from time to time. Calls that wait are not affected.
+ *
+ * The segment's handle must be empty; it then owns the entries, and you free it with l4_segment_free. After a refusal nothing has changed.
+ * Refusals in this order: B1; B2 if the segment's handle is not empty; NoMemory; L1 after more than 2^63 entries. */
+uint32_t l4_lock_hand_out(l4_lock *lock, l4_segment *segment);
+
+/* Frees a segment, and leaves the handle empty. */
+void l4_segment_free(l4_segment *segment);
+
+/* Return the number of the segment's first entry since boot, and the number of its entries. Refusals: B1. */
+l4_count l4_segment_first(l4_segment *segment);
+l4_count l4_segment_length(l4_segment *segment);
+
+/* Returns the segment's entry with this number since boot. The kind is L4_NONE if the segment has no such entry. Refusals: B1. */
+l4_entry l4_segment_entry(l4_segment *segment, size_t number);
+
+/* The counts of a seat: the number of calls that it has started, each of which is in the history once; the number of receipts that it got;
+ * and kept_from, the number of the first receipt that is kept. All of them count since boot.
  * `there` is 0 if the seat was not given. */
 typedef struct l4_seat {
     uint32_t refusal;
     uint32_t there;
     uint64_t starts;
     uint64_t receipts;
+    uint64_t kept_from;
 } l4_seat;
 
 /* Returns the counts of a seat. Refusals: B1. */
 l4_seat l4_lock_seat_of(l4_lock *lock, uint32_t seat);
 
-/* A receipt of a seat, for a call that has ended: the places of the entries that started and ended it, the call with its words, and its
+/* A receipt of a seat, for a call that has ended: the numbers of the entries that started and ended it, the call with its words, and its
  * reply. `there` is 0 if there is none. */
 typedef struct l4_receipt {
     uint32_t refusal;
@@ -735,8 +766,9 @@ typedef struct l4_receipt {
     l4_reply reply;
 } l4_receipt;
 
-/* Returns the receipt of a seat at a place, from 0. Receipts are in the order in which the seat got them. Refusals: B1. */
-l4_receipt l4_lock_receipt(l4_lock *lock, uint32_t seat, size_t place);
+/* Returns the receipt of a seat with this number, from 0. Receipts are numbered in the order in which the seat got them. Refusals in this
+ * order: B1; L8 if the receipt was forgotten, because l4_lock_hand_out was called after the seat got it. */
+l4_receipt l4_lock_receipt(l4_lock *lock, uint32_t seat, size_t number);
 
 /* A link of a page's provenance: one transfer that moved the page. It has the place of the transfer's entry in the history, from 0; the
  * sender's page and the receiver's page, with the numbers of their spaces; grant, which is 1 if the item granted the page and 0 if it
@@ -767,21 +799,22 @@ typedef struct l4_chain {
  * The first `room` links are written to links. count is the number of links, so you can call again with that much room to get them all.
  * Nothing is written if the page is not present, or after a refusal. The locked kernel is unchanged in every case. The call replays the
  * whole history once, and the part before each link once more, on a second kernel: it takes that time, and the memory of a second kernel.
- * Refusals in this order: B1; NoMemory, or L6 with an entry. */
+ * Refusals in this order: B1; L8 if entries were handed out; NoMemory, or L6 with an entry. */
 l4_chain l4_lock_provenance(l4_lock *lock, uint64_t space, uint32_t page, l4_link *links, size_t room);
 
 /* Checks that exactly these links are the provenance of a page of a space. If the page is not present, the check refuses every list of
- * links. Any value of grant other than 0 means a grant. The check shares no code with l4_lock_provenance, replays the whole history once
- * on a second kernel, even if the links are wrong, and changes nothing. Refusals in this order: B1; NoMemory, if there is no memory for
- * the links or for a second kernel; then the refusal at the first entry whose replay fails: NoMemory if memory runs out, and L6 with the
- * entry if the replay gets any other answer; L7, if every entry was replayed and the links are not the provenance. */
+ * links. Any value of grant other than 0 means a grant. The check shares no code with l4_lock_provenance, replays the whole history once on
+ * a second kernel, even if the links are wrong, and changes nothing. Refusals in this order: B1; NoMemory, if there is no memory for the
+ * links; L8 if entries were handed out; NoMemory, if there is no memory for a second kernel; then the refusal at the first entry whose
+ * replay fails: NoMemory if memory runs out, and L6 with the entry if the replay gets any other answer; L7, if every entry was replayed and
+ * the links are not the provenance. */
 l4_verdict l4_lock_check_provenance(l4_lock *lock, uint64_t space, uint32_t page, const l4_link *links, size_t count);
 
 /* Takes back the seats of these numbers, and frees the locked kernel with its history if exactly the seats that were given come back, each
  * once. The handle is empty then. Success confirms that the history has as many starts of each seat's thread as the seat counted, and that
- * every receipt was right about the history. Otherwise nothing has changed. Refusals in this order: B1; X1 with the lowest number of a
- * missing seat; X2 with the lowest number of a seat that was not given or comes back twice. X3 is never returned, because seats never leave
- * the library. */
+ * every receipt that is kept was right about the history. Otherwise nothing has changed. Refusals in this order: B1; X1 with the lowest
+ * number of a missing seat; X2 with the lowest number of a seat that was not given or comes back twice. X3 is never returned, because seats
+ * never leave the library. */
 l4_verdict l4_lock_close(l4_lock *lock, const uint32_t *seats, size_t count);
 
 /* CONSTRUCTORS AND READERS. These functions are inline, and do not call the library unless they take a handle. */

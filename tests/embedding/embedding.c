@@ -509,6 +509,44 @@ static void provenance(void) {
     l4_lock_free(&lock);
 }
 
+/* The first 8 entries are handed out. Those of later calls continue their numbers, and nothing is replayed. */
+static void first_segment(l4_lock *lock, l4_segment *segment) {
+    l4_link links[2];
+    EXPECT(l4_lock_hand_out(lock, segment) == L4_OK && l4_lock_hand_out(lock, segment) == L4_B2);
+    EXPECT(l4_segment_first(segment).count == 0 && l4_segment_length(segment).count == 8);
+    EXPECT(l4_segment_entry(segment, 0).kind == L4_START && l4_segment_entry(segment, 7).kind == L4_TRANSFER);
+    EXPECT(l4_segment_entry(segment, 7).thread == 3 && l4_segment_entry(segment, 7).receiver == 4);
+    EXPECT(l4_segment_entry(segment, 8).refusal == L4_OK && l4_segment_entry(segment, 8).kind == L4_NONE);
+    EXPECT(l4_lock_length(lock).count == 8 && l4_lock_kept_from(lock).count == 8);
+    EXPECT(l4_lock_entry(lock, 7).refusal == L4_L8 && l4_lock_entry(lock, 8).refusal == L4_OK && l4_lock_entry(lock, 8).kind == L4_NONE);
+    EXPECT(l4_lock_receipt(lock, 2, 1).refusal == L4_L8 && l4_lock_receipt(lock, 2, 1).there == 0 && l4_lock_receipt(lock, 2, 2).refusal == L4_OK);
+    EXPECT(l4_lock_seat_of(lock, 2).receipts == 2 && l4_lock_seat_of(lock, 2).kept_from == 2 && l4_lock_seat_of(lock, 2).starts == 2);
+    EXPECT(l4_lock_provenance(lock, 3, 7, links, 2).refusal == L4_L8 && l4_lock_provenance(lock, 3, 7, links, 2).count == 0);
+    EXPECT(l4_lock_check_provenance(lock, 3, 7, links, 0).refusal == L4_L8);
+}
+
+/* A segment is handed out while thread 2 waits: its receipt names entries of two segments. */
+static void segments(void) {
+    static const uint32_t words[3] = {0x80, 0x300a, 0x70c4}, seats[4] = {1, 2, 3, 4};
+    l4_lock lock = L4_EMPTY;
+    l4_segment first = L4_EMPTY, second = L4_EMPTY;
+    EXPECT(l4_lock_hand_out(&lock, &first) == L4_B1 && l4_segment_first(&first).refusal == L4_B1 && l4_segment_length(&first).refusal == L4_B1);
+    EXPECT(l4_segment_entry(&first, 0).refusal == L4_B1 && l4_lock_kept_from(&lock).refusal == L4_B1);
+    maps(&lock);
+    first_segment(&lock, &first);
+    EXPECT(by_seat(&lock, 2, receive(0x10), no_words, 0).reply.kind == L4_NONE);
+    EXPECT(l4_lock_hand_out(&lock, &second) == L4_OK && l4_segment_first(&second).count == 8 && l4_segment_length(&second).count == 1);
+    EXPECT(l4_segment_entry(&second, 7).kind == L4_NONE && l4_segment_entry(&second, 8).kind == L4_START && l4_segment_entry(&second, 9).kind == L4_NONE);
+    EXPECT(by_seat(&lock, 4, send(2), words, 3).reply.kind == L4_REPLY_IPC && l4_lock_take(&lock, 2).tag == 0x80);
+    EXPECT(l4_lock_entry(&lock, 8).refusal == L4_L8 && l4_lock_entry(&lock, 10).kind == L4_TRANSFER && l4_lock_length(&lock).count == 11);
+    EXPECT(l4_lock_receipt(&lock, 2, 2).there == 1 && l4_lock_receipt(&lock, 2, 2).start == 8 && l4_lock_receipt(&lock, 2, 2).end == 10);
+    EXPECT(l4_lock_close(&lock, seats, 4).refusal == L4_OK && l4_segment_length(&first).count == 8);
+    l4_segment_free(&first);
+    l4_segment_free(&second);
+    l4_segment_free(&second);
+    EXPECT(l4_segment_first(&first).refusal == L4_B1 && l4_segment_length(&second).refusal == L4_B1);
+}
+
 static void empty_locks(void) {
     l4_lock lock = L4_EMPTY;
     l4_lock_free(&lock);
@@ -855,6 +893,7 @@ int main(int count, char **words) {
     empty_locks();
     locks();
     provenance();
+    segments();
     nulls();
     nulls_of_locks();
     reserved();

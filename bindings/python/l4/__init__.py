@@ -32,7 +32,7 @@ from .kernel import Answer, Done, Entered, Expire, Kernel, Mapping, Outcome, Pla
 from .plans import Plan, Region
 from .protocols import FrameRequest, PageFault
 from .refusals import IpcFailed, Refused, TooLong
-from .shared import Entry, Link, Receipt, Seat, SharedKernel, Start
+from .shared import Entry, Link, Receipt, Seat, Segment, SharedKernel, Start
 from .tables import Pager, Sigma0
 from .words import (
     MAX_FRAMES,
@@ -92,6 +92,7 @@ __all__ = [
     "ReplyKind",
     "Rights",
     "Seat",
+    "Segment",
     "SharedKernel",
     "Sigma0",
     "Start",

@@ -87,6 +87,7 @@ L4_L3 = 0x4C33
 L4_L4 = 0x4C34
 L4_L6 = 0x4C36
 L4_L7 = 0x4C37
+L4_L8 = 0x4C38
 L4_X1 = 0x5831
 L4_X2 = 0x5832
 L4_X3 = 0x5833
@@ -253,8 +254,12 @@ class l4_entry(Structure):
     ]
 
 
+class l4_segment(Structure):
+    _fields_ = [("hidden", c_void_p)]
+
+
 class l4_seat(Structure):
-    _fields_ = numbers("refusal there") + [("starts", c_uint64), ("receipts", c_uint64)]
+    _fields_ = numbers("refusal there") + [("starts", c_uint64), ("receipts", c_uint64), ("kept_from", c_uint64)]
 
 
 class l4_receipt(Structure):
@@ -303,6 +308,7 @@ STRUCTS = [
     l4_lock,
     l4_seated,
     l4_entry,
+    l4_segment,
     l4_seat,
     l4_receipt,
     l4_link,
@@ -316,6 +322,7 @@ PAGER = POINTER(l4_pager)
 SIGMA0 = POINTER(l4_sigma0)
 REGION = POINTER(l4_region)
 LOCK = POINTER(l4_lock)
+SEGMENT = POINTER(l4_segment)
 LINKS = POINTER(l4_link)
 
 # the result and the parameters of each function
@@ -373,7 +380,13 @@ FUNCTIONS: Dict[str, Tuple[Any, List[Any]]] = {
     "l4_lock_enter": (l4_seated, [LOCK, c_uint32, POINTER(l4_call), WORDS, c_size_t]),
     "l4_lock_take": (l4_reply, [LOCK, c_uint32]),
     "l4_lock_length": (l4_count, [LOCK]),
+    "l4_lock_kept_from": (l4_count, [LOCK]),
     "l4_lock_entry": (l4_entry, [LOCK, c_size_t]),
+    "l4_lock_hand_out": (c_uint32, [LOCK, SEGMENT]),
+    "l4_segment_free": (None, [SEGMENT]),
+    "l4_segment_first": (l4_count, [SEGMENT]),
+    "l4_segment_length": (l4_count, [SEGMENT]),
+    "l4_segment_entry": (l4_entry, [SEGMENT, c_size_t]),
     "l4_lock_seat_of": (l4_seat, [LOCK, c_uint32]),
     "l4_lock_receipt": (l4_receipt, [LOCK, c_uint32, c_size_t]),
     "l4_lock_provenance": (l4_chain, [LOCK, c_uint64, c_uint32, LINKS, c_size_t]),

@@ -54,8 +54,8 @@ class Entry:
 
 @dataclass(frozen=True)
 class Receipt:
-    """A seat's receipt for a call that has ended: the call, the places in the history, from 0, of the entries that started and ended it,
-    and its reply."""
+    """A seat's receipt for a call that has ended: the call, the numbers since boot, from 0, of the entries that started and ended it, and
+    its reply."""
 
     call: Call
     start: int
@@ -67,7 +67,7 @@ class Receipt:
 class Link:
     """One transfer that moved a page.
 
-    It has the place of the transfer's entry in the history, from 0; the thread numbers of the sender and the receiver; the sender's page
+    It has the number of the transfer's entry since boot, from 0; the thread numbers of the sender and the receiver; the sender's page
     and the receiver's page; `grant`, which is true if the item granted the page and false if it mapped it; the rights of the sender's page
     just before the transfer; and the rights that the item named. `str` returns a line of the output of `l4 why`.
     """
@@ -145,12 +145,43 @@ class _Lock(Handle):
         return self._told(self._ask(function, *values))
 
 
+class Segment(Handle):
+    """Entries of a history that `SharedKernel.hand_out` handed out. All segments of a kernel in their order, followed by its `history`, are
+    its steps since boot.
+
+    `first` is the number of its first entry since boot, `len` returns the number of its entries, and you iterate over them. The memory is
+    freed by `close`, at the end of a `with` block, or with the last reference. From then on, every call raises ValueError.
+    """
+
+    def __init__(self, lock: _Lock) -> None:
+        super().__init__(_library.l4_segment(), lambda segment: lock._ask(library.l4_lock_hand_out, segment), library.l4_segment_free)
+        self._first = self._answer(library.l4_segment_first).count
+        self._length = self._answer(library.l4_segment_length).count
+
+    def _answer(self, function: Callable[..., Any], *values: Any) -> Any:
+        return self._told(self._ask(function, *values))
+
+    @property
+    def first(self) -> int:
+        """Returns the number of the first entry since boot, from 0."""
+        return self._first
+
+    def __len__(self) -> int:
+        return self._length
+
+    def __iter__(self) -> Iterator[Entry]:
+        for place in range(self._first, self._first + self._length):
+            entry = _entry(self._answer(library.l4_segment_entry, place))
+            assert entry is not None
+            yield entry
+
+
 class SharedKernel(Unique):
     """A kernel that threads share. It keeps the history of its steps, and gives out one `Seat` for each thread number that makes calls.
 
     `SharedKernel(frames, page_bytes)` boots as `Kernel` does, with the same refusals. While the call of one seat waits, other threads can
-    run and other seats can make calls. The history has room for 1,000,000 entries. Once it has more than 999,871, every further call of a
-    seat is refused with L1, for good; queries and `close` still work.
+    run and other seats can make calls. The kernel keeps at most 1,000,000 entries of its history. Once it keeps more than 999,871, every
+    further call of a seat is refused with L1; queries and `close` still work. To run longer, call `hand_out` from time to time.
 
     The memory is freed by `close`, at the end of a `with` block, or with the last reference to the kernel and its seats. From then on, every
     call raises ValueError; so does each call that still waits then.
@@ -190,13 +221,28 @@ class SharedKernel(Unique):
         return Seat(self, number(number_of_thread, "a thread number"))
 
     def steps(self) -> int:
-        """Returns the number of steps in the history when the last call was entered. It never decreases, and the method never waits."""
+        """Returns the number of steps since boot when the last call was entered. It never decreases, and the method never waits."""
         return self._steps
 
     def history(self) -> Tuple[Entry, ...]:
-        """Returns all steps since boot."""
+        """Returns the steps that the kernel keeps: those since the last segment was handed out, or since boot."""
         with self._lock.entered:
-            return tuple(_until_none(_entry(self._lock.answer(library.l4_lock_entry, place)) for place in count()))
+            first = self._lock.answer(library.l4_lock_kept_from).count
+            return tuple(_until_none(_entry(self._lock.answer(library.l4_lock_entry, number)) for number in count(first)))
+
+    def hand_out(self) -> Segment:
+        """Hands out the steps that the kernel keeps, and forgets the receipts of all seats.
+
+        From then on, the kernel keeps the steps and receipts of later calls only, and their numbers continue. Any thread may call this at
+        any time; calls that wait are not affected. Raises Refused with NoMemory. Then nothing has changed.
+        """
+        with self._lock.entered:
+            try:
+                return Segment(self._lock)
+            except Refused as refused:
+                if refused.code == "B1":
+                    raise ValueError("the SharedKernel is closed") from None
+                raise
 
     def provenance(self, space: int, page: int) -> Optional[List[Link]]:
         """Finds how a page of a space got to where it is.
@@ -204,8 +250,8 @@ class SharedKernel(Unique):
         Returns the transfers that brought the page there, one after another, from a page that sigma0 had at boot. A page that sigma0 has
         had since boot has no transfers. Returns None if the page is not present.
 
-        The history is replayed on a second kernel; calls of seats wait meanwhile. Raises Refused with NoMemory, or with L6 if a transfer of
-        the history found no memory.
+        The history is replayed on a second kernel; calls of seats wait meanwhile. Raises Refused with L8 if steps were handed out, with
+        NoMemory, or with L6 if a transfer of the history found no memory.
         """
         place = number(space, "a space", 64), number(page, "a page")
         with self._lock.entered:
@@ -235,8 +281,8 @@ class SharedKernel(Unique):
             raise Refused(told.refusal, told.detail)
 
     def close(self, seats: Iterable[Seat]) -> Tuple[Entry, ...]:
-        """Takes back the seats, frees the kernel, and returns the history, if exactly the seats that were given come back. Every later call
-        raises ValueError, and so does each call that still waits.
+        """Takes back the seats, frees the kernel, and returns the steps that it keeps, if exactly the seats that were given come back.
+        Every later call raises ValueError, and so does each call that still waits.
 
         Raises Refused with X1 if a seat is missing, and with X2 if a seat belongs to another kernel or is passed twice. Nothing has changed
         then.
@@ -316,10 +362,11 @@ class Seat(Unique):
 
     @property
     def receipts(self) -> Tuple[Receipt, ...]:
-        """Returns the seat's receipts, in the order in which it got them."""
+        """Returns the receipts that are kept, in the order in which the seat got them. `SharedKernel.hand_out` forgets the earlier ones."""
         ask = self._kernel._lock.answer
         with self._kernel._lock.entered:
-            return tuple(_until_none(_receipt(ask(library.l4_lock_receipt, self._number, place)) for place in count()))
+            first = ask(library.l4_lock_seat_of, self._number).kept_from
+            return tuple(_until_none(_receipt(ask(library.l4_lock_receipt, self._number, place)) for place in count(first)))
 
 
 def _until_none(values: Iterator[Any]) -> Iterator[Any]:

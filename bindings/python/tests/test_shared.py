@@ -104,6 +104,51 @@ class Shared(unittest.TestCase):
         starts = [entry.step.thread for entry in history if isinstance(entry.step, Start)]
         self.assertEqual({number: starts.count(number) for number in counts}, counts)
 
+    def test_a_thread_hands_out_segments_meanwhile(self):
+        kernel = SharedKernel(1)
+        sigma0, root = kernel.seat(1), kernel.seat(2)
+        segments = []
+
+        def collect():
+            while kernel.steps() < 600:
+                segments.append(kernel.hand_out())
+
+        parties = Parties()
+        parties.begin("collects", collect)
+        parties.begin("receives", lambda: [root.call(Call.receive()) for _ in range(200)])
+        parties.begin("sends", lambda: [sigma0.call(Call.send(ThreadId.ROOT, Message.of(untyped=[5]))) for _ in range(200)])
+        parties.end()
+        rest = kernel.history()
+        place = 0
+        for segment in segments:
+            self.assertEqual((segment.first, len(list(segment))), (place, len(segment)))
+            place += len(segment)
+        steps = [entry.step for segment in segments for entry in segment] + [entry.step for entry in rest]
+        self.assertEqual((len(steps), kernel.steps(), steps.count(Transfer(1, 2))), (600, 600, 200))
+        self.assertEqual((root.starts, sigma0.starts), (200, 200))
+        self.assertEqual(len(kernel.close([root, sigma0])), len(rest))
+
+    def test_receipts_and_steps_of_later_calls_continue_their_numbers(self):
+        kernel = SharedKernel(1)
+        root = kernel.seat(2)
+        root.call(create(3))
+        with kernel.hand_out() as segment:
+            self.assertEqual((segment.first, len(segment)), (0, 1))
+            self.assertEqual([str(entry) for entry in segment], ["start 2 create 0x0000c001 0x0000c001 0x00000000"])
+        self.assertEqual((kernel.history(), root.receipts, root.starts, kernel.steps()), ((), (), 1, 1))
+        root.call(Call.delete(ThreadId.of(3)))
+        self.assertEqual([(receipt.start, receipt.end) for receipt in root.receipts], [(1, 1)])
+        with self.assertRaisesRegex(Refused, "^L8: "):
+            kernel.provenance(0, 0)
+        with self.assertRaisesRegex(Refused, "^L8: "):
+            kernel.check_provenance(0, 0, [])
+        later = kernel.hand_out()
+        self.assertEqual((later.first, len(later), len(kernel.hand_out())), (1, 1, 0))
+        with self.assertRaisesRegex(ValueError, "^the Segment is closed$"):
+            list(segment)
+        self.assertEqual(kernel.close([root]), ())
+        self.assertEqual(len(list(later)), 1)
+
     def test_a_deleted_thread_is_gone(self):
         kernel = SharedKernel(1)
         root, waiting = kernel.seat(2), kernel.seat(3)
@@ -231,6 +276,7 @@ class Shared(unittest.TestCase):
         for step, *values in (
             (kernel.seat, 3),
             (kernel.history,),
+            (kernel.hand_out,),
             (kernel.provenance, 0, 0),
             (kernel.check_provenance, 0, 0, []),
             (kernel.close, [root]),

@@ -134,6 +134,7 @@ constants! {
     L4_L4 = 0x4C34;
     L4_L6 = 0x4C36;
     L4_L7 = 0x4C37;
+    L4_L8 = 0x4C38;
     L4_X1 = 0x5831;
     L4_X2 = 0x5832;
     L4_X3 = 0x5833;
@@ -365,11 +366,16 @@ structs! {
         call: l4_call,
     }
 
+    struct l4_segment {
+        hidden: *mut c_void,
+    }
+
     struct l4_seat {
         refusal: u32,
         there: u32,
         starts: u64,
         receipts: u64,
+        kept_from: u64,
     }
 
     struct l4_receipt {
@@ -457,9 +463,15 @@ functions! {
     fn l4_lock_enter(lock: *mut l4_lock, seat: u32, call: *const l4_call, words: *const u32, count: usize) -> l4_seated;
     fn l4_lock_take(lock: *mut l4_lock, seat: u32) -> l4_reply;
     fn l4_lock_length(lock: *mut l4_lock) -> l4_count;
-    fn l4_lock_entry(lock: *mut l4_lock, place: usize) -> l4_entry;
+    fn l4_lock_kept_from(lock: *mut l4_lock) -> l4_count;
+    fn l4_lock_entry(lock: *mut l4_lock, number: usize) -> l4_entry;
+    fn l4_lock_hand_out(lock: *mut l4_lock, segment: *mut l4_segment) -> u32;
+    fn l4_segment_free(segment: *mut l4_segment) -> ();
+    fn l4_segment_first(segment: *mut l4_segment) -> l4_count;
+    fn l4_segment_length(segment: *mut l4_segment) -> l4_count;
+    fn l4_segment_entry(segment: *mut l4_segment, number: usize) -> l4_entry;
     fn l4_lock_seat_of(lock: *mut l4_lock, seat: u32) -> l4_seat;
-    fn l4_lock_receipt(lock: *mut l4_lock, seat: u32, place: usize) -> l4_receipt;
+    fn l4_lock_receipt(lock: *mut l4_lock, seat: u32, number: usize) -> l4_receipt;
     fn l4_lock_provenance(lock: *mut l4_lock, space: u64, page: u32, links: *mut l4_link, room: usize) -> l4_chain;
     fn l4_lock_check_provenance(lock: *mut l4_lock, space: u64, page: u32, links: *const l4_link, count: usize) -> l4_verdict;
     fn l4_lock_close(lock: *mut l4_lock, seats: *const u32, count: usize) -> l4_verdict;
@@ -574,6 +586,7 @@ hidden! {
     l4_pager l4_pager_free;
     l4_sigma0 l4_sigma0_free;
     l4_lock l4_lock_free;
+    l4_segment l4_segment_free;
 }
 
 /// A handle that owns an object from its creation to its drop. The library may write to the handle in every call, including queries. So the
@@ -772,9 +785,20 @@ impl Handle<l4_lock> {
         unsafe { l4_lock_length(self.cell.get()) }
     }
 
-    pub(crate) fn entry(&self, place: usize) -> l4_entry {
+    pub(crate) fn kept_from(&self) -> l4_count {
         // SAFETY: as in `enabled`.
-        unsafe { l4_lock_entry(self.cell.get(), place) }
+        unsafe { l4_lock_kept_from(self.cell.get()) }
+    }
+
+    pub(crate) fn entry(&self, number: usize) -> l4_entry {
+        // SAFETY: as in `enabled`.
+        unsafe { l4_lock_entry(self.cell.get(), number) }
+    }
+
+    /// Hands out the entries that are kept, into a handle of their own, or returns the number of the refusal.
+    pub(crate) fn hand_out(&mut self) -> Result<Handle<l4_segment>, u32> {
+        // SAFETY: the handle is live and borrowed alone; the one that `made` passes is empty, live and not shared, so it is not this one.
+        Handle::made(|segment| unsafe { l4_lock_hand_out(self.cell.get(), segment) })
     }
 
     pub(crate) fn seat_of(&self, seat: u32) -> l4_seat {
@@ -782,9 +806,9 @@ impl Handle<l4_lock> {
         unsafe { l4_lock_seat_of(self.cell.get(), seat) }
     }
 
-    pub(crate) fn receipt(&self, seat: u32, place: usize) -> l4_receipt {
+    pub(crate) fn receipt(&self, seat: u32, number: usize) -> l4_receipt {
         // SAFETY: as in `enabled`.
-        unsafe { l4_lock_receipt(self.cell.get(), seat, place) }
+        unsafe { l4_lock_receipt(self.cell.get(), seat, number) }
     }
 
     /// Returns the links of a page, as many as the result counts.
@@ -813,6 +837,23 @@ impl Handle<l4_lock> {
     pub(crate) fn close(&mut self, seats: &[u32]) -> l4_verdict {
         // SAFETY: the handle is live and borrowed alone, so it doesn't overlap the seats; a slice's pointer is aligned and never null.
         unsafe { l4_lock_close(self.cell.get(), seats.as_ptr(), seats.len()) }
+    }
+}
+
+impl Handle<l4_segment> {
+    pub(crate) fn first(&self) -> l4_count {
+        // SAFETY: as in `enabled`.
+        unsafe { l4_segment_first(self.cell.get()) }
+    }
+
+    pub(crate) fn length(&self) -> l4_count {
+        // SAFETY: as in `enabled`.
+        unsafe { l4_segment_length(self.cell.get()) }
+    }
+
+    pub(crate) fn entry(&self, number: usize) -> l4_entry {
+        // SAFETY: as in `enabled`.
+        unsafe { l4_segment_entry(self.cell.get(), number) }
     }
 }
 

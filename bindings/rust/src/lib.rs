@@ -97,7 +97,7 @@ pub use plans::{NoPlan, Plan, Region};
 pub use protocols::{FrameRequest, PageFault};
 pub use refusals::Refusal;
 pub use replies::{ErrorCode, Received, Reply};
-pub use shared::{Entry, Link, Receipt, Recorded, Seat, SharedKernel, Unclosed};
+pub use shared::{Entry, Link, Receipt, Recorded, Seat, Segment, SharedKernel, Unclosed};
 pub use tables::{Pager, Sigma0};
 pub use words::{BadFpage, Fpage, Item, Message, PageSize, Rights, Tag, ThreadId, TooManyWords};
 

@@ -116,6 +116,7 @@ refusals! {
     SeatTaken = L4_L4 "L4" "the seat of this number was already given out";
     MemoryFoundSince(u32) = L4_L6 "L6" "a transfer that ran out of memory in the history succeeded when the history was replayed";
     OtherProvenance = L4_L7 "L7" "the given links do not match the way the page got there";
+    HandedOut = L4_L8 "L8" "the entries or receipts that this needs were handed out";
     SeatMissing(u32) = L4_X1 "X1" "the seat of this number was given out, but was not returned";
     SeatForeign(u32) = L4_X2 "X2" "the seat of this number was never given out, or was returned twice";
     SeatWrong(u32) = L4_X3 "X3" "the seat of this number does not match the lock's records";

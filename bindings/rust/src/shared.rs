@@ -72,9 +72,9 @@ impl fmt::Display for Entry {
 pub struct Receipt {
     /// The call.
     pub call: Call,
-    /// The place in the history, from 0, of the entry that started it.
+    /// The number since boot, from 0, of the entry that started it.
     pub start: u64,
-    /// The place of the entry that ended it.
+    /// The number of the entry that ended it.
     pub end: u64,
     /// Its reply.
     pub reply: Reply,
@@ -83,7 +83,7 @@ pub struct Receipt {
 /// A transfer that moved a page. It prints as a line of the output of `l4 why`.
 #[derive(Clone, Copy, PartialEq, Eq, Debug)]
 pub struct Link {
-    /// The place of the transfer's entry in the history, from 0.
+    /// The number of the transfer's entry since boot, from 0.
     pub entry: u64,
     /// The thread number of the sender.
     pub sender: u32,
@@ -155,6 +155,40 @@ impl fmt::Display for Link {
     }
 }
 
+/// Entries of a history that [`SharedKernel::hand_out`] handed out. All segments of a kernel in their order, followed by its
+/// [`history`](SharedKernel::history), are its steps since boot.
+pub struct Segment {
+    handle: Handle<ffi::l4_segment>,
+}
+
+impl Segment {
+    /// Returns the number of the first entry since boot, from 0.
+    pub fn first(&self) -> u64 {
+        self.handle.first().count
+    }
+
+    /// Returns the number of entries.
+    pub fn len(&self) -> u64 {
+        self.handle.length().count
+    }
+
+    /// Returns whether there is no entry.
+    pub fn is_empty(&self) -> bool {
+        self.len() == 0
+    }
+
+    /// Returns an iterator over the entries.
+    pub fn entries(&self) -> impl Iterator<Item = Entry> + '_ {
+        (self.first()..).map_while(|number| Entry::of(&self.handle.entry(number as usize)))
+    }
+}
+
+impl fmt::Debug for Segment {
+    fn fmt(&self, out: &mut fmt::Formatter<'_>) -> fmt::Result {
+        write!(out, "Segment {{ first: {}, .. }}", self.first())
+    }
+}
+
 /// What threads share: the locked kernel, the condition variable that wakes waiting threads when a call is entered, and the history's
 /// length.
 struct Shared {
@@ -172,9 +206,10 @@ impl Shared {
 
 /// A kernel that threads share. It keeps the history of its steps, and gives out one [`Seat`] for each thread number that makes calls.
 ///
-/// While the call of one seat waits, other threads can run and other seats can make calls. The history has room for 1,000,000 entries. Once
-/// it has more than 999,871, every further call of a seat is refused with L1, for good; queries and [`close`](SharedKernel::close) still
-/// work. The memory is freed when the kernel and all its seats are dropped.
+/// While the call of one seat waits, other threads can run and other seats can make calls. The kernel keeps at most 1,000,000 entries of
+/// its history. Once it keeps more than 999,871, every further call of a seat is refused with L1; queries and
+/// [`close`](SharedKernel::close) still work. To run longer, call [`hand_out`](SharedKernel::hand_out) from time to time. The memory is
+/// freed when the kernel and all its seats are dropped.
 ///
 /// ```
 /// use l4::{Call, Fpage, Message, SharedKernel, ThreadId, Timeout};
@@ -229,17 +264,30 @@ impl SharedKernel {
         }
     }
 
-    /// Returns the number of steps in the history when the last call was entered. It never decreases, and the method never waits.
+    /// Returns the number of steps since boot when the last call was entered. It never decreases, and the method never waits.
     pub fn steps(&self) -> u64 {
         self.shared.steps.load(Ordering::SeqCst)
     }
 
-    /// Returns the history: all steps since boot.
+    /// Returns the steps that the kernel keeps: those since the last segment was handed out, or since boot.
     pub fn history(&self) -> Vec<Entry> {
         let lock = self.shared.lock();
-        (0..)
-            .map_while(|place| Entry::of(&lock.entry(place)))
+        (lock.kept_from().count..)
+            .map_while(|number| Entry::of(&lock.entry(number as usize)))
             .collect()
+    }
+
+    /// Hands out the steps that the kernel keeps, and forgets the receipts of all seats. From then on, the kernel keeps the steps and
+    /// receipts of later calls only, and their numbers continue. Any thread may call this at any time; calls that wait are not affected.
+    ///
+    /// # Errors
+    ///
+    /// NoMemory. Then nothing has changed.
+    pub fn hand_out(&self) -> Result<Segment, Refusal> {
+        match self.shared.lock().hand_out() {
+            Ok(handle) => Ok(Segment { handle }),
+            Err(number) => Err(Refusal::of(number, 0)),
+        }
     }
 
     /// Finds how a page of a space got to where it is.
@@ -250,7 +298,7 @@ impl SharedKernel {
     ///
     /// # Errors
     ///
-    /// NoMemory, or L6 if a transfer of the history found no memory.
+    /// L8 if steps were handed out; NoMemory; or L6 if a transfer of the history found no memory.
     pub fn provenance(&self, space: u64, page: u32) -> Result<Option<Vec<Link>>, Refusal> {
         let lock = self.shared.lock();
         let (told, links) = lock.provenance(space, page);
@@ -270,7 +318,7 @@ impl SharedKernel {
     ///
     /// # Errors
     ///
-    /// NoMemory or L6, as for `provenance`; L7 if these links are not how the page got there, or the page is not present.
+    /// L8, NoMemory or L6, as for `provenance`; L7 if these links are not how the page got there, or the page is not present.
     pub fn check_provenance(&self, space: u64, page: u32, links: &[Link]) -> Result<(), Refusal> {
         let given: Vec<_> = links.iter().map(Link::given).collect();
         let verdict = self.shared.lock().check_provenance(space, page, &given);
@@ -280,8 +328,8 @@ impl SharedKernel {
         }
     }
 
-    /// Takes back the seats, frees the kernel, and returns the history, if exactly the seats that were given come back. Success confirms
-    /// that every receipt was right about the history.
+    /// Takes back the seats, frees the kernel, and returns the steps that it keeps, if exactly the seats that were given come back. Success
+    /// confirms that every receipt that is kept was right about the history.
     ///
     /// # Errors
     ///
@@ -399,11 +447,11 @@ impl Seat {
         self.shared.lock().seat_of(self.number).starts
     }
 
-    /// Returns the seat's receipts, in the order in which it got them.
+    /// Returns the receipts that are kept, in the order in which the seat got them. [`SharedKernel::hand_out`] forgets the earlier ones.
     pub fn receipts(&self) -> Vec<Receipt> {
         let lock = self.shared.lock();
-        (0..)
-            .map_while(|place| receipt_of(&lock.receipt(self.number, place)))
+        (lock.seat_of(self.number).kept_from..)
+            .map_while(|number| receipt_of(&lock.receipt(self.number, number as usize)))
             .collect()
     }
 }

@@ -145,6 +145,62 @@ fn many_threads_send_to_one() {
 }
 
 #[test]
+fn a_thread_hands_out_segments_meanwhile() {
+    let kernel = SharedKernel::new(1).unwrap();
+    let (seats, segments) = thread::scope(|threads| {
+        let collects = threads.spawn(|| {
+            let mut segments = Vec::new();
+            while kernel.steps() < 2108 {
+                segments.push(kernel.hand_out().unwrap());
+            }
+            segments
+        });
+        let seats = storm(&kernel);
+        (seats, collects.join().unwrap())
+    });
+    let mut entries: Vec<Entry> = Vec::new();
+    for segment in &segments {
+        assert_eq!(segment.first(), entries.len() as u64);
+        entries.extend(segment.entries());
+    }
+    let rest = kernel.close(seats).unwrap();
+    entries.extend(rest);
+    assert_eq!(entries.len(), 2108);
+    for number in 4..=10 {
+        assert_eq!(starts(&entries, number), 100);
+    }
+}
+
+#[test]
+fn receipts_and_steps_of_later_calls_continue_their_numbers() {
+    let kernel = SharedKernel::new(1).unwrap();
+    let mut root = kernel.seat(2).unwrap();
+    root.call(&create(3, ThreadId::NIL)).unwrap();
+    let first = kernel.hand_out().unwrap();
+    assert_eq!((first.first(), first.len(), first.is_empty()), (0, 1, false));
+    assert_eq!(
+        (kernel.history().len(), root.receipts().len(), root.starts()),
+        (0, 0, 1)
+    );
+    root.call(&Call::delete(id(3))).unwrap();
+    let receipts = root.receipts();
+    assert_eq!(
+        (receipts.len(), receipts[0].start, receipts[0].end),
+        (1, 1, 1)
+    );
+    assert_eq!(kernel.provenance(0, 0), Err(Refusal::HandedOut));
+    assert_eq!(
+        kernel.check_provenance(0, 0, &[]),
+        Err(Refusal::HandedOut)
+    );
+    let second = kernel.hand_out().unwrap();
+    assert_eq!((second.first(), second.len()), (1, 1));
+    assert!(kernel.hand_out().unwrap().is_empty());
+    assert_eq!(kernel.close(vec![root]).unwrap().len(), 0);
+    assert_eq!(second.entries().count(), 1);
+}
+
+#[test]
 fn a_deleted_thread_is_gone() {
     let kernel = SharedKernel::new(1).unwrap();
     let (mut root, mut waiting) = (kernel.seat(2).unwrap(), kernel.seat(3).unwrap());

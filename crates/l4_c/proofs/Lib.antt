@@ -3,3 +3,4 @@ pub mod Placing
 pub mod Starting
 pub mod Found
 pub mod Below
+pub mod Kept

@@ -8,6 +8,7 @@ pub mod Locking
 pub mod Planned
 pub mod Served
 pub mod Traced
+pub mod Segmented
 pub mod Written
 pub mod Versions
 pub mod Descended

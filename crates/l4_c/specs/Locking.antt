@@ -1,12 +1,11 @@
 -- Locked kernels with their seats, as C uses them (this profile's own).
-use Rattle.std.specs.Prelude.{◌≡◌, ◌≢◌, ◌⊎◌, ℕ, ◌<◌, ◌≤◌, false, List, [], ◌∷◌, ◌++◌, length, codes, Option, None, Some, slice_get}
-use Rattle.std.specs.Option.{option_and_then}
+use Rattle.std.specs.Prelude.{◌≡◌, ◌≢◌, ◌⊎◌, ℕ, ◌<◌, ◌≤◌, false, List, [], ◌∷◌, ◌++◌, length, codes, Option, None, Some}
 use Rattle.l4_fpage.specs.Pages.{max_frames}
 use Rattle.l4_fpage.specs.declared.sizes.PageSize.{PageSize}
 use Rattle.l4_threads.specs.declared.Reply.{Reply}
 use Rattle.l4_ipc.specs.Machine.{IsBoot}
 use Rattle.l4_ipc.specs.declared.calls.Call.{Call}
-use Rattle.l4_lock.specs.Books.{SeatState, book, book_at, reply_waits}
+use Rattle.l4_lock.specs.Books.{book, book_at, reply_waits}
 use Rattle.l4_lock.specs.Closing.{Closes, Mismatches, by_history}
 use Rattle.l4_lock.specs.Locked.{Lock, Refuses}
 use Rattle.l4_lock.specs.declared.closing.Mismatch.{Mismatch}
@@ -15,7 +14,7 @@ use Rattle.l4_lock.specs.declared.refusals.LockRefusal.{LockRefusal}
 use Rattle.l4_seated_lock.specs.Seated.{seat_at, seats_back, EntersBySeat, TakesBySeat}
 use Rattle.l4_refusals.specs.Texts.{spelled}
 use Rattle.l4_c_values.specs.Called.{IsCall, IsNoKind}
-use Rattle.l4_c_values.specs.Recorded.{lock_code, lock_carries, mismatch_code, mismatch_seat, unseated_result, entered_result, no_entry_result, entry_result, no_receipt_result, receipt_result, no_seat_result, seat_result}
+use Rattle.l4_c_values.specs.Recorded.{lock_code, lock_carries, mismatch_code, mismatch_seat, unseated_result, entered_result, no_entry_result, kept_entry_result, no_receipt_result, kept_receipt_result, no_seat_result, seat_result}
 use Rattle.l4_c_values.specs.Replied.{plain_result, reply_result}
 use Rattle.l4_c_values.specs.declared.calls.CallGiven.{CallGiven}
 use Rattle.l4_c_values.specs.declared.recorded.EntryResult.{EntryResult}
@@ -70,25 +69,32 @@ abbrev pub TakesSeat : Option Lock → ℕ → ReplyResult → Option Lock → T
 TakesSeat None n r new = (r ≡ plain_result (spelled (codes "B1")) 0 0) × (new ≡ None)
 TakesSeat (Some old) n r new = (after : Lock) × TakesReply old n r after × (new ≡ Some after)
 
--- the number of entries of the history; an empty handle is refused (B1)
+-- the number of entries since boot; an empty handle is refused (B1)
 abbrev pub TellsLength : Option Lock → CountResult → Type 0
 TellsLength None r = r ≡ record { refusal = spelled (codes "B1"); count = 0 }
 TellsLength (Some l) r = r ≡ record { refusal = 0; count = length l.history }
 
--- the entry at a place of the history, or none beyond its end; an empty handle is refused (B1)
+-- the number of the first entry that is kept; an empty handle is refused (B1)
+abbrev pub TellsKeptFrom : Option Lock → CountResult → Type 0
+TellsKeptFrom None r = r ≡ record { refusal = spelled (codes "B1"); count = 0 }
+TellsKeptFrom (Some l) r = r ≡ record { refusal = 0; count = l.kept_from }
+
+-- the entry with this number since boot, or none beyond the end of the history; an empty handle is refused (B1), and an entry that was handed
+-- out (L8)
 abbrev pub TellsEntry : Option Lock → ℕ → EntryResult → Type 0
-TellsEntry None place r = r ≡ no_entry_result (spelled (codes "B1"))
-TellsEntry (Some l) place r = r ≡ entry_result (slice_get l.history place)
+TellsEntry None number r = r ≡ no_entry_result (spelled (codes "B1"))
+TellsEntry (Some l) number r = r ≡ kept_entry_result l.kept_from l.history number
 
 -- how many calls the seat of this number has started, and how many receipts it has; an empty handle is refused (B1)
 abbrev pub TellsSeat : Option Lock → ℕ → SeatResult → Type 0
 TellsSeat None n r = r ≡ no_seat_result (spelled (codes "B1"))
 TellsSeat (Some l) n r = r ≡ seat_result (seat_at l.books n)
 
--- the receipt of a seat at a place, or none if the place is beyond the end or the seat was not given; an empty handle is refused (B1)
+-- the receipt with this number of a seat, or none beyond the end or if the seat was not given; an empty handle is refused (B1), and a receipt
+-- that was handed out (L8)
 abbrev pub TellsReceipt : Option Lock → ℕ → ℕ → ReceiptResult → Type 0
-TellsReceipt None n place r = r ≡ no_receipt_result (spelled (codes "B1"))
-TellsReceipt (Some l) n place r = r ≡ receipt_result (option_and_then (λ (p : SeatState). slice_get p.receipts place) (seat_at l.books n))
+TellsReceipt None n number r = r ≡ no_receipt_result (spelled (codes "B1"))
+TellsReceipt (Some l) n number r = r ≡ kept_receipt_result (seat_at l.books n) number
 
 -- The seats of these numbers are taken back. If they are exactly those that were given, the handle is empty from then on. Otherwise the
 -- result is the first mismatch, and nothing changes.

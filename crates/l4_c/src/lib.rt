@@ -14,6 +14,7 @@ mod paging;
 mod planning;
 mod reading;
 mod replies;
+mod segments;
 mod stepping;
 mod texts;
 mod tracing;
@@ -31,7 +32,8 @@ pub use giving::{l4_sigma0_answer, l4_sigma0_free, l4_sigma0_new, l4_sigma0_new_
 pub use listing::{ThreadResult, l4_next_space, l4_next_thread};
 pub use locking::{
     CountResult, l4_lock_close, l4_lock_enter, l4_lock_entry, l4_lock_free, l4_lock_give,
-    l4_lock_length, l4_lock_new, l4_lock_new_sized, l4_lock_receipt, l4_lock_seat_of, l4_lock_take,
+    l4_lock_kept_from, l4_lock_length, l4_lock_new, l4_lock_new_sized, l4_lock_receipt,
+    l4_lock_seat_of, l4_lock_take,
 };
 pub use owning::{l4_boot, l4_boot_sized, l4_free};
 pub use paging::{
@@ -43,6 +45,9 @@ pub use planning::{
 };
 pub use reading::{l4_read_fault, l4_read_request};
 pub use replies::l4_reply_of;
+pub use segments::{
+    l4_lock_hand_out, l4_segment_entry, l4_segment_first, l4_segment_free, l4_segment_length,
+};
 pub use stepping::{l4_enabled, l4_expire, l4_next, l4_start, l4_transfer};
 pub use texts::{l4_refusal_code, l4_refusal_text, l4_reply_text, l4_step_text};
 pub use tracing::{l4_lock_check_provenance, l4_lock_provenance};

@@ -1,22 +1,21 @@
 //! Locked kernels with their seats, for C.
-ghost use Rattle.std.specs.Prelude.{◌≡◌, None, Some, codes, slice_get};
-ghost use Rattle.std.specs.Option.{option_and_then};
+ghost use Rattle.std.specs.Prelude.{◌≡◌, None, Some, codes};
 ghost use Rattle.l4_fpage.specs.declared.sizes.PageSize.TheVariants.{Kib4};
-ghost use Rattle.l4_lock.specs.Books.{SeatState};
 ghost use Rattle.l4_seated_lock.specs.Seated.{seat_at};
 ghost use Rattle.l4_refusals.specs.Texts.{spelled};
-ghost use Rattle.l4_c_values.specs.Recorded.{entry_result, seat_result, receipt_result};
+ghost use Rattle.l4_c_values.specs.Recorded.{entry_result, kept_entry_result, seat_result, kept_receipt_result};
 ghost use Rattle.l4_c_values.specs.InBytes.{InBytes};
-ghost use Rattle.l4_c.specs.Locking.{MakesLock, Gives, GivesSeat, EntersCall, EntersSeat, TakesReply, TakesSeat, TellsLength, TellsEntry, TellsSeat, TellsReceipt, ClosesLock};
+ghost use Rattle.l4_c.specs.Locking.{MakesLock, Gives, GivesSeat, EntersCall, EntersSeat, TakesReply, TakesSeat, TellsLength, TellsKeptFrom, TellsEntry, TellsSeat, TellsReceipt, ClosesLock};
 
 use crate::checking::Verdict;
 use l4_c_values::{
-    CallGiven, EMPTY, EntryResult, HELD, LockHandle, NO_MEMORY, NO_SUCH_CALL, NO_SUCH_SIZE,
-    ReceiptResult, ReplyResult, SeatResult, SeatedResult, entered_told, entry_told, lock_detail,
-    lock_number, mismatch_told, no_entry, no_receipt, no_reply, no_seat, receipt_told, reply_told,
-    seat_told, size_of, unseated, write_call,
+    CallGiven, EMPTY, EntryResult, HANDED_OUT, HELD, LockHandle, NO_MEMORY, NO_SUCH_CALL,
+    NO_SUCH_SIZE, ReceiptResult, ReplyResult, SeatResult, SeatedResult, entered_told, entry_told,
+    lock_detail, lock_number, mismatch_told, no_entry, no_receipt, no_reply, no_seat, receipt_told,
+    reply_told, seat_told, size_of, unseated, write_call,
 };
 use l4_ipc::{ArrayVec, Call, IpcCall, PageSize, ThreadId};
+use l4_record::Entry;
 use l4_seated_lock::SeatedLock;
 use std::alloc::Global;
 
@@ -168,7 +167,7 @@ pub extern "C" fn l4_lock_take(alloc: Global, handle: &mut LockHandle, number: u
     taken
 }
 
-/// Returns the number of entries of the history. Refuses an empty handle (B1).
+/// Returns the number of entries since boot. Refuses an empty handle (B1).
 #[unsafe(no_mangle)]
 pub extern "C" fn l4_lock_length(alloc: Global, handle: &mut LockHandle) -> CountResult
     ensures kept { handle.new.value ≡ handle.old.value }
@@ -180,31 +179,63 @@ pub extern "C" fn l4_lock_length(alloc: Global, handle: &mut LockHandle) -> Coun
             count: 0,
         };
     };
-    let count = lock.history().len() as u64;
+    let count = lock.count() as u64;
     handle.put(lock);
     CountResult { refusal: 0, count }
 }
 
-/// Returns the entry at a place of the history.
-fn entry(lock: &SeatedLock, place: usize) -> EntryResult
-    ensures { result ≡ entry_result (slice_get lock.now.history place) }
+/// Returns the number of the first entry that the lock keeps. Refuses an empty handle (B1).
+#[unsafe(no_mangle)]
+pub extern "C" fn l4_lock_kept_from(alloc: Global, handle: &mut LockHandle) -> CountResult
+    ensures kept { handle.new.value ≡ handle.old.value }
+    ensures told { TellsKeptFrom handle.old.value result }
 {
-    match lock.history().get(place) {
+    let Some(lock) = handle.take(alloc) else {
+        return CountResult {
+            refusal: EMPTY,
+            count: 0,
+        };
+    };
+    let count = lock.kept_from() as u64;
+    handle.put(lock);
+    CountResult { refusal: 0, count }
+}
+
+/// Returns the result for an entry, or the one without an entry.
+pub(crate) fn told(entry: Option<Entry>) -> EntryResult
+    ensures { result ≡ entry_result entry }
+{
+    match entry {
         Some(entry) => entry_told(&entry),
         None => no_entry(0),
     }
 }
 
-/// Returns the entry at a place of the history, from 0. Refuses an empty handle (B1).
+/// Returns the entry with this number since boot.
+fn entry(lock: &SeatedLock, number: usize) -> EntryResult
+    ensures { result ≡ kept_entry_result lock.now.kept_from lock.now.history number }
+{
+    let first = lock.kept_from();
+    if number < first {
+        return no_entry(HANDED_OUT);
+    }
+    told(lock.history().get(number - first))
+}
+
+/// Returns the entry with this number since boot, from 0. Refuses an empty handle (B1), and an entry that was handed out (L8).
 #[unsafe(no_mangle)]
-pub extern "C" fn l4_lock_entry(alloc: Global, handle: &mut LockHandle, place: usize) -> EntryResult
+pub extern "C" fn l4_lock_entry(
+    alloc: Global,
+    handle: &mut LockHandle,
+    number: usize,
+) -> EntryResult
     ensures kept { handle.new.value ≡ handle.old.value }
-    ensures told { TellsEntry handle.old.value place result }
+    ensures told { TellsEntry handle.old.value number result }
 {
     let Some(lock) = handle.take(alloc) else {
         return no_entry(EMPTY);
     };
-    let told = entry(&lock, place);
+    let told = entry(&lock, number);
     handle.put(lock);
     told
 }
@@ -233,23 +264,24 @@ pub extern "C" fn l4_lock_seat_of(alloc: Global, handle: &mut LockHandle, number
     told
 }
 
-/// Returns the receipt of a seat at a place.
+/// Returns the receipt of a seat with this number.
 fn receipt(lock: &SeatedLock, number: u32, place: usize) -> ReceiptResult
-    ensures { result
-        ≡ receipt_result
-        (option_and_then (λ (p : SeatState). slice_get p.receipts place)
-        (seat_at lock.now.books number)) }
+    ensures { result ≡ kept_receipt_result (seat_at lock.now.books number) place }
 {
     let Some(seat) = lock.seat(number) else {
         return no_receipt(0);
     };
-    match seat.receipts().get(place) {
+    let receipts = seat.receipts();
+    if place < receipts.kept_from() {
+        return no_receipt(HANDED_OUT);
+    }
+    match receipts.get(place) {
         Some(receipt) => receipt_told(&receipt),
         None => no_receipt(0),
     }
 }
 
-/// Returns the receipt of a seat at a place, from 0. Refuses an empty handle (B1).
+/// Returns the receipt of a seat with this number, from 0. Refuses an empty handle (B1), and a receipt that was handed out (L8).
 #[unsafe(no_mangle)]
 pub extern "C" fn l4_lock_receipt(
     alloc: Global,

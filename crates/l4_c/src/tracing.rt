@@ -40,7 +40,8 @@ fn trace(alloc: Global, lock: &SeatedLock, place: Place, out: &mut [Link]) -> Ch
     }
 }
 
-/// Writes the provenance of a page of a space as links, and returns the number of links. The refusals are B1, and then NoMemory or L6.
+/// Writes the provenance of a page of a space as links, and returns the number of links. The refusals are B1, L8 if entries were handed
+/// out, and then NoMemory or L6.
 #[unsafe(no_mangle)]
 pub extern "C" fn l4_lock_provenance(
     alloc: Global,
@@ -87,7 +88,8 @@ fn judge(alloc: Global, lock: &SeatedLock, place: Place, given: &[Link]) -> Verd
     }
 }
 
-/// Checks that links from any source are the provenance of a page of a space. The refusals are B1, NoMemory, L6 and L7.
+/// Checks that links from any source are the provenance of a page of a space. The refusals are B1, NoMemory if the links
+/// cannot be stored, L8 if entries were handed out, NoMemory, L6 and L7.
 #[unsafe(no_mangle)]
 pub extern "C" fn l4_lock_check_provenance(
     alloc: Global,

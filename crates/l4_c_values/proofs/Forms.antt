@@ -4,10 +4,12 @@ use Rattle.l4_ipc.specs.contracts.kernel.Kernel as Kernel
 use Rattle.l4_pager.specs.contracts.regions.RegionPager as RegionPager
 use Rattle.l4_sigma0.specs.contracts.owners.Sigma0 as Sigma0
 use Rattle.l4_seated_lock.specs.contracts.seated.SeatedLock as SeatedLock
+use Rattle.l4_record.specs.contracts.segments.Segment as Segment
 use Rattle.l4_c_values.specs.contracts.kernels.KernelHandle as KernelHandle
 use Rattle.l4_c_values.specs.contracts.pagers.PagerHandle as PagerHandle
 use Rattle.l4_c_values.specs.contracts.sigma0s.Sigma0Handle as Sigma0Handle
 use Rattle.l4_c_values.specs.contracts.locks.LockHandle as LockHandle
+use Rattle.l4_c_values.specs.contracts.segments.SegmentHandle as SegmentHandle
 use Rattle.l4_c_values.proofs.Handles.{Form}
 
 abbrev pub kernel : Form
@@ -64,4 +66,18 @@ lock = record {
   hides = λ p x. refl;
   holds = λ p x. refl;
   codes = LockHandle.the_codes;
+}
+
+abbrev pub segment : Form
+segment = record {
+  Held = Segment.the_row;
+  name = SegmentHandle.struct.name;
+  Denot = SegmentHandle.the_row.Denot;
+  hidden = λ d. d.hidden;
+  value = λ d. d.value;
+  make = λ p x. record { hidden = p; value = x };
+  eta = λ d. refl;
+  hides = λ p x. refl;
+  holds = λ p x. refl;
+  codes = SegmentHandle.the_codes;
 }

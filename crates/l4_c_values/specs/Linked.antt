@@ -2,8 +2,9 @@
 use Rattle.std.specs.Prelude.{ℕ, Bool, true, false, nat_eq, if◌then◌else◌, codes}
 use Rattle.l4_fpage.specs.Rights.{bits_of, set_of_bits}
 use Rattle.l4_record.specs.declared.links.ChainLink.{ChainLink}
-use Rattle.l4_record.specs.declared.faults.ReplayFault.{ReplayFault}
 use Rattle.l4_record.specs.declared.faults.ReplayFault.TheVariants.{BadFrames, NoMemory, OtherAnswer}
+use Rattle.l4_seated_lock.specs.declared.faults.TraceFault.{TraceFault}
+use Rattle.l4_seated_lock.specs.declared.faults.TraceFault.TheVariants.{HandedOut, Replay}
 use Rattle.l4_refusals.specs.Texts.{spelled}
 use Rattle.l4_c_values.specs.Told.{told_place}
 use Rattle.l4_c_values.specs.declared.links.Link.{Link}
@@ -34,16 +35,18 @@ link_given link = record {
   item_rights = set_of_bits link.item_rights;
 }
 
--- the number of the reason why a history cannot be replayed; and the entry that it names, or 0
-abbrev pub fault_code : ReplayFault → ℕ
-fault_code BadFrames = spelled (codes "K6")
-fault_code NoMemory = spelled (codes "NoMemory")
-fault_code (OtherAnswer entry) = spelled (codes "L6")
+-- the number of the reason why a provenance is not found or checked; and the entry that it names, or 0
+abbrev pub fault_code : TraceFault → ℕ
+fault_code HandedOut = spelled (codes "L8")
+fault_code (Replay BadFrames) = spelled (codes "K6")
+fault_code (Replay NoMemory) = spelled (codes "NoMemory")
+fault_code (Replay (OtherAnswer entry)) = spelled (codes "L6")
 
-abbrev pub fault_carries : ReplayFault → ℕ
-fault_carries BadFrames = 0
-fault_carries NoMemory = 0
-fault_carries (OtherAnswer entry) = told_place entry
+abbrev pub fault_carries : TraceFault → ℕ
+fault_carries HandedOut = 0
+fault_carries (Replay BadFrames) = 0
+fault_carries (Replay NoMemory) = 0
+fault_carries (Replay (OtherAnswer entry)) = told_place entry
 
 -- whether a page is present and how many links it has, or the reason why the query was refused
 abbrev pub chain_result : ℕ → ℕ → ℕ → ℕ → ChainResult

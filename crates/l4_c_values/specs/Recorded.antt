@@ -1,5 +1,5 @@
 -- The results of a locked kernel for C: calls that seats entered, entries of the history, and receipts (this profile's own).
-use Rattle.std.specs.Prelude.{ℕ, ◌+◌, List, [], length, codes, Option, None, Some}
+use Rattle.std.specs.Prelude.{ℕ, ◌+◌, nat_le, if◌then◌else◌, List, [], length, codes, Option, None, Some, slice_get}
 use Rattle.l4_fpage.specs.Rights.{bits_of}
 use Rattle.l4_ipc.specs.declared.calls.Call.{Call}
 use Rattle.l4_ipc.specs.declared.calls.Call.TheVariants.{Ipc, Fault, Unmap, Control as Controls}
@@ -136,6 +136,12 @@ abbrev pub entry_result : Option Entry → EntryResult
 entry_result None = no_entry_result 0
 entry_result (Some e) = entry_of_step e e.step
 
+-- The entry with this number since boot, of a history whose entries from `kept_from` on are kept: none beyond its end, and L8 if it was
+-- handed out.
+abbrev pub kept_entry_result : ℕ → List Entry → ℕ → EntryResult
+kept_entry_result kept_from history number =
+    if nat_le kept_from number then entry_result (slice_get history number) else no_entry_result (spelled (codes "L8"))
+
 -- no receipt; the code is a refusal, or 0
 abbrev pub no_receipt_result : ℕ → ReceiptResult
 no_receipt_result code = record { refusal = code; there = 0; start = 0; end = 0; word_count = 0; words = filled 64 []; call = no_call 0; reply = plain_result 0 0 0 }
@@ -154,10 +160,17 @@ receipt_result (Some r) = record {
   reply = reply_result (Some r.reply);
 }
 
--- the number of calls that a seat has started, and the number of its receipts; all members are 0 if there is no such seat
+-- the receipt with this number of a seat: none beyond the end or if there is no such seat, and L8 if it was handed out
+abbrev pub kept_receipt_result : Option SeatState → ℕ → ReceiptResult
+kept_receipt_result None number = no_receipt_result 0
+kept_receipt_result (Some p) number =
+    if nat_le p.kept_from number then receipt_result (slice_get p.receipts number) else no_receipt_result (spelled (codes "L8"))
+
+-- the number of calls that a seat has started, the number of its receipts, and the number of the first receipt that is kept; all members are
+-- 0 if there is no such seat
 abbrev pub no_seat_result : ℕ → SeatResult
-no_seat_result code = record { refusal = code; there = 0; starts = 0; receipts = 0 }
+no_seat_result code = record { refusal = code; there = 0; starts = 0; receipts = 0; kept_from = 0 }
 
 abbrev pub seat_result : Option SeatState → SeatResult
 seat_result None = no_seat_result 0
-seat_result (Some p) = record { refusal = 0; there = 1; starts = starts p; receipts = length p.receipts }
+seat_result (Some p) = record { refusal = 0; there = 1; starts = starts p; receipts = length p.receipts; kept_from = p.kept_from }

@@ -1,5 +1,6 @@
 //! The values that C passes to calls and gets from them, in whose types the C library returns its results, and the handles that C holds for a
-//! kernel, a locked kernel and the tables. A handle is one pointer, which is null before the object is created and after it is freed.
+//! kernel, a locked kernel, a segment of a history and the tables. A handle is one pointer, which is null before the object is created and
+//! after it is freed.
 #![tactic(auto)]
 
 mod calls;
@@ -17,6 +18,7 @@ mod recorded;
 mod regions;
 mod replies;
 mod results;
+mod segments;
 mod sigma0s;
 mod sizes;
 
@@ -30,8 +32,9 @@ pub use links::{
 pub use locks::LockHandle;
 pub use messages::{MessageResult, message_told, no_message, unread};
 pub use numbers::{
-    BAD_FRAMES, EMPTY, HELD, NO_MEMORY, NO_SUCH_CALL, NO_SUCH_SIZE, NO_SUCH_STEP, OTHER_ANSWER,
-    OTHER_CHAIN, kernel_detail, kernel_number, message_detail, message_number,
+    BAD_FRAMES, EMPTY, HANDED_OUT, HELD, NO_MEMORY, NO_SUCH_CALL, NO_SUCH_SIZE, NO_SUCH_STEP,
+    OTHER_ANSWER, OTHER_CHAIN, TOO_LONG, kernel_detail, kernel_number, message_detail,
+    message_number,
 };
 pub use pagers::PagerHandle;
 pub use protocols::{FaultResult, RequestResult, fault_told, no_fault, no_request, request_told};
@@ -46,5 +49,6 @@ pub use results::{
     StepResult, answered, done_told, no_page, no_step, padded, page_told, place_told, refused,
     step_told, told,
 };
+pub use segments::SegmentHandle;
 pub use sigma0s::Sigma0Handle;
 pub use sizes::{bytes_of, size_of};

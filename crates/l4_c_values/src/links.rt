@@ -3,10 +3,11 @@ ghost use Rattle.std.specs.Prelude.{◌≡◌};
 ghost use Rattle.l4_c_values.specs.Linked.{link_result, link_given, fault_code, fault_carries, chain_result};
 
 use crate::calls::rights;
-use crate::numbers::{BAD_FRAMES, NO_MEMORY, OTHER_ANSWER};
+use crate::numbers::{BAD_FRAMES, HANDED_OUT, NO_MEMORY, OTHER_ANSWER};
 use crate::results::place_told;
 use l4_ipc::Place;
 use l4_record::{ChainLink, ReplayFault};
+use l4_seated_lock::TraceFault;
 
 /// A transfer that moved a page.
 #[repr(C)]
@@ -71,22 +72,23 @@ pub fn link_given(link: &Link) -> ChainLink
 }
 
 /// Returns the number of the refusal for a history that cannot be replayed.
-pub fn fault_number(fault: ReplayFault) -> u32
+pub fn fault_number(fault: TraceFault) -> u32
     ensures { result ≡ fault_code fault }
 {
     match fault {
-        ReplayFault::BadFrames => BAD_FRAMES,
-        ReplayFault::NoMemory => NO_MEMORY,
-        ReplayFault::OtherAnswer(_) => OTHER_ANSWER,
+        TraceFault::HandedOut => HANDED_OUT,
+        TraceFault::Replay(ReplayFault::BadFrames) => BAD_FRAMES,
+        TraceFault::Replay(ReplayFault::NoMemory) => NO_MEMORY,
+        TraceFault::Replay(ReplayFault::OtherAnswer(_)) => OTHER_ANSWER,
     }
 }
 
 /// Returns the entry that such a fault names, or 0.
-pub fn fault_detail(fault: ReplayFault) -> u32
+pub fn fault_detail(fault: TraceFault) -> u32
     ensures { result ≡ fault_carries fault }
 {
     match fault {
-        ReplayFault::OtherAnswer(entry) => place_told(entry),
+        TraceFault::Replay(ReplayFault::OtherAnswer(entry)) => place_told(entry),
         _ => 0,
     }
 }

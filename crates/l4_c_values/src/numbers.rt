@@ -27,11 +27,17 @@ pub const NO_SUCH_STEP: u32 = 0x4235;
 /// K6: the number of frames must be from 1 to 4,096.
 pub const BAD_FRAMES: u32 = 0x4b36;
 
+/// L1: too many entries were recorded.
+pub const TOO_LONG: u32 = 0x4c31;
+
 /// L6: a transfer that ran out of memory in the history succeeded when the history was replayed.
 pub const OTHER_ANSWER: u32 = 0x4c36;
 
 /// L7: the given links do not match the way the page got there.
 pub const OTHER_CHAIN: u32 = 0x4c37;
+
+/// L8: the entry or receipt was handed out, or the history cannot be replayed because entries were handed out.
+pub const HANDED_OUT: u32 = 0x4c38;
 
 /// NoMemory: there was not enough memory.
 pub const NO_MEMORY: u32 = 0x4e6f;

@@ -58,6 +58,7 @@ pub struct SeatResult {
     pub there: u32,
     pub starts: u64,
     pub receipts: u64,
+    pub kept_from: u64,
 }
 
 /// Returns the number of the lock's refusal.
@@ -318,6 +319,7 @@ pub fn no_seat(refusal: u32) -> SeatResult
         there: 0,
         starts: 0,
         receipts: 0,
+        kept_from: 0,
     }
 }
 
@@ -330,5 +332,6 @@ pub fn seat_told(seat: &Seat) -> SeatResult
         there: 1,
         starts: seat.starts() as u64,
         receipts: seat.receipts().len() as u64,
+        kept_from: seat.receipts().kept_from() as u64,
     }
 }

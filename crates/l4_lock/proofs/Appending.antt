@@ -128,6 +128,7 @@ begun old new n place start call appended books opened noted' later b r kept num
       same = plainly;
       book = it.0;
       receipts = ap (λ (x : Book). x.receipts) it.2;
+      kept_from = ap (λ (x : Book). x.kept_from) it.2;
       at = it.1;
       number = ap (λ (x : Book). x.number) it.2 ∙ number;
       pending = pending.0;

@@ -1,20 +1,22 @@
 -- Seats that come back, one after another.
-use Rattle.std.proofs.Common.{◌≡◌, ℕ, ◌+◌, ◌<◌, ◌≤◌, ◌⊎◌, inl, inr, if◌then◌else◌, Bool, true, false, List, length, get_or, Option, Some, None, MatchOption, is_some, slice_get, refl, sym, ap, ◌∙◌, subst, arith}
+use Rattle.std.proofs.Common.{◌≡◌, ◌≢◌, ℕ, suc, zero, ◌+◌, ◌-◌, ◌<◌, ◌≤◌, ◌⊎◌, inl, inr, if◌then◌else◌, Bool, true, false, List, [], ◌∷◌, length, drop, get_or, Option, Some, None, MatchOption, is_some, slice_get, refl, sym, ap, ◌∙◌, subst, arith}
 use Rattle.std.specs.List.{All, AllPairs}
+use Rattle.std.specs.Option.{option_map_or}
 use Rattle.std.proofs.lemmas.Bool.{false≢true, cases_lt}
 use Rattle.std.proofs.lemmas.Bool.Decides.{leb_tells}
 use Rattle.std.proofs.lemmas.Option.{slice_get-get_or, slice_get_within, get_or_from_slice_get, same_Some}
-use Rattle.std.proofs.lemmas.List.{same_lists}
-use Rattle.std.proofs.lemmas.List.Elements.{All-get_or}
+use Rattle.std.proofs.lemmas.List.{same_lists, length-drop, get_or-drop}
+use Rattle.std.proofs.lemmas.List.Elements.{All-get_or, All-drop}
 use Rattle.l4_lock.specs.declared.closing.Mismatch.{Mismatch}
 use Rattle.l4_lock.specs.declared.closing.Mismatch.TheVariants.{Missing, Foreign, Receipt as WrongReceipt}
-use Rattle.l4_lock.specs.Books.{SeatState, starts, Book, starts_of, IsRight}
+use Rattle.l4_lock.specs.Books.{SeatState, starts, Book, book_at, starts_of, IsRight}
 use Rattle.l4_lock.specs.Inside.Noting.{started_by}
 use Rattle.l4_lock.specs.Receipts.{Proves}
 use Rattle.l4_lock.specs.declared.entries.Receipt.{Receipt}
 use Rattle.l4_lock.specs.Locked.{Lock, IsKept}
-use Rattle.l4_lock.specs.Closing.{HasSeat, IsGiven, IsBack, Agrees, AllAgree, IsMissing, IsForeign, IsWrong, Least, Mismatches, AreBack, by_history, Closes}
+use Rattle.l4_lock.specs.Closing.{HasSeat, IsGiven, IsBack, kept_by_both, AreSameFrom, Agrees, AllAgree, IsMissing, IsForeign, IsWrong, Least, Mismatches, AreBack, by_history, IsShownFrom, Closes}
 use Rattle.l4_lock.specs.Inside.Closing.{IsFine, keep, SoFarMissing, SoFarForeign, SoFarWrong}
+use Rattle.l4_lock.proofs.Started.{own_at}
 
 -- an earlier place, or this one
 last_or : (k i : ℕ) → k < i + 1 → (k < i) ⊎ (k ≡ i)
@@ -200,9 +202,30 @@ pub end_wrong : (counts : Book → ℕ) (books : List Book) (seats : List SeatSt
 end_wrong counts books seats i None past h = λ k p less at. h k p (omega (arith, past, less)) at
 end_wrong counts books seats i (Some n) past h = (h.0, λ k p less at below. h.1 k p (omega (arith, past, less)) at below)
 
-pub all_same : (xs ys : List Receipt) (i : ℕ) → length xs ≡ length ys → length xs ≤ i → ((k : ℕ) → k < i → slice_get xs k ≡ slice_get ys k) → xs ≡ ys
-all_same xs ys i long past h = same_lists xs ys long (λ k d lt.
-    same_Some (get_or xs k d) (get_or ys k d) (sym (slice_get-get_or xs k d lt) ∙ h k (omega (arith, lt, past)) ∙ slice_get-get_or ys k d (omega (arith, lt, long))))
+-- the receipts with the numbers that were compared, from the first one on
+pub all_same : (xs ys : List Receipt) (first i : ℕ) → length xs ≡ length ys → length xs ≤ i → ((k : ℕ) → first ≤ k → k < i → slice_get xs k ≡ slice_get ys k) → AreSameFrom first xs ys
+all_same xs ys first i long past h = (
+  long,
+  same_lists (drop first xs) (drop first ys) (omega (arith, long, length-drop first xs, length-drop first ys)) (λ k d lt.
+      let within : first + k < length xs = omega (arith, lt, length-drop first xs) in
+      get_or-drop first xs k d ∙ same_Some (get_or xs (first + k) d) (get_or ys (first + k) d)
+      (sym (slice_get-get_or xs (first + k) d within) ∙ h (first + k) (omega arith) (omega (arith, within, past)) ∙ slice_get-get_or ys (first + k) d (omega (arith, within, long)))
+      ∙ sym (get_or-drop first ys k d)),
+)
+
+-- a receipt that differs, with the number that both keep it under
+pub one_differs : (xs ys : List Receipt) (first k : ℕ) → first ≤ k → k < length xs → slice_get xs k ≢ slice_get ys k → ¬ (AreSameFrom first xs ys)
+one_differs xs ys first k le lt ne same = ne (
+    let at : first + (k - first) ≡ k = omega (arith, le) in
+    let there : (zs : List Receipt) (d : Receipt) → get_or (drop first zs) (k - first) d ≡ get_or zs k d = λ zs d. get_or-drop first zs (k - first) d ∙ ap (λ (j : ℕ). get_or zs j d) at in
+    let d : Receipt = (get_there xs k lt).0 in
+    let long = same.0 in
+    slice_get-get_or xs k d lt ∙ ap Some (sym (there xs d) ∙ ap (λ (zs : List Receipt). get_or zs (k - first) d) same.1 ∙ there ys d) ∙ sym (slice_get-get_or ys k d (omega (arith, lt, long)))
+    ) where
+      get_there : (zs : List Receipt) (j : ℕ) → j < length zs → (r : Receipt) × (slice_get zs j ≡ Some r)
+      get_there [] j lt = absurd (omega (arith, lt))
+      get_there (z ∷ zs) zero lt = (z, refl)
+      get_there (z ∷ zs) (suc j) lt = get_there zs j (omega (arith, lt))
 
 -- what the loops leave
 pub least_missing : (books : List Book) (seats : List SeatState) (o : Option ℕ) → SoFarMissing books seats (length books) o → Least (IsMissing books seats) o
@@ -279,6 +302,22 @@ mismatches l seats (Foreign n) kept h = h
 mismatches l seats (WrongReceipt n) kept h =
     (h.0, h.1, (wrong_by_history l seats n kept h.2.0, λ k less w. h.2.1 k less (wrong_by_books l seats k kept w)))
 
+-- some later ones of a list in which each goes with each later one
+pairs_drop : (R : Receipt → Receipt → Type 0) (n : ℕ) (xs : List Receipt) → AllPairs R xs → AllPairs R (drop n xs)
+pairs_drop R n xs h = λ i j d before within.
+    let long = length-drop n xs in
+    subst (λ (x : Receipt). R x (get_or (drop n xs) j d)) (sym (get_or-drop n xs i d))
+    (subst (λ (y : Receipt). R (get_or xs (n + i) d) y) (sym (get_or-drop n xs j d)) (h (n + i) (n + j) d (omega (arith, before)) (omega (arith, within, long))))
+
+-- of a seat that agrees with its book, which is right
+shown_from : (l : Lock) (number : ℕ) (p : SeatState) (b : Book) → b.number ≡ p.number → IsRight l.frames l.history l.kernel b → (started_by b ≡ starts p) × AreSameFrom number b.receipts p.receipts → IsShownFrom l number p
+shown_from l number p b same right a = record {
+  count = subst (λ (n : ℕ). starts_of n l.history ≡ starts p) same (right.count ∙ a.0);
+  receipts = subst (λ (rs : List Receipt). All (Proves l.frames l.history p.number) rs) a.1.1
+      (All-drop (Proves l.frames l.history p.number) number b.receipts (subst (λ (n : ℕ). All (Proves l.frames l.history n) b.receipts) same right.receipts));
+  rising = subst (λ (rs : List Receipt). AllPairs (λ r s. r.start < s.start) rs) a.1.1 (pairs_drop (λ r s. r.start < s.start) number b.receipts right.rising);
+}
+
 pub closes : (l : Lock) (seats : List SeatState) → IsKept l → AreBack started_by l.books seats → Closes l seats
 closes l seats kept h = record {
   back = record {
@@ -291,11 +330,9 @@ closes l seats kept h = record {
       let g = h.given p.number (record { at = k; early = slice_get_within seats k p there; seat = p; there = there; number = refl }) in
       let right = same_counts l kept g.at g.book g.there in
       let a = h.agree k p there g.at g.book g.there g.number in
-      record {
-        count = subst (λ (n : ℕ). starts_of n l.history ≡ starts p) g.number (right.count ∙ a.0);
-        receipts = subst (λ (rs : List Receipt). All (Proves l.frames l.history p.number) rs) a.1 (subst (λ (n : ℕ). All (Proves l.frames l.history n) g.book.receipts) g.number right.receipts);
-        rising = subst (λ (rs : List Receipt). AllPairs (λ r s. r.start < s.start) rs) a.1 right.rising;
-      };
+      let own : book_at l.books p.number ≡ Some g.book = subst (λ (n : ℕ). book_at l.books n ≡ Some g.book) g.number (own_at l.books g.at g.book g.there kept.right.apart) in
+      subst (λ (o : Option Book). IsShownFrom l (option_map_or (λ b. kept_by_both b p) o 0) p) (sym own)
+      (shown_from l (kept_by_both g.book p) p g.book g.number right a);
 }
 
 -- the same of the lock as a whole

@@ -12,3 +12,4 @@ pub mod RoundTrip
 pub mod Appending
 pub mod Gates
 pub mod HandedOut
+pub mod Forgetting

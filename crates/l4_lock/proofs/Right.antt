@@ -21,7 +21,7 @@ use Rattle.l4_lock.specs.declared.entries.Ended.{Ended}
 use Rattle.l4_lock.specs.declared.entries.Pending.{Pending}
 use Rattle.l4_record.specs.History.{Replays}
 use Rattle.l4_lock.specs.Receipts.{Proves, StartsCall, Replied}
-use Rattle.l4_lock.specs.Books.{Book, book, pending_count, is_among, unended, plain, receipt_of, one_if, starts_of, IsPending, IsRight, numbers, IsOnce, AreRight}
+use Rattle.l4_lock.specs.Books.{Book, pending_count, is_among, unended, plain, receipt_of, one_if, starts_of, IsPending, IsRight, numbers, IsOnce, AreRight}
 use Rattle.l4_lock.specs.Inside.Noting.{reply_in, noted_call, noted}
 use Rattle.l4_ipc.proofs.Waiting.{still_waits, starts_waiting}
 use Rattle.l4_lock.proofs.Replies.{ended_replied}
@@ -240,7 +240,7 @@ plain_pending new ended place n (Some p) = ap (λ (o : Pending). Some o) (plain_
 
 pub plain_noted : (new : Machine) (ended : List ℕ) (place : ℕ) (books : List Book) → map plain (map (noted new ended place) books) ≡ map plain books
 plain_noted new ended place [] = refl
-plain_noted new ended place (b ∷ bs) = λ i. book b.number (plain_pending new ended place b.number b.pending i) b.receipts ∷ plain_noted new ended place bs i
+plain_noted new ended place (b ∷ bs) = λ i. record b { pending = plain_pending new ended place b.number b.pending i } ∷ plain_noted new ended place bs i
 
 pub numbers_noted : (new : Machine) (ended : List ℕ) (place : ℕ) (books : List Book) → numbers (map (noted new ended place) books) ≡ numbers books
 numbers_noted new ended place [] = refl

@@ -121,7 +121,7 @@ next_books frames es m e new books r replays next step =
 -- A REPLY IS TAKEN
 
 pub right_settled : (frames : ℕ) (es : List Entry) (m : Machine) (b : Book) (p : Pending) (f : Ended) → IsRight frames es m b → b.pending ≡ Some p → p.ended ≡ Some f
-    → Proves frames es b.number (receipt_of p f) × IsRight frames es m (book b.number None (b.receipts ++ receipt_of p f ∷ []))
+    → Proves frames es b.number (receipt_of p f) × IsRight frames es m (record b { pending = None; receipts = b.receipts ++ receipt_of p f ∷ [] })
 right_settled frames es m b p f r is ended =
     let pending : IsPending frames es m b.number p = subst (λ (o : Option Pending). MatchOption o (Unit {0}) (IsPending frames es m b.number)) is r.pending in
     let proves : Proves frames es b.number (receipt_of p f) = subst (λ (o : Option Ended). MatchOption o (HasNotEnded es m b.number p.start) (λ e. Proves frames es b.number (receipt_of p e))) ended pending.ended in
@@ -137,7 +137,7 @@ right_settled frames es m b p f r is ended =
     )
 
 pub settled_right : (frames : ℕ) (es : List Entry) (m : Machine) (books : List Book) (place : ℕ) (b c : Book) (p : Pending) (f : Ended) → AreRight frames es m books → slice_get books place ≡ Some b → b.pending ≡ Some p → p.ended ≡ Some f
-    → c ≡ book b.number None (b.receipts ++ receipt_of p f ∷ []) → Proves frames es b.number (receipt_of p f) × AreRight frames es m (slice_set books place c)
+    → c ≡ record b { pending = None; receipts = b.receipts ++ receipt_of p f ∷ [] } → Proves frames es b.number (receipt_of p f) × AreRight frames es m (slice_set books place c)
 settled_right frames es m books place b c p f r at is ended changed =
     let both = right_settled frames es m b p f (read_all (IsRight frames es m) books place b at r.each) is ended in
     let same = numbers_set books place b c at (ap (λ (x : Book). x.number) changed) in (

@@ -135,11 +135,14 @@ others_kept old new books later n place call y b same j ne =
 pub placed : (old mid : Lock) (n : ℕ) (call : Call) (place : ℕ) → IsAdmitted old mid n call place → place < length mid.books
 placed old mid n call place a = slice_get_within mid.books place a.begins.book a.begins.at
 
-enters : (old mid : Lock) (later : List Book) (n : ℕ) (call : Call) (place : ℕ) (y : Book) → IsAdmitted old mid n call place → later ≡ slice_set mid.books place y → y.number ≡ n
-    → Enters old (settled_in mid later) n call
-enters old mid later n call place y a changed numbered =
+enters : (old mid : Lock) (later : List Book) (n : ℕ) (call : Call) (place : ℕ) (y : Book) → (a : IsAdmitted old mid n call place) → later ≡ slice_set mid.books place y → y.number ≡ n
+    → book_at later n ≡ Some y → y.kept_from ≡ a.begins.former.kept_from → Enters old (settled_in mid later) n call
+enters old mid later n call place y a changed numbered settled kept =
     let b = a.begins in
+    let own : book_at old.books n ≡ Some b.former =
+    subst (λ (j : ℕ). book_at old.books j ≡ Some b.former) b.former_number (own_at old.books place b.former b.former_at a.apart) in
     record {
+      kept_from = ap (option_map (λ (z : Book). z.kept_from)) settled ∙ ap Some kept ∙ sym (ap (option_map (λ (z : Book). z.kept_from)) own);
       appended = b.appended;
       recorded = b.recorded;
       others = λ j ne. ap (λ (l : List Book). option_map plain (book_at l j)) changed
@@ -172,7 +175,8 @@ entered_done old mid later before between after call place reply k a more t =
     ∙ subst (λ (j : ℕ). book_at (slice_set mid.books place y) j ≡ Some y) numbered (set_own mid.books place x y t.at (ap (λ (z : Book). z.number) s.book_is) k.right.apart) in
     let had : receipts_at old.books before.number ≡ Some b.former.receipts =
     former_kept (recording_of old) (recording_of mid) old.books mid.books before.number place call b a.apart in (
-      enters old mid later before.number call place y a t.changed (ap (λ (z : Book). z.number) s.book_is ∙ numbered),
+      enters old mid later before.number call place y a t.changed (ap (λ (z : Book). z.number) s.book_is ∙ numbered) settled
+          (ap (λ (z : Book). z.kept_from) s.book_is ∙ ap (λ (z : Book). z.kept_from) here ∙ b.kept_from),
       record {
         kept = ap (option_map (λ (z : Book). z.receipts)) settled ∙ ap (λ (rs : List Receipt). Some rs) (ap (λ (z : Book). z.receipts) s.book_is ∙ ap (λ (z : Book). z.receipts ++ receipt_of s.pending s.ended ∷ []) here ∙ ap (λ (rs : List Receipt). rs ++ receipt_of s.pending s.ended ∷ []) b.receipts)
             ∙ sym (ap (option_map (λ (rs : List Receipt). rs ++ receipt_of s.pending s.ended ∷ [])) had);
@@ -185,6 +189,7 @@ entered_done old mid later before between after call place reply k a more t =
           number = s.number ∙ ap (λ (p : SeatState). p.number) more;
           waiting = (let w = s.waiting in let v = ap (λ (p : SeatState). p.waiting) more in omega (arith, w, v));
           receipts = s.receipts ∙ ap (λ (p : SeatState). p.receipts ++ receipt_of s.pending s.ended ∷ []) more;
+          kept_from = s.kept_from ∙ ap (λ (p : SeatState). p.kept_from) more;
           proves = subst (λ (j : ℕ). Proves mid.frames mid.history j (receipt_of s.pending s.ended)) numbered
               (right_settled mid.frames mid.history mid.kernel x s.pending s.ended (read_all (IsRight mid.frames mid.history mid.kernel) mid.books place x t.at k.right.each) s.pending_is s.ended_is).0;
         };
@@ -210,7 +215,7 @@ entered_left old mid later before between after call place k a more none =
     ap (λ (l : List Book). book_at l before.number) none.same ∙ subst (λ (j : ℕ). book_at mid.books j ≡ Some b.book) b.number (own_at mid.books place b.book b.at k.right.apart) in
     let had : receipts_at old.books before.number ≡ Some b.former.receipts =
     former_kept (recording_of old) (recording_of mid) old.books mid.books before.number place call b a.apart in (
-      enters old mid later before.number call place b.book a (none.same ∙ sym (set_same mid.books place b.book b.at)) b.number,
+      enters old mid later before.number call place b.book a (none.same ∙ sym (set_same mid.books place b.book b.at)) b.number settled b.kept_from,
       record {
         kept = ap (option_map (λ (z : Book). z.receipts)) settled ∙ ap (λ (rs : List Receipt). Some rs) b.receipts ∙ sym had;
         seat = none.seat ∙ more;
@@ -223,7 +228,7 @@ pub seat_back : (before between after : SeatState) → between ≡ record before
 seat_back before between after more less =
     let e : record after { waiting = after.waiting + 1 } ≡ record before { waiting = before.waiting + 1 } = sym less ∙ more in
     let w : after.waiting ≡ before.waiting = (let v = ap (λ (p : SeatState). p.waiting) e in omega (arith, v)) in
-    λ i. seat_state (ap (λ (p : SeatState). p.number) e i) (w i) (ap (λ (p : SeatState). p.receipts) e i)
+    λ i. record (seat_state (ap (λ (p : SeatState). p.number) e i) (w i) (ap (λ (p : SeatState). p.receipts) e i)) { kept_from = ap (λ (p : SeatState). p.kept_from) e i }
 
 pub refuses : (frames : ℕ) (es : List Entry) (kept_from : ℕ) (m : Machine) (books : List Book) (board : TableId) (published n : ℕ) (call : Call) (e : LockRefusal) → reply_waits books n ≡ false → kept_count kept_from es ≤ 999871 → book_at books n ≢ None
     → ((e ≡ NoMemory) ⊎ ((r : Refused) × (e ≡ ByKernel r) × Steps m (Start n call) (Err r) m)) → Refuses (lock frames m es kept_from books board published) n call e

@@ -1,5 +1,5 @@
 -- What the lock stores for each seat that it gave, and what a seat stores itself (this profile's own).
-use Rattle.std.specs.Prelude.{◌≡◌, ℕ, ◌+◌, ◌<◌, ◌≤◌, nat_eq, Bool, true, false, if◌then◌else◌, List, [], ◌∷◌, ◌++◌, length, map, Option, Some, None, MatchOption, slice_get, Contains}
+use Rattle.std.specs.Prelude.{◌≡◌, ℕ, ◌+◌, ◌<◌, ◌≤◌, nat_eq, nat_le, Bool, true, false, if◌then◌else◌, List, [], ◌∷◌, ◌++◌, length, map, Option, Some, None, MatchOption, slice_get, Contains}
 use Rattle.std.specs.Option.{option_map, option_map_or, option_and_then}
 use Rattle.std.specs.List.{All, AllPairs, list_any}
 use Rattle.l4_threads.specs.declared.Reply.{Reply}
@@ -13,29 +13,43 @@ use Rattle.l4_lock.specs.declared.entries.Receipt.{Receipt}
 use Rattle.l4_lock.specs.declared.entries.Ended.{Ended}
 use Rattle.l4_lock.specs.declared.entries.Pending.{Pending}
 use Rattle.l4_record.specs.History.{Replays, HasEvents}
+use Rattle.l4_record.specs.Sizes.{max_handed_out}
 use Rattle.l4_lock.specs.Receipts.{Proves, StartsCall}
 
--- the state of a seat: its number, how many of its calls were left waiting and have not been taken yet, and its receipts
+-- The state of a seat: its number, how many of its calls were left waiting and have not been taken yet, and its receipts. The receipts with
+-- lower numbers than `kept_from` were forgotten.
 pub record SeatState : Type 0 where
   pub number : ℕ
   pub waiting : ℕ
   pub receipts : List Receipt
+  pub kept_from : ℕ
 
+-- a seat that has forgotten nothing
 abbrev pub seat_state : ℕ → ℕ → List Receipt → SeatState
-seat_state number waiting receipts = record { number = number; waiting = waiting; receipts = receipts }
+seat_state number waiting receipts = record { number = number; waiting = waiting; receipts = receipts; kept_from = 0 }
 
 -- the number of calls that the seat started; each has a receipt or was left waiting
 abbrev pub starts : SeatState → ℕ
 starts p = length p.receipts + p.waiting
 
--- The book of a number whose seat was given: the call that has not been taken yet, if there is one, and a copy of each receipt.
+-- The book of a number whose seat was given: the call that has not been taken yet, if there is one, and a copy of each receipt. The copies
+-- with lower numbers than `kept_from` were forgotten.
 pub record Book : Type 0 where
   pub number : ℕ
   pub pending : Option Pending
   pub receipts : List Receipt
+  pub kept_from : ℕ
 
+-- a book that has forgotten nothing
 abbrev pub book : ℕ → Option Pending → List Receipt → Book
-book number pending receipts = record { number = number; pending = pending; receipts = receipts }
+book number pending receipts = record { number = number; pending = pending; receipts = receipts; kept_from = 0 }
+
+-- the book and the seat, once they have forgotten all receipts so far
+abbrev pub forgotten_book : Book → Book
+forgotten_book b = record b { kept_from = length b.receipts }
+
+abbrev pub forgotten_seat : SeatState → SeatState
+forgotten_seat p = if nat_le (length p.receipts) max_handed_out then record p { kept_from = length p.receipts } else p
 
 abbrev pub pending_count : Option Pending → ℕ
 pending_count None = 0
@@ -105,6 +119,10 @@ pending_at books n = option_and_then (λ (b : Book). b.pending) (book_at books n
 abbrev pub receipts_at : List Book → ℕ → Option (List Receipt)
 receipts_at books n = option_map (λ (b : Book). b.receipts) (book_at books n)
 
+-- the number of the first receipt of this number that the lock keeps
+abbrev pub kept_from_at : List Book → ℕ → Option ℕ
+kept_from_at books n = option_map (λ (b : Book). b.kept_from) (book_at books n)
+
 -- a call of this number has ended, and has not been taken yet
 abbrev pub reply_waits : List Book → ℕ → Bool
 reply_waits books n = option_map_or has_ended (option_and_then (λ (b : Book). b.pending) (book_at books n)) false
@@ -134,7 +152,8 @@ pub record Settles (old new : Book) (before after : SeatState) (own : Call → C
   pub ended : Ended
   pub ended_is : pending.ended ≡ Some ended
   pub answers : reply ≡ ended.reply
-  pub book_is : new ≡ book old.number None (old.receipts ++ receipt_of pending ended ∷ [])
+  pub book_is : new ≡ record old { pending = None; receipts = old.receipts ++ receipt_of pending ended ∷ [] }
   pub number : after.number ≡ before.number
   pub waiting : before.waiting ≡ after.waiting + 1
   pub receipts : after.receipts ≡ before.receipts ++ record (receipt_of pending ended) { call = own pending.call } ∷ []
+  pub kept_from : after.kept_from ≡ before.kept_from

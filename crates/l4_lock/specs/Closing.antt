@@ -1,11 +1,13 @@
 -- How the seats that come back agree with the seats that were given (this profile's own).
-use Rattle.std.specs.Prelude.{◌≡◌, ℕ, ◌<◌, ◌⊎◌, List, length, Option, Some, None, slice_get}
+use Rattle.std.specs.Prelude.{◌≡◌, ℕ, ◌<◌, ◌⊎◌, max, List, length, drop, Option, Some, None, slice_get}
 use Rattle.std.specs.List.{All, AllPairs}
+use Rattle.std.specs.Option.{option_map_or}
 use Rattle.l4_record.specs.declared.entries.Entry.{Entry}
 use Rattle.l4_lock.specs.declared.closing.Mismatch.{Mismatch}
 use Rattle.l4_lock.specs.declared.closing.Mismatch.TheVariants.{Missing, Foreign, Receipt as WrongReceipt}
 use Rattle.l4_lock.specs.Receipts.{Proves}
-use Rattle.l4_lock.specs.Books.{SeatState, starts, Book, starts_of}
+use Rattle.l4_lock.specs.declared.entries.Receipt.{Receipt}
+use Rattle.l4_lock.specs.Books.{SeatState, starts, Book, book_at, starts_of}
 use Rattle.l4_lock.specs.Locked.{Lock}
 
 -- one of the first `before` books, or seats, has this number
@@ -38,9 +40,17 @@ pub record IsTwice (seats : List SeatState) (n : ℕ) : Type 0 where
   pub number : second.number ≡ n
   pub first : HasSeat seats at n
 
--- the seat has as many starts as `counts` says, and the same receipts as the book
+-- the number of the first receipt that neither the book nor the seat has forgotten
+abbrev pub kept_by_both : Book → SeatState → ℕ
+kept_by_both b p = max b.kept_from p.kept_from
+
+-- these are as many receipts, and the same ones from this number on
+abbrev pub AreSameFrom : ℕ → List Receipt → List Receipt → Type 0
+AreSameFrom number xs ys = (length xs ≡ length ys) × (drop number xs ≡ drop number ys)
+
+-- The seat has as many starts as `counts` says, as many receipts as the book, and the same ones, where both keep them.
 abbrev pub Agrees : (Book → ℕ) → Book → SeatState → Type 0
-Agrees counts b p = (counts b ≡ starts p) × (b.receipts ≡ p.receipts)
+Agrees counts b p = (counts b ≡ starts p) × AreSameFrom (kept_by_both b p) b.receipts p.receipts
 
 -- each book with the seat's number agrees with the seat
 abbrev pub AllAgree : (Book → ℕ) → List Book → SeatState → Type 0
@@ -89,14 +99,22 @@ pub record AreBack (counts : Book → ℕ) (books : List Book) (seats : List Sea
 abbrev pub by_history : List Entry → Book → ℕ
 by_history history b = starts_of b.number history
 
--- What is proved about a seat that came back: the history has as many starts of its thread as the seat counted, each of its receipts is
--- right about the history, and the starts of its receipts rise.
-pub record IsShown (l : Lock) (p : SeatState) : Type 0 where
+-- What is proved about a seat that came back: the history has as many starts of its thread as the seat counted, each of its receipts from
+-- this number on is right about the history, and the starts of these receipts rise.
+pub record IsShownFrom (l : Lock) (number : ℕ) (p : SeatState) : Type 0 where
   pub count : starts_of p.number l.history ≡ starts p
-  pub receipts : All (Proves l.frames l.history p.number) p.receipts
-  pub rising : AllPairs (λ r s. r.start < s.start) p.receipts
+  pub receipts : All (Proves l.frames l.history p.number) (drop number p.receipts)
+  pub rising : AllPairs (λ r s. r.start < s.start) (drop number p.receipts)
+
+-- the same about all receipts of the seat
+abbrev pub IsShown : Lock → SeatState → Type 0
+IsShown l p = IsShownFrom l 0 p
+
+-- the number of the first receipt of a seat that neither the lock nor the seat has forgotten
+abbrev pub kept_in : List Book → SeatState → ℕ
+kept_in books p = option_map_or (λ b. kept_by_both b p) (book_at books p.number) 0
 
 -- what is proved once the lock is closed
 pub record Closes (l : Lock) (seats : List SeatState) : Type 0 where
   pub back : AreBack (by_history l.history) l.books seats
-  pub shown : (k : ℕ) (p : SeatState) → slice_get seats k ≡ Some p → IsShown l p
+  pub shown : (k : ℕ) (p : SeatState) → slice_get seats k ≡ Some p → IsShownFrom l (kept_in l.books p) p

@@ -1,5 +1,5 @@
 -- The locked kernel as one value, and the effects of its calls (this profile's own).
-use Rattle.std.specs.Prelude.{◌≡◌, ◌≢◌, ℕ, ◌+◌, ◌<◌, ◌≤◌, ◌⊎◌, List, [], ◌∷◌, ◌++◌, length, Some, None, IsTrue, slice_get, Err, Contains, refl}
+use Rattle.std.specs.Prelude.{◌≡◌, ◌≢◌, ℕ, ◌+◌, ◌<◌, ◌≤◌, ◌⊎◌, List, [], ◌∷◌, ◌++◌, length, map, Some, None, IsTrue, slice_get, Err, Contains, refl}
 use Rattle.std.specs.Option.{option_map}
 use Rattle.std.specs.Coded.{Coded, code_by, coded×, coded_ℕ, coded_list}
 use Rattle.atomic_table.specs.Seated.{TableId, table_id_coded}
@@ -26,7 +26,7 @@ use Rattle.l4_record.specs.Sizes.{max_entries, last_start, max_handed_out}
 use Rattle.l4_record.specs.Segments.{kept, kept_count, HasBase}
 use Rattle.l4_record.specs.Recording.{Recording, recording, Enters as Recorded}
 use Rattle.l4_lock.specs.Receipts.{Proves}
-use Rattle.l4_lock.specs.Books.{SeatState, Book, book, receipt_of, plain, book_at, receipts_at, pending_at, reply_waits, Settles, AreRight}
+use Rattle.l4_lock.specs.Books.{SeatState, Book, book, receipt_of, plain, book_at, receipts_at, kept_from_at, pending_at, forgotten_book, reply_waits, Settles, AreRight}
 
 -- What a contract sees of the locked kernel. The history is the list of all entries since boot. Those with lower numbers than `kept_from`
 -- were handed out.
@@ -66,17 +66,20 @@ pub record IsKept (l : Lock) : Type 0 where
 abbrev pub recording_of : Lock → Recording
 recording_of l = recording l.frames l.kernel l.history l.kept_from l.board l.published
 
--- The call was entered, as the recorder enters it. The books of other numbers are unchanged, except that calls of theirs may have ended.
+-- The call was entered, as the recorder enters it. The books of other numbers are unchanged, except that calls of theirs may have ended. No
+-- book has forgotten a receipt.
 pub record Enters (old new : Lock) (n : ℕ) (call : Call) : Type 0 where
   pub appended : Appended
   pub recorded : Recorded (recording_of old) (recording_of new) n call appended
   pub others : (m : ℕ) → m ≢ n → option_map plain (book_at new.books m) ≡ option_map plain (book_at old.books m)
+  pub kept_from : kept_from_at new.books n ≡ kept_from_at old.books n
 
 -- the seat gained this receipt, which is right about the history
 pub record Gains (l : Lock) (before after : SeatState) (receipt : Receipt) : Type 0 where
   pub number : after.number ≡ before.number
   pub waiting : after.waiting ≡ before.waiting
   pub receipts : after.receipts ≡ before.receipts ++ receipt ∷ []
+  pub kept_from : after.kept_from ≡ before.kept_from
   pub proves : Proves l.frames l.history before.number receipt
 
 -- the call that was entered has ended with this reply
@@ -139,9 +142,9 @@ pub record Takes (old new : Lock) (before after : SeatState) (own : Call → Cal
   pub same : (new.frames ≡ old.frames) × (new.kernel ≡ old.kernel) × (new.history ≡ old.history) × (new.board ≡ old.board)
   pub kept_from : new.kept_from ≡ old.kept_from
 
--- The segment has the entries that were kept, and the number of the first of them. They were handed out, so none is kept now. Nothing else
--- has changed: receipts name the same entries by the same numbers.
+-- The segment has the entries that were kept, and the number of the first of them. They were handed out, so none is kept now, and no book
+-- keeps a receipt. Nothing else has changed: receipts name the same entries by the same numbers.
 pub record HandsOut (old new : Lock) (segment : Segment) : Type 0 where
   pub first : segment.first ≡ old.kept_from
   pub entries : segment.history.entries ≡ kept old.kept_from old.history
-  pub new_is : new ≡ record old { kept_from = length old.history }
+  pub new_is : new ≡ record old { kept_from = length old.history; books = map forgotten_book old.books }

@@ -17,6 +17,7 @@ pub record IsAnswered (before after : SeatState) (call : Call) (reply : Reply) :
   pub number : after.number ≡ before.number
   pub waiting : after.waiting ≡ before.waiting
   pub receipts : after.receipts ≡ before.receipts ++ receipt ∷ []
+  pub kept_from : after.kept_from ≡ before.kept_from
   pub gives : receipt.call ≡ call
   pub answers : receipt.reply ≡ reply
 

@@ -1,8 +1,9 @@
 //! The accounts of the seats that were given.
-ghost use Rattle.std.specs.Prelude.{◌≡◌, ◌≢◌, ◌<◌, ℕ, List, Some, None, [], ◌∷◌, ◌++◌, length, IfSome, IfNone, MatchOption, MatchResult, is_some, false, slice_get, slice_set};
+ghost use Rattle.std.specs.Prelude.{◌≡◌, ◌≢◌, ◌<◌, ℕ, List, Some, None, [], ◌∷◌, ◌++◌, length, map, IfSome, IfNone, MatchOption, MatchResult, is_some, false, slice_get, slice_set};
 ghost use Rattle.std.specs.Option.{option_copied};
-ghost use Rattle.l4_lock.specs.Books.{Book, book, book_at, reply_waits, numbers, IsOnce};
-ghost use Rattle.l4_lock.specs.Inside.Accounts.{has_reply, SettlesAt, IsUnsettled};
+ghost use Rattle.std.specs.List.{All};
+ghost use Rattle.l4_lock.specs.Books.{Book, book, book_at, forgotten_book, reply_waits, numbers, IsOnce};
+ghost use Rattle.l4_lock.specs.Inside.Accounts.{has_reply, HasFewReceipts, SettlesAt, IsUnsettled};
 ghost use Rattle.l4_lock.specs.Inside.Noting.{noted, own_call};
 
 use crate::seats::{Account, Seat, settle};
@@ -123,6 +124,14 @@ impl Accounts {
         }
     }
 
+    /// Forgets the receipts that the accounts keep.
+    pub fn forget(&mut self)
+        requires { All HasFewReceipts self.old.items }
+        ensures { self.new.items ≡ map forgotten_book self.old.items }
+    {
+        forget_all(&mut self.items);
+    }
+
     /// Takes the call of the account at this index, if it has ended, and returns its reply. The account and the seat gain its receipt. In
     /// the seat's receipt, the call is the one that the seat passes.
     pub fn finish(&mut self, at: usize, seat: &mut Seat, own: Option<&Call>) -> Option<Reply>
@@ -139,6 +148,16 @@ impl Accounts {
         };
         self.replies -= 1;
         Some(reply)
+    }
+}
+
+/// Forgets the receipts that these accounts keep.
+fn forget_all(accounts: &mut Vec<Account>)
+    requires { All HasFewReceipts accounts.old.items }
+    ensures { accounts.new.items ≡ map forgotten_book accounts.old.items }
+{
+    for i in 0..accounts.len() {
+        accounts[i].forget();
     }
 }
 

@@ -6,6 +6,7 @@ mod closing;
 mod copies;
 mod entries;
 mod locked;
+mod past;
 mod receipts;
 mod refusals;
 mod seats;

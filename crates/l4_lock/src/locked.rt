@@ -101,6 +101,13 @@ impl Locked {
         self.recorder.history()
     }
 
+    /// Returns the number of entries since boot.
+    pub fn count(&self) -> usize
+        ensures { result ≡ length self.now.history }
+    {
+        self.recorder.count()
+    }
+
     /// Returns the number of the first entry that is kept. All entries with lower numbers were handed out.
     pub fn kept_from(&self) -> usize
         ensures { result ≡ self.now.kept_from }
@@ -257,7 +264,7 @@ impl Locked {
     }
 
     /// Hands out the entries that are kept, as a segment. From then on, the entries of later calls are kept only. Their numbers continue, and
-    /// receipts name entries by these numbers.
+    /// receipts name entries by these numbers. Forgets the copies of receipts; seats forget theirs by `Seat::forget`.
     ///
     /// Returns `None` if more than 2^63 entries were recorded since boot. Then nothing has changed.
     pub fn hand_out(&mut self) -> Option<Segment>
@@ -267,6 +274,9 @@ impl Locked {
     {
         let segment = self.recorder.hand_out();
         self.recorder.law_kept();
+        if segment.is_some() {
+            self.accounts.forget();
+        }
         segment
     }
 

@@ -1,7 +1,8 @@
 //! Seats, and the account that the lock keeps for each.
 ghost use Rattle.std.specs.Prelude.{◌≡◌, ◌≢◌, ◌+◌, ◌<◌, ◌≤◌, Some, None, [], ◌∷◌, ◌++◌, length, IfSome, IfNone, MatchResult, is_some, true, false};
 ghost use Rattle.std.specs.Option.{option_map_or, option_copied};
-ghost use Rattle.l4_lock.specs.Books.{SeatState, seat_state, starts, Book, book, pending_count, receipt, has_ended, Settles};
+ghost use Rattle.l4_record.specs.Sizes.{max_handed_out};
+ghost use Rattle.l4_lock.specs.Books.{SeatState, seat_state, forgotten_seat, starts, Book, book, forgotten_book, pending_count, receipt, has_ended, Settles};
 ghost use Rattle.l4_lock.specs.Inside.Accounts.{has_reply};
 ghost use Rattle.l4_lock.specs.Inside.Noting.{started_by, noted, noted_call, reply_in, own_call};
 
@@ -9,6 +10,7 @@ use crate::copies::{copy_call, copy_reply};
 use crate::entries::{Ended, Pending};
 use crate::receipts::Receipts;
 use l4_ipc::{Call, Kernel, Reply};
+use l4_record::MAX_HANDED_OUT;
 use std::alloc::{AllocError, Global};
 use std::marker::Model;
 
@@ -21,14 +23,15 @@ pub struct Seat {
 }
 
 impl Model for Seat {
-    ghost use Rattle.std.specs.Prelude.{◌+◌, ◌<◌, ◌≤◌, ◌^◌, length};
+    ghost use Rattle.std.specs.Prelude.{◌+◌, ◌<◌, ◌≤◌, ◌^◌};
     ghost use Rattle.l4_lock.specs.Books.{SeatState, seat_state};
+    ghost use Rattle.l4_lock.specs.Lists.{kept_receipt_count};
 
     ghost Value = { SeatState };
 
-    ghost view = { λ s. seat_state s.number s.waiting s.receipts.items };
+    ghost view = { λ s. record (seat_state s.number s.waiting s.receipts.items) { kept_from = s.receipts.kept_from } };
 
-    ghost invariant = { λ s. (length s.receipts.items + s.waiting ≤ s.receipts.room) × (s.receipts.room < 2 ^ 63) };
+    ghost invariant = { λ s. (kept_receipt_count s.receipts + s.waiting ≤ s.receipts.room) × (s.receipts.room < 2 ^ 63) };
 }
 
 impl Seat {
@@ -66,9 +69,19 @@ impl Seat {
 
     /// Returns the receipts of its ended calls.
     pub fn receipts(&self) -> &Receipts
-        ensures { result.now.items ≡ self.now.receipts }
+        ensures receipts { result.now.items ≡ self.now.receipts }
+        ensures kept_from { result.now.kept_from ≡ self.now.kept_from }
     {
         &self.receipts
+    }
+
+    /// Forgets the receipts that the seat keeps. Later receipts continue their numbers. A seat with more than 2^63 receipts keeps them.
+    pub fn forget(&mut self)
+        ensures { self.new ≡ forgotten_seat self.old }
+    {
+        if self.receipts.len() <= MAX_HANDED_OUT {
+            self.receipts.forget();
+        }
     }
 
     /// Counts one more call that is left waiting, and allocates room for its receipt. Returns false if the allocation fails; then nothing
@@ -99,6 +112,7 @@ impl Seat {
         requires { self.old.waiting ≢ 0 }
         ensures receipts { self.new.receipts ≡ self.old.receipts
             ++ receipt call.now start ended.now ∷ [] }
+        ensures kept_from { self.new.kept_from ≡ self.old.kept_from }
         ensures waiting { (self.old.waiting ≡ self.new.waiting + 1)
             × (self.new.number ≡ self.old.number) }
     {
@@ -143,14 +157,15 @@ pub(crate) struct Account {
 }
 
 impl Model for Account {
-    ghost use Rattle.std.specs.Prelude.{◌+◌, ◌<◌, ◌≤◌, ◌^◌, length};
+    ghost use Rattle.std.specs.Prelude.{◌+◌, ◌<◌, ◌≤◌, ◌^◌};
     ghost use Rattle.l4_lock.specs.Books.{Book, book, pending_count};
+    ghost use Rattle.l4_lock.specs.Lists.{kept_receipt_count};
 
     ghost Value = { Book };
 
-    ghost view = { λ a. book a.number a.pending a.receipts.items };
+    ghost view = { λ a. record (book a.number a.pending a.receipts.items) { kept_from = a.receipts.kept_from } };
 
-    ghost invariant = { λ a. (length a.receipts.items + pending_count a.pending ≤ a.receipts.room) × (a.receipts.room < 2 ^ 63) };
+    ghost invariant = { λ a. (kept_receipt_count a.receipts + pending_count a.pending ≤ a.receipts.room) × (a.receipts.room < 2 ^ 63) };
 }
 
 impl Account {
@@ -185,9 +200,18 @@ impl Account {
 
     /// Returns the receipts that were given.
     pub fn receipts(&self) -> &Receipts
-        ensures { result.now.items ≡ self.now.receipts }
+        ensures receipts { result.now.items ≡ self.now.receipts }
+        ensures kept_from { result.now.kept_from ≡ self.now.kept_from }
     {
         &self.receipts
+    }
+
+    /// Forgets the receipts that the account keeps.
+    pub fn forget(&mut self)
+        requires { length self.old.receipts ≤ max_handed_out }
+        ensures { self.new ≡ forgotten_book self.old }
+    {
+        self.receipts.forget();
     }
 
     /// Returns whether a call has not been taken yet.

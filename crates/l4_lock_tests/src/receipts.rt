@@ -98,3 +98,52 @@ fn long_messages(rt: HostRuntime) {
     let seats = list(&rt, rt.alloc(), [root, third]);
     assert!(rt; locked.close(seats).is_ok());
 }
+
+/// A lock hands out its entries while the third thread waits for the message of the second round. Root's seat forgets its receipts, and the
+/// other one keeps them.
+fn exchange_around_a_segment(
+    rt: &impl Abort,
+    locked: &mut Locked,
+    root: &mut Seat,
+    third: &mut Seat,
+) {
+    assert!(rt; locked.enter(root, create(THIRD)).is_ok());
+    exchange(rt, locked, root, third, 0);
+    assert!(rt; locked.enter(third, receive()).is_ok());
+    assert!(rt; locked.hand_out().is_some());
+    root.forget();
+    assert!(rt; locked.enter(root, send(THIRD, &message(1))).is_ok());
+    assert!(rt; locked.take(third).is_some());
+}
+
+/// Judges what the seats keep then.
+fn check_kept(rt: &impl Abort, root: &Seat, third: &Seat) {
+    assert_eq!(rt;
+        (root.receipts().len(), root.receipts().kept_from()),
+        (3, 2)
+    );
+    assert_eq!(rt;
+        (third.receipts().len(), third.receipts().kept_from()),
+        (2, 0)
+    );
+    assert!(rt; root.receipts().get(1).is_none());
+    let sent = root.receipts().get(2).expect(rt, "a receipt");
+    assert!(rt; has_sent(&sent, 1));
+    assert_eq!(rt; root.receipts().receipts_from(0).count(), 1);
+    let received = third.receipts().get(1).expect(rt, "a receipt");
+    assert!(rt; has_received(&received, 1));
+    assert_eq!(rt; third.receipts().receipts_from(0).count(), 2);
+}
+
+/// Receipts of later calls continue the numbers, and the lock closes with both seats.
+#[test]
+fn forgotten_receipts(rt: HostRuntime) {
+    let mut locked = new_locked(&rt, rt.alloc());
+    let mut root = seat_of(&rt, &mut locked, ROOT);
+    let mut third = seat_of(&rt, &mut locked, THIRD);
+    exchange_around_a_segment(&rt, &mut locked, &mut root, &mut third);
+    check_kept(&rt, &root, &third);
+    assert_eq!(rt; (locked.kept_from(), locked.count()), (5, 7));
+    let seats = list(&rt, rt.alloc(), [root, third]);
+    assert!(rt; locked.close(seats).is_ok());
+}

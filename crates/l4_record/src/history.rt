@@ -55,7 +55,7 @@ fn ends_word(ends: bool) -> u32
 
 impl History {
     /// Creates a history without entries.
-    pub(crate) fn new(alloc: Global) -> History
+    pub fn new(alloc: Global) -> History
         ensures { result.entries ≡ [] }
     {
         History {

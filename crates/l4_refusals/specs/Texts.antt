@@ -79,6 +79,7 @@ table_texts =
     ∷ (codes "L4", codes "the seat of this number was already given out")
     ∷ (codes "L6", codes "a transfer that ran out of memory in the history succeeded when the history was replayed")
     ∷ (codes "L7", codes "the given links do not match the way the page got there")
+    ∷ (codes "L8", codes "the entries or receipts that this needs were handed out")
     ∷ (codes "X1", codes "the seat of this number was given out, but was not returned")
     ∷ (codes "X2", codes "the seat of this number was never given out, or was returned twice")
     ∷ (codes "X3", codes "the seat of this number does not match the lock's records")

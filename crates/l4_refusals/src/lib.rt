@@ -153,7 +153,7 @@ fn check_texts() -> [Text; 6]
 }
 
 /// Returns the refusals of a pager's table and of a locked kernel, and a failed allocation.
-fn table_texts() -> [Text; 13]
+fn table_texts() -> [Text; 14]
     ensures { map bytes_of result ≡ table_texts }
 {
     [
@@ -183,6 +183,10 @@ fn table_texts() -> [Text; 13]
         meaning(
             b"L7",
             b"the given links do not match the way the page got there",
+        ),
+        meaning(
+            b"L8",
+            b"the entries or receipts that this needs were handed out",
         ),
         meaning(
             b"X1",

@@ -23,17 +23,6 @@ unseated_refuses l n call e none (inl full) = subst (Refuses l n call) (sym full
 unseated_refuses l n call e none (inr room) =
     subst (Refuses l n call) (sym room.1) ((λ waits. false≢true (sym (none_waits_unseated l.books n none) ∙ waits)), room.0, inl (none, refl))
 
--- no entries were handed out
-pub none_by_call : (r : Result Entered LockRefusal) (a new : Lock) (before after : SeatState) (call : Call) → IfOk r (λ e. Enters a new before.number call × Tells a new before after call e)
-    → IfErr r (λ e. Refuses a before.number call e × (new ≡ a) × (after ≡ before)) → a.kept_from ≡ 0 → new.kept_from ≡ 0
-none_by_call (Ok e) a new before after call ok err zero = ok.0.recorded.kept_from ∙ zero
-none_by_call (Err e) a new before after call ok err zero = ap (λ (k : Lock). k.kept_from) err.1 ∙ zero
-
-pub none_by_take : (r : Option Reply) (a new : Lock) (before after : SeatState) → IfSome r (λ reply. Takes a new before after (λ call. call) reply)
-    → IfNone r ((new ≡ a) × (after ≡ before) × ((before.waiting ≡ 0) ⊎ (reply_waits a.books before.number ≡ false))) → a.kept_from ≡ 0 → new.kept_from ≡ 0
-none_by_take (Some reply) a new before after some none zero = some.kept_from ∙ zero
-none_by_take None a new before after some none zero = ap (λ (k : Lock). k.kept_from) none.0 ∙ zero
-
 -- of parts: the locked kernel as it stood, what contracts see of it, and the seats as they were read
 module _ (a l : Lock) (view : a ≡ l) (seats read : List SeatState) (same : read ≡ seats) (agree : Agree seats a.books) (n : ℕ) where
   pub unseated : ¬ (HasSeat read (length read) n) → book_at l.books n ≡ None

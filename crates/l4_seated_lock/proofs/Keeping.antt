@@ -10,7 +10,7 @@ use Rattle.l4_lock.specs.declared.entries.Receipt.{Receipt}
 use Rattle.l4_lock.specs.declared.entries.Pending.{Pending}
 use Rattle.l4_lock.specs.declared.refusals.Entered.{Entered}
 use Rattle.l4_lock.specs.declared.refusals.Entered.TheVariants.{Done, Waiting}
-use Rattle.l4_lock.specs.Books.{SeatState, seat_state, starts, Book, book, book_at, receipts_at, reply_waits, has_ended, plain, unended, pending_count, receipt_of, starts_of, IsRight}
+use Rattle.l4_lock.specs.Books.{SeatState, seat_state, starts, Book, book, book_at, receipts_at, kept_from_at, reply_waits, has_ended, plain, unended, pending_count, receipt_of, starts_of, IsRight}
 use Rattle.l4_lock.specs.Closing.{HasSeat}
 use Rattle.l4_lock.specs.Locked.{Lock, IsKept, Enters, Tells, Takes}
 use Rattle.l4_lock.proofs.Started.{at_number}
@@ -23,8 +23,8 @@ use Rattle.l4_seated_lock.proofs.Counts.{one_more}
 abbrev pub Agree : List SeatState → List Book → Type 0
 Agree seats books = (n : ℕ) → found seats n ≡ seat_at books n
 
-same_seat : (p q : SeatState) → p.number ≡ q.number → p.waiting ≡ q.waiting → p.receipts ≡ q.receipts → p ≡ q
-same_seat p q number waiting receipts = λ i. seat_state (number i) (waiting i) (receipts i)
+same_seat : (p q : SeatState) → p.number ≡ q.number → p.waiting ≡ q.waiting → p.receipts ≡ q.receipts → p.kept_from ≡ q.kept_from → p ≡ q
+same_seat p q number waiting receipts kept = λ i. record (seat_state (number i) (waiting i) (receipts i)) { kept_from = kept i }
 
 -- a number whose seat is known has a book
 pub own_book : (books : List Book) (n : ℕ) (p : SeatState) → seat_at books n ≡ Some p → (b : Book) × (book_at books n ≡ Some b) × (seat_of b ≡ p) × (b.number ≡ n)
@@ -40,7 +40,7 @@ plain_count (Some p) = refl
 
 plain_seat : (o : Option Book) → option_map seat_of (option_map plain o) ≡ option_map seat_of o
 plain_seat None = refl
-plain_seat (Some b) = ap (λ (k : ℕ). Some (seat_state b.number k b.receipts)) (plain_count b.pending)
+plain_seat (Some b) = ap (λ (k : ℕ). Some (record (seat_state b.number k b.receipts) { kept_from = b.kept_from })) (plain_count b.pending)
 
 same_plain : (o r : Option Book) → option_map plain o ≡ option_map plain r → option_map seat_of o ≡ option_map seat_of r
 same_plain o r is = sym (plain_seat o) ∙ ap (option_map seat_of) is ∙ plain_seat r
@@ -52,15 +52,15 @@ counted l n b kept at =
     subst (λ (k : ℕ). starts_of k l.history ≡ length b.receipts + pending_count b.pending) (at_number l.books n b at) right.count
 
 -- of its number's receipts and of the starts that the history has the seat is known
-known : (l : Lock) (n : ℕ) (p : SeatState) → IsKept l → p.number ≡ n → receipts_at l.books n ≡ Some p.receipts → starts_of n l.history ≡ starts p → seat_at l.books n ≡ Some p
-known l n p kept number receipts count = of_option (book_at l.books n) refl receipts where
-  of_option : (o : Option Book) → book_at l.books n ≡ o → option_map (λ (b : Book). b.receipts) o ≡ Some p.receipts → seat_at l.books n ≡ Some p
-  of_option None at is = absurd (let k : ◌≡◌ {A = Option (List Receipt)} None (Some p.receipts) = is in cc)
-  of_option (Some b) at is =
+known : (l : Lock) (n : ℕ) (p : SeatState) → IsKept l → p.number ≡ n → receipts_at l.books n ≡ Some p.receipts → kept_from_at l.books n ≡ Some p.kept_from → starts_of n l.history ≡ starts p → seat_at l.books n ≡ Some p
+known l n p kept number receipts first count = of_option (book_at l.books n) refl receipts first where
+  of_option : (o : Option Book) → book_at l.books n ≡ o → option_map (λ (b : Book). b.receipts) o ≡ Some p.receipts → option_map (λ (b : Book). b.kept_from) o ≡ Some p.kept_from → seat_at l.books n ≡ Some p
+  of_option None at is from' = absurd (let k : ◌≡◌ {A = Option (List Receipt)} None (Some p.receipts) = is in cc)
+  of_option (Some b) at is from' =
       let same : b.receipts ≡ p.receipts = same_Some b.receipts p.receipts is in
       let c = counted l n b kept at in
       let len : length b.receipts ≡ length p.receipts = ap length same in
-      ap (option_map seat_of) at ∙ ap Some (same_seat (seat_of b) p (at_number l.books n b at ∙ sym number) (omega (arith, c, count, len)) same)
+      ap (option_map seat_of) at ∙ ap Some (same_seat (seat_of b) p (at_number l.books n b at ∙ sym number) (omega (arith, c, count, len)) same (same_Some b.kept_from p.kept_from from'))
 
 -- AFTER A CALL
 
@@ -68,6 +68,7 @@ known l n p kept number receipts count = of_option (book_at l.books n) refl rece
 record Becomes (old new : Lock) (n : ℕ) (before after : SeatState) : Type 0 where
   pub number : after.number ≡ n
   pub receipts : receipts_at new.books n ≡ Some after.receipts
+  pub kept_from : after.kept_from ≡ before.kept_from
   pub starts : starts after ≡ starts before + 1
 
 kept_receipts : (books : List Book) (n : ℕ) (p : SeatState) → seat_at books n ≡ Some p → receipts_at books n ≡ Some p.receipts
@@ -84,6 +85,7 @@ becomes old new n before after call (Done reply) is was t =
       number = t.gains.number ∙ is;
       receipts = subst (λ (k : ℕ). receipts_at new.books k ≡ option_map (λ rs. rs ++ t.receipt ∷ []) (receipts_at old.books k)) is t.kept
           ∙ ap (option_map (λ (rs : List Receipt). rs ++ t.receipt ∷ [])) (kept_receipts old.books n before was) ∙ ap Some (sym t.gains.receipts);
+      kept_from = t.gains.kept_from;
       starts = omega (arith, more, len, waiting);
     }
 becomes old new n before after call Waiting is was t =
@@ -92,6 +94,7 @@ becomes old new n before after call Waiting is was t =
     record {
       number = ap (λ (p : SeatState). p.number) t.seat ∙ is;
       receipts = subst (λ (k : ℕ). receipts_at new.books k ≡ receipts_at old.books k) is t.kept ∙ kept_receipts old.books n before was ∙ ap (λ (p : SeatState). Some p.receipts) (sym t.seat);
+      kept_from = ap (λ (p : SeatState). p.kept_from) t.seat;
       starts = omega (arith, waiting, len);
     }
 
@@ -105,10 +108,12 @@ entered_seat old new n before after call told was_kept kept is was enters t =
     let w = ap (λ (p : SeatState). p.waiting) own.2 in
     let l = ap (λ (p : SeatState). length p.receipts) own.2 in
     let s = b.starts in
+    let first : kept_from_at new.books n ≡ Some after.kept_from =
+    enters.kept_from ∙ ap (option_map (λ (x : Book). x.kept_from)) own.1 ∙ ap (λ (p : SeatState). Some p.kept_from) own.2 ∙ ap Some (sym b.kept_from) in
     let m : starts_of n new.history ≡ starts_of n old.history + 1 =
     ap (starts_of n) enters.recorded.history ∙ one_more n call enters.appended.start old.history enters.appended.next.items in (
       b.number,
-      known new n after kept b.number b.receipts (omega (arith, c, w, l, s, m)),
+      known new n after kept b.number b.receipts first (omega (arith, c, w, l, s, m)),
     )
 
 module _ (seats : List SeatState) (old new : Lock) (agree : Agree seats old.books) (n at : ℕ) (before after : SeatState) (first : IsFirst seats n at) (read : before ≡ get_or seats at before) where
@@ -156,10 +161,11 @@ module _ (seats : List SeatState) (old new : Lock) (agree : Agree seats old.book
       let one : pending_count t.book.pending ≡ 1 = ap pending_count s.pending_is in
       let waiting = s.waiting in
       let none : 0 ≡ after.waiting = omega (arith, w, one, waiting) in
+      let same = ap (λ (p : SeatState). p.kept_from) mine ∙ sym s.kept_from in
       let receipts = ap (λ (p : SeatState). p.receipts ++ receipt_of s.pending s.ended ∷ []) mine ∙ sym s.receipts in (
         s.number ∙ number_there,
         subst (λ (k : ℕ). seat_at new.books k ≡ Some after) number_there
-            (ap (option_map seat_of) (t.settled ∙ ap Some s.book_is) ∙ ap Some (same_seat (seat_of (book t.book.number None (t.book.receipts ++ receipt_of s.pending s.ended ∷ []))) after number none receipts)),
+            (ap (option_map seat_of) (t.settled ∙ ap Some s.book_is) ∙ ap Some (same_seat (seat_of (record t.book { pending = None; receipts = t.book.receipts ++ receipt_of s.pending s.ended ∷ [] })) after number none receipts same)),
       )
 
   pub taken_agree : (reply : Reply) → Takes old new before after (λ call. call) reply → Agree (slice_set seats at after) new.books

@@ -5,3 +5,4 @@ pub mod Answering
 pub mod Naming
 pub mod Returned
 pub mod Tracing
+pub mod Forgetting

@@ -1,10 +1,10 @@
 -- Seats that come back by their numbers.
-use Rattle.std.proofs.Common.{◌≡◌, ◌≢◌, ℕ, suc, zero, ◌⊎◌, inl, inr, if◌then◌else◌, List, [], ◌∷◌, length, Option, Some, None, MatchOption, slice_get, refl, sym, ap, ◌∙◌, subst, arith}
+use Rattle.std.proofs.Common.{◌≡◌, ◌≢◌, ℕ, suc, zero, ◌⊎◌, inl, inr, if◌then◌else◌, List, [], ◌∷◌, length, drop, Option, Some, None, MatchOption, slice_get, refl, sym, ap, ◌∙◌, subst, arith}
 use Rattle.std.specs.Option.{option_map, option_map_or}
 use Rattle.std.proofs.lemmas.Bool.Decides.{eqb_tells}
 use Rattle.std.proofs.lemmas.Option.{slice_get-map, slice_get_within, same_Some}
 use Rattle.l4_lock.specs.Books.{SeatState, seat_state, starts, Book, book_at, numbers, IsOnce}
-use Rattle.l4_lock.specs.Closing.{HasBook, HasSeat, IsGiven, IsBack, AllAgree, IsMissing, IsForeign, Least, Mismatches, AreBack, by_history, Closes}
+use Rattle.l4_lock.specs.Closing.{HasBook, HasSeat, IsGiven, IsBack, kept_by_both, AllAgree, IsMissing, IsForeign, Least, Mismatches, AreBack, by_history, Closes}
 use Rattle.l4_lock.specs.Inside.Noting.{started_by}
 use Rattle.l4_lock.specs.Locked.{Lock, IsKept}
 use Rattle.l4_lock.specs.declared.closing.Mismatch.{Mismatch}
@@ -171,7 +171,8 @@ module _ (seats : List SeatState) (books : List Book) (agree : Agree seats books
   own_seat k p once there j b at number =
       let own : book_at books p.number ≡ Some b = subst (λ (m : ℕ). book_at books m ≡ Some b) number (own_at books j b at once) in
       let is : p ≡ seat_of b = (at_back books ns k p there).1 ∙ ap (λ (o : Option Book). option_map_or seat_of o (seat_state p.number 0 [])) own in
-      (ap starts (sym is), ap (λ (q : SeatState). q.receipts) (sym is))
+      let from' : ℕ = kept_by_both b p in
+      (ap starts (sym is), (ap (λ (q : SeatState). length q.receipts) (sym is), ap (λ (q : SeatState). drop from' q.receipts) (sym is)))
 
   named_are_back : IsOnce (numbers books) → AreNamed seats ns → AreBack started_by books (seats_back books ns)
   named_are_back once h = record {

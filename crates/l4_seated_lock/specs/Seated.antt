@@ -1,17 +1,20 @@
 -- A locked kernel that holds all its seats itself: the state of each seat, and the calls that are entered and taken by seat number (this
 -- profile's own).
-use Rattle.std.specs.Prelude.{◌≡◌, ℕ, List, [], map, Option, Some}
+use Rattle.std.specs.Prelude.{◌≡◌, ◌≢◌, ℕ, List, [], map, Option, Some}
 use Rattle.std.specs.Option.{option_map, option_map_or}
 use Rattle.l4_threads.specs.declared.Reply.{Reply}
 use Rattle.l4_ipc.specs.declared.calls.Call.{Call}
+use Rattle.l4_record.specs.Replays.{IsNotRepeated}
 use Rattle.l4_lock.specs.declared.refusals.Entered.{Entered}
 use Rattle.l4_lock.specs.Books.{SeatState, seat_state, Book, pending_count, book_at}
 use Rattle.l4_lock.specs.Locked.{Lock, Enters, Tells, Takes}
+use Rattle.l4_seated_lock.specs.declared.faults.TraceFault.{TraceFault}
+use Rattle.l4_seated_lock.specs.declared.faults.TraceFault.TheVariants.{HandedOut, Replay}
 
 -- the state of a book's seat, which never left the lock: a call that has not been taken was left waiting, and the receipts are those of the
 -- book
 abbrev pub seat_of : Book → SeatState
-seat_of b = seat_state b.number (pending_count b.pending) b.receipts
+seat_of b = record (seat_state b.number (pending_count b.pending) b.receipts) { kept_from = b.kept_from }
 
 -- the seat of a number, if it was given
 abbrev pub seat_at : List Book → ℕ → Option SeatState
@@ -34,6 +37,11 @@ pub record TakesBySeat (old new : Lock) (n : ℕ) (reply : Reply) : Type 0 where
   pub becomes : seat_at new.books n ≡ Some after
   pub number : before.number ≡ n
   pub takes : Takes old new before after (λ call. call) reply
+
+-- the reason why the provenance of a page is not found: entries were handed out (L8), or else the history cannot be replayed
+abbrev pub IsNotTraced : Lock → TraceFault → Type 0
+IsNotTraced l HandedOut = l.kept_from ≢ 0
+IsNotTraced l (Replay fault) = (l.kept_from ≡ 0) × IsNotRepeated l.frames l.kernel.size l.history fault
 
 -- the state of a seat that comes back by its number: as its book says, or a seat that has entered nothing if it was not given
 abbrev pub seat_back : List Book → ℕ → SeatState

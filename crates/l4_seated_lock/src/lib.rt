@@ -2,9 +2,11 @@
 #![tactic(auto)]
 
 mod closing;
+mod faults;
 mod places;
 mod seated;
 
-pub use l4_lock::{Entered, History, LockRefusal, Mismatch, Seat};
+pub use faults::TraceFault;
+pub use l4_lock::{Entered, History, LockRefusal, Mismatch, Seat, Segment};
 pub use l4_record::{ChainLink, ReplayFault};
 pub use seated::SeatedLock;

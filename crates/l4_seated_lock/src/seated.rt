@@ -1,25 +1,37 @@
 //! A locked kernel together with its seats.
-ghost use Rattle.std.specs.Prelude.{◌≡◌, ◌≢◌, ◌⊎◌, ◌+◌, ◌↔◌, [], ◌∷◌, ◌++◌, None, Some, IsTrue, IfOk, IfErr, IfSome, IfNone, MatchResult, MatchOption, false};
+ghost use Rattle.std.specs.Prelude.{◌≡◌, ◌≢◌, ◌⊎◌, ◌+◌, ◌↔◌, [], ◌∷◌, ◌++◌, None, Some, length, map, ◌<◌, IsTrue, IfOk, IfErr, IfSome, IfNone, MatchResult, MatchOption, false};
 ghost use Rattle.l4_ipc.specs.Machine.{Machine, IsBoot};
 ghost use Rattle.l4_record.specs.Chains.{IsProvenance, IsAbsent};
 ghost use Rattle.l4_record.specs.Replays.{IsBootWith, IsReplayed, IsNotRepeated};
 ghost use Rattle.l4_record.specs.Laws.{IsWholeRun};
-ghost use Rattle.l4_lock.specs.Books.{book, book_at, reply_waits};
+ghost use Rattle.l4_record.specs.Segments.{kept};
+ghost use Rattle.l4_record.specs.Sizes.{max_handed_out};
+ghost use Rattle.l4_lock.specs.Books.{book, book_at, reply_waits, forgotten_seat};
 ghost use Rattle.l4_lock.specs.Closing.{IsShown, Closes, Mismatches, by_history};
-ghost use Rattle.l4_lock.specs.Locked.{IsKept, RefusesBoot, Refuses};
+ghost use Rattle.l4_lock.specs.Locked.{IsKept, RefusesBoot, Refuses, HandsOut};
 ghost use Rattle.l4_lock.specs.declared.refusals.LockRefusal.TheVariants.{SeatTaken, NoMemory as WantOfMemory};
-ghost use Rattle.l4_seated_lock.specs.Seated.{seat_at, seats_back, EntersBySeat, TakesBySeat};
+ghost use Rattle.l4_seated_lock.specs.Seated.{seat_at, seats_back, EntersBySeat, TakesBySeat, IsNotTraced};
 ghost use Rattle.l4_seated_lock.specs.Inside.Places.{RefusesUnseated};
 
 use crate::closing::mismatch;
+use crate::faults::TraceFault;
 use crate::places::position;
 use l4_ipc::{Call, Kernel, PageSize, Place, Refused, Reply};
-use l4_lock::{Entered, History, LockRefusal, Locked, Mismatch, Seat};
+use l4_lock::{Entered, History, LockRefusal, Locked, Mismatch, Seat, Segment};
 use l4_provenance::provenance;
 use l4_provenance_check::check_provenance;
 use l4_record::{ChainLink, ReplayFault};
 use std::alloc::Global;
 use std::marker::Model;
+
+/// Forgets the receipts of these seats.
+fn forget_all(seats: &mut Vec<Seat>)
+    ensures { seats.new.items ≡ map forgotten_seat seats.old.items }
+{
+    for i in 0..seats.len() {
+        seats[i].forget();
+    }
+}
 
 /// A locked kernel and all seats that it gave. Contracts see the locked kernel, whose books state the content of each seat.
 #[derive(Drop)]
@@ -41,7 +53,7 @@ impl Model for SeatedLock {
 
     ghost view = { λ a. a.locked };
 
-    ghost invariant = { λ a. ((n : ℕ) → found a.seats.items n ≡ seat_at a.locked.books n) × (a.locked.kept_from ≡ 0) };
+    ghost invariant = { λ a. (n : ℕ) → found a.seats.items n ≡ seat_at a.locked.books n };
 }
 
 impl SeatedLock {
@@ -70,11 +82,43 @@ impl SeatedLock {
         self.locked.kernel()
     }
 
-    /// Returns the history.
+    /// Returns the entries that are kept: those that were recorded since the last segment was handed out, or since boot.
     pub fn history(&self) -> &History
-        ensures { result.now.entries ≡ self.now.history }
+        ensures { result.now.entries ≡ kept self.now.kept_from self.now.history }
     {
         self.locked.history()
+    }
+
+    /// Returns the number of entries since boot.
+    pub fn count(&self) -> usize
+        ensures { result ≡ length self.now.history }
+    {
+        self.locked.count()
+    }
+
+    /// Returns the number of the first entry that is kept. All entries with lower numbers were handed out.
+    pub fn kept_from(&self) -> usize
+        ensures { result ≡ self.now.kept_from }
+    {
+        self.locked.kept_from()
+    }
+
+    /// Hands out the entries that are kept, as a segment, and forgets the receipts. From then on, the entries and receipts of later calls
+    /// are kept only. Their numbers continue.
+    ///
+    /// Returns `None` if more than 2^63 entries were recorded since boot. Then nothing has changed.
+    pub fn hand_out(&mut self) -> Option<Segment>
+        ensures some { IfSome result (HandsOut self.old self.new) }
+        ensures none { IfNone result
+            ((max_handed_out < length self.old.history) × (self.new ≡ self.old)) }
+    {
+        self.locked.law_kept();
+        let segment = self.locked.hand_out();
+        self.locked.law_kept();
+        if segment.is_some() {
+            forget_all(&mut self.seats);
+        }
+        segment
     }
 
     /// Ghost function: gives a proof the invariant of the locked kernel. It compiles to nothing.
@@ -173,14 +217,32 @@ impl SeatedLock {
     /// Returns the provenance of a page of a space, by the history: the transfers that brought the page there from a page that sigma0 had
     /// at boot, in their order. Returns `Ok(None)` if the page is not present.
     ///
-    /// The history is executed again on a separate kernel, and once up to each link. Returns `NoMemory` if memory runs out. Returns
-    /// `OtherAnswer` only with the entry of a transfer that ran out of memory when it was entered, and does not run out now. A lock never has
-    /// a number of frames for which `BadFrames` is returned.
+    /// The history is executed again on a separate kernel, and once up to each link. Returns `HandedOut` (L8) if entries were handed out.
+    /// Otherwise the faults are those of a replay: `NoMemory` if memory runs out, and `OtherAnswer` only with the entry of a transfer that
+    /// ran out of memory when it was entered, and does not run out now. A lock never has a number of frames for which `BadFrames` is
+    /// returned.
     pub fn provenance(
         &self,
         alloc: Global,
         place: Place,
-    ) -> Result<Option<Vec<ChainLink>>, ReplayFault>
+    ) -> Result<Option<Vec<ChainLink>>, TraceFault>
+        ensures { MatchResult result
+            (λ found. (boot : Machine) × IsBootWith self.now.frames self.now.kernel.size boot
+            × MatchOption found (IsAbsent boot self.now.history place) (λ links. IsProvenance boot self.now.history place links.items))
+            (IsNotTraced self.now) }
+    {
+        if self.kept_from() != 0 {
+            return Err(TraceFault::HandedOut);
+        }
+        match self.trace(alloc, place) {
+            Ok(found) => Ok(found),
+            Err(fault) => Err(TraceFault::Replay(fault)),
+        }
+    }
+
+    /// Does what `provenance` does if no entries were handed out.
+    fn trace(&self, alloc: Global, place: Place) -> Result<Option<Vec<ChainLink>>, ReplayFault>
+        requires { self.now.kept_from ≡ 0 }
         ensures { MatchResult result
             (λ found. (boot : Machine) × IsBootWith self.now.frames self.now.kernel.size boot
             × MatchOption found (IsAbsent boot self.now.history place) (λ links. IsProvenance boot self.now.history place links.items))
@@ -199,7 +261,29 @@ impl SeatedLock {
         alloc: Global,
         place: Place,
         links: &[ChainLink],
+    ) -> Result<bool, TraceFault>
+        ensures { MatchResult result
+            (λ yes. (boot : Machine) × IsBootWith self.now.frames self.now.kernel.size boot × IsReplayed boot self.now.history
+            × (IsTrue yes ↔ IsProvenance boot self.now.history place links.now))
+            (IsNotTraced self.now) }
+    {
+        if self.kept_from() != 0 {
+            return Err(TraceFault::HandedOut);
+        }
+        match self.check_trace(alloc, place, links) {
+            Ok(yes) => Ok(yes),
+            Err(fault) => Err(TraceFault::Replay(fault)),
+        }
+    }
+
+    /// Does what `check_provenance` does if no entries were handed out.
+    fn check_trace(
+        &self,
+        alloc: Global,
+        place: Place,
+        links: &[ChainLink],
     ) -> Result<bool, ReplayFault>
+        requires { self.now.kept_from ≡ 0 }
         ensures { MatchResult result
             (λ yes. (boot : Machine) × IsBootWith self.now.frames self.now.kernel.size boot × IsReplayed boot self.now.history
             × (IsTrue yes ↔ IsProvenance boot self.now.history place links.now))

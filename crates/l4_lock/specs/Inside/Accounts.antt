@@ -1,8 +1,9 @@
 -- The books of the numbers whose seats were given, and how many of them have a reply (this profile's own).
-use Rattle.std.specs.Prelude.{◌≡◌, ℕ, ◌+◌, Bool, false, if◌then◌else◌, List, [], ◌∷◌, Some, slice_get, slice_set}
+use Rattle.std.specs.Prelude.{◌≡◌, ℕ, ◌+◌, ◌≤◌, length, Bool, false, if◌then◌else◌, List, [], ◌∷◌, Some, slice_get, slice_set}
 use Rattle.std.specs.Option.{option_map_or}
 use Rattle.l4_threads.specs.declared.Reply.{Reply}
 use Rattle.l4_ipc.specs.declared.calls.Call.{Call}
+use Rattle.l4_record.specs.Sizes.{max_handed_out}
 use Rattle.l4_lock.specs.Books.{SeatState, Book, has_ended, Settles}
 
 -- what a contract sees of the accounts: their books
@@ -23,6 +24,10 @@ reply_count b = if has_reply b then 1 else 0
 abbrev pub replies_in : List Book → ℕ
 replies_in [] = 0
 replies_in (b ∷ bs) = reply_count b + replies_in bs
+
+-- the receipts of the book can be forgotten
+abbrev pub HasFewReceipts : Book → Type 0
+HasFewReceipts b = length b.receipts ≤ max_handed_out
 
 -- The call of the book at this place has ended, and the seat takes it. The other books are unchanged.
 pub record SettlesAt (books later : List Book) (place : ℕ) (before after : SeatState) (own : Call → Call) (reply : Reply) : Type 0 where

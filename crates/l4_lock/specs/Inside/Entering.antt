@@ -26,6 +26,7 @@ pub record Begins (n : ℕ) (call : Call) (old new : Recording) (books later : L
   pub same : map plain later ≡ map plain (slice_set books place (record former { pending = Some (record { call = call; start = length old.history; ended = None }) }))
   pub book : Book
   pub receipts : book.receipts ≡ former.receipts
+  pub kept_from : book.kept_from ≡ former.kept_from
   pub at : slice_get later place ≡ Some book
   pub number : book.number ≡ n
   pub pending : Pending

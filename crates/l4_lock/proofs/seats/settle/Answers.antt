@@ -10,10 +10,11 @@ returns-clause-some c = record {
   ended = c.in-Some-ended.ended;
   ended_is = c.in-Some-ended.is;
   answers = c.copy_reply-reply.ensures;
-  book_is = ap (book c.account.inside.number None) c.push.ensures.items
-      ∙ ap (λ (b : Book). book b.number None (b.receipts ++ receipt_of c.in-Some.open c.in-Some-ended.ended ∷ [])) c.account.view_is;
+  book_is = (λ i. record (book c.account.inside.number None (c.push.ensures.items i)) { kept_from = c.push.ensures.kept_from i })
+      ∙ ap (λ (b : Book). record b { pending = None; receipts = b.receipts ++ receipt_of c.in-Some.open c.in-Some-ended.ended ∷ [] }) c.account.view_is;
   number = c.receive.ensures.waiting.1;
   waiting = c.receive.ensures.waiting.0;
   receipts = c.receive.ensures.receipts
       ∙ ap (λ (call : Call). c.args.seat.now.receipts ++ receipt call c.in-Some.open.start c.in-Some-ended.ended ∷ []) c.known.ensures;
+  kept_from = c.receive.ensures.kept_from;
 }

@@ -1,13 +1,14 @@
-use Rattle.std.proofs.Common.{◌≡◌, ◌↔◌, ℕ, List, IsTrue, MatchResult, subst}
+use Rattle.std.proofs.Common.{◌≡◌, ◌↔◌, ℕ, List, IsTrue, MatchResult, ap, ◌∙◌, subst}
 use Rattle.l4_fpage.specs.declared.sizes.PageSize.{PageSize}
 use Rattle.l4_ipc.specs.Machine.{Machine}
 use Rattle.l4_lock.specs.Locked.{Lock}
 use Rattle.l4_record.specs.declared.entries.Entry.{Entry}
 use Rattle.l4_record.specs.Laws.{IsWholeRun}
+use Rattle.l4_record.specs.Segments.{kept}
 use Rattle.l4_record.specs.Chains.{IsProvenance}
 use Rattle.l4_record.specs.Replays.{IsBootWith, IsReplayed, IsNotReplayed}
 use Rattle.l4_seated_lock.proofs.Tracing.{of_lock, not_repeated}
-use Rattle.l4_seated_lock.proofs.seated.SeatedLock.check_provenance.Goals as goal
+use Rattle.l4_seated_lock.proofs.seated.SeatedLock.check_trace.Goals as goal
 
 pub returns : goal.returns
 returns c =
@@ -17,4 +18,4 @@ returns c =
     (λ yes. (boot : Machine) × IsBootWith frames size boot × IsReplayed boot history × (IsTrue yes ↔ IsProvenance boot history c.args.place c.args.links.now))
     (IsNotReplayed frames size history))
     c.self.inside.locked c.args.self.now c.self.view_is c.frames.result c.frames.ensures c.kernel.result.now c.kernel.ensures c.page_size-size.result c.page_size-size.ensures
-    c.history.result.now.entries c.history.ensures c.check_provenance.ensures)
+    c.history.result.now.entries (c.history.ensures ∙ ap (λ (n : ℕ). kept n c.args.self.now.history) c.requires) c.check_provenance.ensures)

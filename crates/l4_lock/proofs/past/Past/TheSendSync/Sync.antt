@@ -1,0 +1,7 @@
+-- The list owns nothing, so threads may share it.
+use denote.Param.Send.{IsSync, part_keyless}
+use Rattle.l4_lock.specs.contracts.past.Past.{the_row}
+use Rattle.l4_lock.proofs.past.Past.TheSendSync.Send.{send}
+
+pub sync : IsSync the_row
+sync = record { shared = λ d b o κ q. part_keyless the_row send q d b o }
