@@ -1,0 +1,98 @@
+/* Sends messages over a locked kernel and hands out its entries in segments, each of which is checked: it begins where the one before it
+ * ended, and every entry gets the recorded answer on a second kernel, which replays all segments from boot. */
+#include <l4.h>
+#include <stdio.h>
+#include <stdlib.h>
+#include <string.h>
+
+#define FRAMES 256
+#define SENDER 1
+#define RECEIVER 2
+#define EACH 100000
+
+static void must(int holds, const char *what) {
+    if (!holds) {
+        fprintf(stderr, "soak: %s\n", what);
+        exit(1);
+    }
+}
+
+/* Executes the step of an entry, and compares the answer. */
+static void replay(l4_kernel *kernel, const l4_entry *entry) {
+    l4_answer answer;
+    uint32_t place;
+    if (entry->kind == L4_START) {
+        answer = l4_start(kernel, entry->thread, &entry->call, entry->words, entry->word_count);
+    } else if (entry->kind == L4_TRANSFER) {
+        answer = l4_transfer(kernel, entry->thread, entry->receiver);
+    } else {
+        answer = l4_expire(kernel, entry->thread);
+    }
+    must(answer.refusal == L4_OK && answer.outcome == entry->outcome && answer.ended_count == entry->ended_count, "an entry gets another answer");
+    for (place = 0; place < entry->ended_count; place++) {
+        must(answer.ended[place] == entry->ended[place], "another call ended");
+    }
+}
+
+/* Hands out a segment, checks it, and returns the number of the first entry after it. */
+static uint64_t hand_out(l4_lock *lock, l4_kernel *kernel, uint64_t next) {
+    l4_segment segment = L4_EMPTY;
+    l4_entry entry;
+    uint64_t end;
+    must(l4_lock_hand_out(lock, &segment) == L4_OK, "no segment");
+    must(l4_segment_first(&segment).count == next, "a segment begins elsewhere");
+    end = next + l4_segment_length(&segment).count;
+    for (; next < end; next++) {
+        entry = l4_segment_entry(&segment, next);
+        must(entry.kind != L4_NONE, "an entry is missing");
+        replay(kernel, &entry);
+    }
+    l4_segment_free(&segment);
+    return end;
+}
+
+/* The memory that the process has in use, in pages of the system. */
+static unsigned long resident(void) {
+    unsigned long size = 0, pages = 0;
+    FILE *file = fopen("/proc/self/statm", "r");
+    must(file != NULL && fscanf(file, "%lu %lu", &size, &pages) == 2, "no /proc/self/statm");
+    fclose(file);
+    return pages;
+}
+
+int main(int argc, char **argv) {
+    unsigned long long calls = argc > 1 ? strtoull(argv[1], NULL, 10) : 1000000, call;
+    uint32_t words[5] = {4, 0, 2, 3, 5};
+    uint64_t next = 0;
+    l4_lock lock = L4_EMPTY;
+    l4_kernel kernel = L4_EMPTY;
+    l4_call receiving, sending;
+    memset(&receiving, 0, sizeof receiving);
+    receiving.kind = L4_IPC;
+    receiving.from = L4_ANYTHREAD;
+    memset(&sending, 0, sizeof sending);
+    sending.kind = L4_IPC;
+    sending.to = L4_ROOT_ID;
+    must(l4_lock_new(&lock, FRAMES) == L4_OK && l4_boot(&kernel, FRAMES) == L4_OK, "no kernel");
+    must(l4_lock_give(&lock, SENDER) == L4_OK && l4_lock_give(&lock, RECEIVER) == L4_OK, "no seat");
+    for (call = 0; call < calls; call += 2) {
+        words[1] = (uint32_t)call;
+        must(l4_lock_enter(&lock, RECEIVER, &receiving, words, 0).reply.kind == L4_NONE, "a receive does not wait");
+        must(l4_lock_enter(&lock, SENDER, &sending, words, 5).reply.kind == L4_REPLY_IPC, "a message is not sent");
+        must(l4_lock_take(&lock, RECEIVER).words[0] == (uint32_t)call, "another message arrived");
+        if ((call + 2) % EACH == 0) {
+            next = hand_out(&lock, &kernel, next);
+        }
+        if (call + 2 == calls / 100 || (call + 2) % (calls / 10) == 0) {
+            printf("%llu calls, %lu pages in use\n", call + 2, resident());
+            fflush(stdout);
+        }
+    }
+    next = hand_out(&lock, &kernel, next);
+    must(next == l4_lock_length(&lock).count && next == calls / 2 * 3, "entries are missing");
+    must(l4_lock_seat_of(&lock, RECEIVER).receipts == calls / 2, "receipts are missing");
+    printf("%llu entries\n", (unsigned long long)next);
+    l4_free(&kernel);
+    l4_lock_free(&lock);
+    return 0;
+}
