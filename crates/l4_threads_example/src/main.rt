@@ -3,10 +3,12 @@
 //! they are the same in every schedule, and name entries by their numbers since boot.
 #![tactic(auto)]
 
+mod files;
 mod parties;
 mod printing;
 
-use l4_lock::{KernelLock, Seat};
+use files::are_read_back;
+use l4_lock::{KernelLock, Seat, Segment};
 use parties::{CLIENT, PAGER, ROOT, Runs, SIGMA0, SIZE, create, run_all};
 use printing::{print_client, print_receipts};
 use std::alloc::Global;
@@ -73,6 +75,22 @@ fn listed(alloc: Global, seats: Seats) -> Result<Vec<Seat>, Stop> {
     Vec::from_array(alloc, [sigma0, root, pager, client]).map_err(|_| Stop::NoMemory)
 }
 
+/// Prints how many entries the segments have, and whether they are read back from their files.
+fn tell_segments<R: AllocGlobal + Print>(
+    rt: &R,
+    watched: u64,
+    segments: &[Segment; 2],
+) -> Result<(), Stop> {
+    let (earlier, kept) = (segments[0].history.len(), segments[1].history.len());
+    println!(rt; "watched {watched} entries: {earlier} handed out, {kept} kept").map_err(
+        Stop::Output,
+    )?;
+    let Ok(read) = are_read_back(rt.alloc(), FRAMES, SIZE, segments) else {
+        return Err(Stop::NoMemory);
+    };
+    println!(rt; "segments fit, and are read back from their files: {read}").map_err(Stop::Output)
+}
+
 /// Runs the threads, and prints what each has to show.
 fn tell<R: AllocGlobal + Print + Clock + Threads + Wait + Sync>(rt: &R) -> Result<(), Stop> {
     let Ok((lock, _)) = KernelLock::new(rt.alloc(), FRAMES, SIZE, 0) else {
@@ -91,10 +109,8 @@ fn tell<R: AllocGlobal + Print + Clock + Threads + Wait + Sync>(rt: &R) -> Resul
         return Err(Stop::NotClosed);
     };
     print_client(rt, &kernel).map_err(Stop::Output)?;
-    let (earlier, kept) = (segment.history.len(), history.len());
-    println!(rt; "watched {watched} entries: {earlier} handed out, {kept} kept").map_err(
-        Stop::Output,
-    )
+    let first = segment.history.len();
+    tell_segments(rt, watched, &[segment, Segment { first, history }])
 }
 
 fn main(rt: HostRuntime) -> ExitCode {

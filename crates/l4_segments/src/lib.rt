@@ -1,0 +1,21 @@
+//! Segments of histories as files: their written form, which is read back exactly, and segments that follow each other.
+#![tactic(auto)]
+
+mod entries;
+mod faults;
+mod files;
+mod headings;
+mod joining;
+mod laws;
+mod reading;
+mod saved;
+mod words;
+
+pub use entries::{put_entry, read_entry};
+pub use faults::{FaultKind, FileFault};
+pub use files::{Heading, write_segment};
+pub use joining::{Joined, Misfit, MisfitKind, join};
+pub use l4_record::{Entry, History, Segment};
+pub use laws::{files_determine_segments, written_entries_read_back};
+pub use reading::read_segment;
+pub use saved::SavedSegment;
