@@ -11,6 +11,7 @@ pub fn written_entries_read_back()
 
 /// Ghost function: two segments with the same file are the same. It compiles to nothing.
 pub fn files_determine_segments()
-    ensures { (h g : AHeading) (entries others : List AnEntry) → IsSegment h entries → IsSegment g others
+    ensures { (h g : AHeading) (entries others : List AnEntry)
+        → IsSegment h entries → IsSegment g others
         → file_of h entries ≡ file_of g others → (h ≡ g) × (entries ≡ others) }
 {}

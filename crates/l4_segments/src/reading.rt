@@ -62,7 +62,8 @@ fn read_entries(
     requires begins { BeginsWith bytes.now heading.now }
     requires none { entries.old.items ≡ [] }
     ensures ok { IfOk result
-        (λ at. HasBegun bytes.now heading.now entries.new.items at × (length entries.new.items ≡ heading.now.count)) }
+        (λ at. HasBegun bytes.now heading.now entries.new.items at
+        × (length entries.new.items ≡ heading.now.count)) }
     ensures err { IfErr result (λ f. (f.kind ≡ LacksMemory) ⊎ EntryFails bytes.now f) }
 {
     let mut words = Record::new();
