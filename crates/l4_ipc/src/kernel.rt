@@ -235,7 +235,7 @@ impl Kernel {
             return None;
         };
         let Ok(()) = expire_untold(&mut self.threads, number) else {
-            return None;
+            unreachable!()
         };
         Some(NextStep::Expire(number))
     }

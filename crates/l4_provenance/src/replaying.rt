@@ -94,7 +94,7 @@ pub fn last_arrival(
     kernel.law_forest();
     for number in 0..count {
         let Some(entry) = history.get(number) else {
-            return Ok(Arrival::Absent);
+            unreachable!()
         };
         let link = delivered_link(kernel, number, &entry, place);
         if let Err(fault) = again(kernel, number, &entry) {
@@ -126,7 +126,7 @@ pub fn replay(kernel: &mut Kernel, history: &History) -> Result<(), ReplayFault>
     kernel.law_forest();
     for number in 0..history.len() {
         let Some(entry) = history.get(number) else {
-            return Err(ReplayFault::NoMemory);
+            unreachable!()
         };
         if let Err(fault) = again(kernel, number, &entry) {
             return Err(fault);

@@ -181,7 +181,7 @@ pub fn replay_from(kernel: &mut Kernel, history: &History, first: usize) -> Resu
 {
     for number in first..history.len() {
         let Some(entry) = history.get(number) else {
-            return Err(ReplayFault::NoMemory);
+            unreachable!()
         };
         if let Err(fault) = redo(kernel, number, &entry) {
             return Err(fault);

@@ -18,11 +18,8 @@ returns-in-Some c = rw (← c.self.view_is) (c.in-Some.ensures, c.carry_over-out
 pub returns-in_default-next_expiry : goal.returns-in_default-next_expiry
 returns-in_default-next_expiry c = rw (← c.self.view_is, c.settle.ensures) (record { no_transfer = c.in_default.ensures; no_expiry = c.in_default-next_expiry.ensures }, refl)
 
-pub invariant_of-self-in_default-expire_untold : goal.invariant_of-self-in_default-expire_untold
-invariant_of-self-in_default-expire_untold c = absurd ((c.in_default-expire_untold.ensures.err c.self.inside.size c.self.inside.forest).0 c.in-Some-next_expiry.ensures.can_expire)
-
-pub returns-in_default-expire_untold : goal.returns-in_default-expire_untold
-returns-in_default-expire_untold c = absurd ((c.in_default-expire_untold.ensures.err c.self.inside.size c.self.inside.forest).0 c.in-Some-next_expiry.ensures.can_expire)
+pub unreachable-requires : goal.unreachable-requires
+unreachable-requires c = (c.in_default-expire_untold.ensures.err c.self.inside.size c.self.inside.forest).0 c.in-Some-next_expiry.ensures.can_expire
 
 pub invariant_of-self-2 : goal.invariant_of-self-2
 invariant_of-self-2 c = record {
