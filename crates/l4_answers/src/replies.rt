@@ -97,7 +97,8 @@ pub fn put_waits<W: Write>(number: u32, out: &mut Output, writer: &mut W)
 
 /// Writes `N none`.
 pub fn put_none<W: Write>(number: u32, out: &mut Output, writer: &mut W)
-    ensures { Tells (W.contents writer.old) (W.contents writer.new) out.old out.new (none_text number) }
+    ensures { Tells (W.contents writer.old) (W.contents writer.new) out.old out.new
+        (none_text number) }
 {
     out.make_room(writer);
     add_numbered(out, number, *b" none\n");

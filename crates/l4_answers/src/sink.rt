@@ -47,7 +47,8 @@ pub trait Sink {
     }
     /// Reports that a line of the script can't be read, with its bytes. Pages have this size, and threads these names.
     fn unread_line(&mut self, line: u64, code: &Code, bytes: &[u8], size: PageSize, names: &Names)
-        ensures { Adds has_told self.old self.new (UnreadLine size names.now line code.now bytes.now) };
+        ensures { Adds has_told self.old self.new
+            (UnreadLine size names.now line code.now bytes.now) };
     /// Reports that a served thread's call is refused.
     fn refused_act(&mut self, thread: u32, code: &Code)
         ensures { Adds has_told self.old self.new (RefusedAct thread code.now) };

@@ -75,7 +75,8 @@ impl Copying {
     /// Adds an expectation of each answer in this text. Returns whether there was memory for them.
     fn add_answers(&mut self, text: &[u8]) -> bool
         requires { IsFew self.old }
-        ensures { Adds self.old (expecting_all text.now) (length (lines_of text.now)) self.new result }
+        ensures { Adds self.old (expecting_all text.now) (length (lines_of text.now)) self.new
+            result }
     {
         let mut rest = text;
         while !rest.is_empty() {
@@ -92,7 +93,8 @@ impl Copying {
     /// memory for them.
     fn add_answered(&mut self, run: &mut ScriptRun, line: &[u8]) -> bool
         requires { IsFew self.old }
-        ensures { AddsAnswered (state_of run.old) self.old line.now (state_of run.new) self.new result }
+        ensures { AddsAnswered (state_of run.old) self.old line.now (state_of run.new) self.new
+            result }
     {
         if !self.add(b"", line) {
             return false;
@@ -148,7 +150,8 @@ impl Copying {
     /// Copies line after line, to the end of the script or to the first failure.
     fn copy_lines<R: Read>(&mut self, run: &mut ScriptRun, reader: &mut R) -> Result<(), Failure>
         requires { IsNothing self.old }
-        ensures { CopiesAll (state_of run.old) (R.remaining reader.old) (R.remaining reader.new) self.new result }
+        ensures { CopiesAll (state_of run.old) (R.remaining reader.old)
+            (R.remaining reader.new) self.new result }
     {
         let mut lines = LineReader::new();
         for number in 1..u64::MAX {

@@ -24,7 +24,9 @@ pub struct BriefMessage {
 
 /// Returns the message of an Ipc's reply, if it has two untyped words and no item.
 fn brief_of(ipc: &IpcReply) -> Option<BriefMessage>
-    ensures { MatchOption result ((brief : ABrief) → ¬ MessageReads (ipc.now.tag ∷ ipc.now.words.items) (brief_message brief))
+    ensures { MatchOption result
+        ((brief : ABrief) → ¬ MessageReads (ipc.now.tag ∷ ipc.now.words.items)
+        (brief_message brief))
         (λ brief. MessageReads (ipc.now.tag ∷ ipc.now.words.items) (brief_message brief)) }
 {
     let tag = Tag::read(ipc.tag);
@@ -43,7 +45,8 @@ fn brief_of(ipc: &IpcReply) -> Option<BriefMessage>
 
 /// Returns the sender and the message of a reply, if the message has two untyped words and no item.
 pub fn brought_brief(reply: &Reply) -> Option<(ThreadId, BriefMessage)>
-    ensures { MatchOption result ((sender : AnId) (brief : ABrief) → ¬ Brings reply.now sender (brief_message brief))
+    ensures { MatchOption result
+        ((sender : AnId) (brief : ABrief) → ¬ Brings reply.now sender (brief_message brief))
         (λ p. Brings reply.now p.0 (brief_message p.1)) }
 {
     match reply {

@@ -213,7 +213,8 @@ impl RegionPager {
     /// else `NoRegion` (P2). Every entry has the rights of an empty access.
     pub fn find(&self, page: u32, access: Rights) -> Result<u32, PagerRefusal>
         ensures { MatchResult result
-            (λ source. MatchOption (entry_for self.now.entries page access) ⊥ (λ e. source ≡ source_of e page))
+            (λ source. MatchOption (entry_for self.now.entries page access) ⊥
+            (λ e. source ≡ source_of e page))
             (λ refusal. (entry_for self.now.entries page access ≡ None) × (refusal ≡ NoRegion)) }
     {
         match entry_for(self.entries.as_slice(), page, access) {

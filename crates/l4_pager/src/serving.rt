@@ -53,7 +53,8 @@ pub trait Gate {
     /// Enters a call and takes its reply. After a `GateFault` nothing was entered, because room for the pair is allocated first.
     fn enter(&mut self, call: Call) -> Result<Reply, GateFault>
         ensures { MatchResult result
-            (λ reply. (pairs self.new ≡ pairs self.old ++ (call, reply) ∷ []) × accepts self.old call reply self.new)
+            (λ reply. (pairs self.new ≡ pairs self.old ++ (call, reply) ∷ [])
+            × accepts self.old call reply self.new)
             (λ fault. (pairs self.new ≡ pairs self.old) × refuses self.old call fault self.new) };
 }
 

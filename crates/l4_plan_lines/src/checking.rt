@@ -76,7 +76,8 @@ pub fn check_lines<R: Read, W: Write>(
     reader: &mut R,
     writer: &mut W,
 ) -> Result<bool, RunFault>
-    ensures ok { IfOk result (λ proved. (answer : AnAnswer) × (text : List ℕ) × (proved ≡ is_proved answer)
+    ensures ok { IfOk result
+        (λ proved. (answer : AnAnswer) × (text : List ℕ) × (proved ≡ is_proved answer)
         × Answered size region.now (R.remaining reader.old) (R.remaining reader.new) answer text
         × Appends (W.contents writer.old) (W.contents writer.new) text) }
     ensures read { result ≡ Err RunFault.Read

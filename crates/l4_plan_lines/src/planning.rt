@@ -130,7 +130,8 @@ pub fn plan_lines<W: Write>(
     ensures ok { IfOk result (λ is_plan. (text : List ℕ) × IsPlanText size region.now is_plan text
         × Appends (W.contents writer.old) (W.contents writer.new) text) }
     ensures fault { IfErr result (λ e. e ≡ RunFault.Write) }
-    ensures err { IfErr result (λ _. (is_plan : Bool) × (text : List ℕ) × IsPlanText size region.now is_plan text
+    ensures err { IfErr result
+        (λ _. (is_plan : Bool) × (text : List ℕ) × IsPlanText size region.now is_plan text
         × WentOut (W.contents writer.old) (W.contents writer.new) text) }
 {
     let mut out = Output::new();

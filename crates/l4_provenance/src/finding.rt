@@ -21,7 +21,8 @@ fn arrival(
 ) -> Result<Arrival, ReplayFault>
     requires { count ≤ length history.now.entries }
     ensures { MatchResult result
-        (λ a. (boot : Machine) × IsBootWith frames size boot × ((now : Machine) × Arrived boot history.now.entries count place now a))
+        (λ a. (boot : Machine) × IsBootWith frames size boot
+        × ((now : Machine) × Arrived boot history.now.entries count place now a))
         (IsNotReplayed frames size history.now.entries) }
 {
     let mut kernel = match Kernel::boot(alloc, frames, size) {
@@ -48,7 +49,8 @@ pub fn provenance(
 ) -> Result<Option<Vec<ChainLink>>, ReplayFault>
     ensures { MatchResult result
         (λ found. (boot : Machine) × IsBootWith frames size boot
-        × MatchOption found (IsAbsent boot history.now.entries place) (λ links. IsProvenance boot history.now.entries place links.items))
+        × MatchOption found (IsAbsent boot history.now.entries place)
+        (λ links. IsProvenance boot history.now.entries place links.items))
         (IsNotReplayed frames size history.now.entries) }
 {
     let mut links = Vec::new(alloc);

@@ -32,8 +32,10 @@ fn moved_page(
     requires pages { IsMoveOf kernel.now.size letter.now.items.now letter.now.window item pages }
     requires page { InBlock pages.source.first pages.source.log page }
     ensures { MatchOption result
-        (KeepsPage kernel.now.size kernel.now.mappings letter.now.«from» letter.now.to letter.now.items.now letter.now.window item page)
-        (MovesPage kernel.now.size kernel.now.mappings letter.now.«from» letter.now.to letter.now.items.now letter.now.window item page) }
+        (KeepsPage kernel.now.size kernel.now.mappings letter.now.«from» letter.now.to
+        letter.now.items.now letter.now.window item page)
+        (MovesPage kernel.now.size kernel.now.mappings letter.now.«from» letter.now.to
+        letter.now.items.now letter.now.window item page) }
 {
     let Some(shows) = kernel.mapping(letter.from, page) else {
         return None;
@@ -56,8 +58,10 @@ fn moved_page(
 fn next_of_item(kernel: &Kernel, letter: &Letter<'_>, item: usize, from: u32) -> Option<MovedPage>
     requires { item < length letter.now.items.now }
     ensures { MatchOption result
-        (MovesNone kernel.now.size kernel.now.mappings letter.now.«from» letter.now.to letter.now.items.now letter.now.window item from)
-        (MovesNext kernel.now.size kernel.now.mappings letter.now.«from» letter.now.to letter.now.items.now letter.now.window item from) }
+        (MovesNone kernel.now.size kernel.now.mappings letter.now.«from» letter.now.to
+        letter.now.items.now letter.now.window item from)
+        (MovesNext kernel.now.size kernel.now.mappings letter.now.«from» letter.now.to
+        letter.now.items.now letter.now.window item from) }
 {
     let Some(pages) = item_moves(&letter.items[item], &letter.window, kernel.page_size()) else {
         return None;

@@ -19,7 +19,9 @@ pub(crate) struct Letter<'a> {
 
 /// Returns the letter of the step, if it is a transfer from a thread that sends to one that receives.
 pub(crate) fn letter_of<'a>(kernel: &'a Kernel, step: &Step) -> Option<Letter<'a>>
-    ensures { MatchOption result ((«from» to : ℕ) (items : List AnItem) (window : AnFpage) → ¬ (AreParties kernel.now step.now «from» to items window))
+    ensures { MatchOption result
+        ((«from» to : ℕ) (items : List AnItem) (window : AnFpage)
+        → ¬ (AreParties kernel.now step.now «from» to items window))
         (λ l. AreParties kernel.now step.now l.«from» l.to l.items.now l.window) }
 {
     match step {
@@ -47,8 +49,11 @@ fn link_by(
     item: &Item,
     place: Place,
 ) -> Option<ChainLink>
-    ensures { MatchOption result (¬ (IsWrittenBy kernel.now.size kernel.now.mappings letter.now.«from» letter.now.to letter.now.window item.now place))
-        (λ l. IsCarriedBy kernel.now.size kernel.now.mappings letter.now.«from» letter.now.to letter.now.window item.now l × (l.target ≡ place) × (l.entry ≡ number)) }
+    ensures { MatchOption result
+        (¬ (IsWrittenBy kernel.now.size kernel.now.mappings letter.now.«from» letter.now.to
+        letter.now.window item.now place))
+        (λ l. IsCarriedBy kernel.now.size kernel.now.mappings letter.now.«from» letter.now.to
+        letter.now.window item.now l × (l.target ≡ place) × (l.entry ≡ number)) }
 {
     if place.space != letter.to {
         return None;
@@ -87,8 +92,11 @@ fn first_link(
     number: usize,
     place: Place,
 ) -> Option<ChainLink>
-    ensures { MatchOption result (¬ (AnyWrites kernel.now.size kernel.now.mappings letter.now.«from» letter.now.to letter.now.items.now letter.now.window place))
-        (λ l. AnyCarries kernel.now.size kernel.now.mappings letter.now.«from» letter.now.to letter.now.items.now letter.now.window l × (l.target ≡ place) × (l.entry ≡ number)) }
+    ensures { MatchOption result
+        (¬ (AnyWrites kernel.now.size kernel.now.mappings letter.now.«from» letter.now.to
+        letter.now.items.now letter.now.window place))
+        (λ l. AnyCarries kernel.now.size kernel.now.mappings letter.now.«from» letter.now.to
+        letter.now.items.now letter.now.window l × (l.target ≡ place) × (l.entry ≡ number)) }
 {
     for item in letter.items {
         if let Some(link) = link_by(kernel, letter, number, item, place) {

@@ -30,7 +30,9 @@ fn is_pair(pages: &Move, source: u32, target: u32) -> bool
 
 /// Returns the two sides of the step, if it is a transfer from a thread that sends to one that receives.
 fn parties<'a>(kernel: &'a Kernel, step: &Step) -> Option<Sides<'a>>
-    ensures { MatchOption result ((«from» to : ℕ) (items : List AnItem) (window : AnFpage) → ¬ (AreParties kernel.now step.now «from» to items window))
+    ensures { MatchOption result
+        ((«from» to : ℕ) (items : List AnItem) (window : AnFpage)
+        → ¬ (AreParties kernel.now step.now «from» to items window))
         (λ p. AreParties kernel.now step.now p.«from» p.to p.items.now p.window) }
 {
     let Step::Transfer(sender, receiver) = step else {

@@ -149,7 +149,9 @@ pub fn pass<'a>(
     place: Place,
     left: &'a [ChainLink],
 ) -> Result<Option<(Place, &'a [ChainLink])>, ReplayFault>
-    ensures ok { IfOk result (λ next. Does kernel.old entry.now kernel.new × MatchOption next (NonePasses number kernel.old entry.now place left.now)
+    ensures ok { IfOk result
+        (λ next. Does kernel.old entry.now kernel.new
+        × MatchOption next (NonePasses number kernel.old entry.now place left.now)
         (λ w. Passes number kernel.old entry.now kernel.new place left.now w.0 w.1.now)) }
     ensures err { IfErr result (FailsAt number kernel.old entry.now kernel.new) }
 {
@@ -174,9 +176,11 @@ pub fn pass<'a>(
 /// Executes the entries from the one with this number to the end. The caller has executed those before it.
 pub fn replay_from(kernel: &mut Kernel, history: &History, first: usize) -> Result<(), ReplayFault>
     requires { first ≤ length history.now.entries }
-    ensures ok { IfOk result (λ _. (boot : Machine) → HasEvents boot (take first history.now.entries) kernel.old
+    ensures ok { IfOk result
+        (λ _. (boot : Machine) → HasEvents boot (take first history.now.entries) kernel.old
         → Run boot (steps_of history.now.entries) (answers_of history.now.entries) kernel.new) }
-    ensures err { IfErr result (λ fault. (boot : Machine) → HasEvents boot (take first history.now.entries) kernel.old
+    ensures err { IfErr result
+        (λ fault. (boot : Machine) → HasEvents boot (take first history.now.entries) kernel.old
         → StopsIn boot history.now.entries kernel.new fault) }
 {
     for number in first..history.len() {

@@ -217,7 +217,9 @@ pub fn number_of(code: &[u8]) -> u32
 
 /// Returns the first of these texts whose code is the refusal.
 fn found_in(texts: &[Text], refusal: u32) -> Option<Text>
-    ensures { (rest : List (List ℕ × List ℕ)) → MatchOption result (text_in (map bytes_of texts.now ++ rest) refusal ≡ text_in rest refusal)
+    ensures { (rest : List (List ℕ × List ℕ))
+        → MatchOption result
+        (text_in (map bytes_of texts.now ++ rest) refusal ≡ text_in rest refusal)
         (λ text. text_in (map bytes_of texts.now ++ rest) refusal ≡ bytes_of text) }
 {
     for text in texts {

@@ -36,8 +36,11 @@ ghost use Rattle.l4_sigma0.specs.Owners.{NamesPages};
 
 /// Returns the frames that a request names. Returns None if it has attributes, or if its fpage names no whole page.
 fn frames_of(request: &FrameRequest, size: PageSize) -> Option<Block>
-    ensures { MatchOption result ((first log : ℕ) → request.now.attributes ≡ 0 → ¬ NamesPages size request.now.fpage first log)
-        (λ block. (request.now.attributes ≡ 0) × NamesPages size request.now.fpage block.first block.log) }
+    ensures { MatchOption result
+        ((first log : ℕ) → request.now.attributes ≡ 0
+        → ¬ NamesPages size request.now.fpage first log)
+        (λ block. (request.now.attributes ≡ 0)
+        × NamesPages size request.now.fpage block.first block.log) }
 {
     if request.attributes != 0 {
         return None;
@@ -106,7 +109,9 @@ impl Sigma0 {
     /// Gives these frames to a space, if all of them exist, and each has no owner or is owned by the space. Otherwise gives none. Returns
     /// the send base and the fpage of the answer's map item.
     fn give(&mut self, from_space: u64, block: Block) -> (u32, Fpage)
-        ensures answers { (m : AMessage) → Wants self.old.size m block.first block.log → ((first log : ℕ) → Wants self.old.size m first log → (block.first ≡ first) × (block.log ≡ log))
+        ensures answers { (m : AMessage) → Wants self.old.size m block.first block.log
+            → ((first log : ℕ) → Wants self.old.size m first log → (block.first ≡ first)
+            × (block.log ≡ log))
             → Answers self.old from_space m (one_item (Map result.0 result.1)) self.new }
         ensures whole { result.0 % base_unit ≡ 0 }
     {

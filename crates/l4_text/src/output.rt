@@ -419,10 +419,13 @@ impl Output {
     /// Writes the buffered bytes, and flushes the writer. Returns `Write` if this or an earlier write failed.
     pub fn finish<W: Write>(&mut self, writer: &mut W) -> Result<(), RunFault>
         ensures ok { OnOk result ((start : Option (List ℕ)) (told : List ℕ)
-            → HasTold start (W.contents writer.old) self.old.0 self.old.1 told → Appends start (W.contents writer.new) told) }
+            → HasTold start (W.contents writer.old) self.old.0 self.old.1 told
+            → Appends start (W.contents writer.new) told) }
         ensures open { OnOk result ((self.old.1 ≡ false) × (self.new.1 ≡ false)) }
-        ensures err { IfErr result (λ e. (e ≡ RunFault.Write) × ((start : Option (List ℕ)) (told : List ℕ)
-            → HasTold start (W.contents writer.old) self.old.0 self.old.1 told → WentOut start (W.contents writer.new) told)) }
+        ensures err { IfErr result
+            (λ e. (e ≡ RunFault.Write) × ((start : Option (List ℕ)) (told : List ℕ)
+            → HasTold start (W.contents writer.old) self.old.0 self.old.1 told
+            → WentOut start (W.contents writer.new) told)) }
         ensures failed { IfErr result (λ e. self.new.1 ≡ true) }
     {
         if self.failed {
