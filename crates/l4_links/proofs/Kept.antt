@@ -133,6 +133,15 @@ module _ (a b : Slots) (same : (k : ℕ) → node_at b k ≡ node_at a k) where
   forest_nodes : (ks : List ℕ) → IsForest a ks → IsForest b ks
   forest_nodes ks f = record { order = order_same_nodes a b ks same f.order; tree = subst (λ (g : ℕ → Option Limb). IsTree g (position ks)) limbs_path f.tree }
 
+  pub live_nodes : (first : Option ℕ) (stamp : ℕ) → IsLive a first stamp → IsLive b first stamp
+  live_nodes first stamp s = record {
+    keys = s.keys;
+    forest = forest_nodes s.keys s.forest;
+    first_is = s.first_is;
+    within = λ k p x l h is up v w. s.within k p x l h (sym (ap (option_map limb_of) (same k)) ∙ is) up (sym (ap (option_map worth_of) (same k)) ∙ v) (sym (ap (option_map worth_of) (same p)) ∙ w);
+    stamped = stamped_same stamp a b (λ k. ap (option_map marks_of) (same k)) s.stamped;
+  }
+
   pub sound_nodes : (first : Option ℕ) (stamp walk : ℕ) → IsSound a first stamp walk → IsSound b first stamp walk
   sound_nodes first stamp walk s = record {
     keys = s.keys;

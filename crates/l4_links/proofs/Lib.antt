@@ -24,6 +24,8 @@ pub mod OwnChild
 pub mod Adding
 pub mod Naming
 pub mod Asides
+pub mod ManyChildren
+pub mod RowSteps
 pub mod Moving
 pub mod Noting
 pub mod Laws

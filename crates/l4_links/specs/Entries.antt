@@ -257,3 +257,31 @@ pub record LacksPlace (source : Place) (end : ℕ) (target : Place) (rights : Ri
   pub inside : IsInPages source end entry.place
   pub within : (t : Standing) → entry.stands ≡ Some t → Within t.rights rights
   pub absent : (other : ℕ) → ¬ (IsAt s (moved_place source target entry.place) other)
+
+-- what is under the key is at one of these pages, and shares a right with these
+pub record IsShared (source : Place) (end : ℕ) (rights : RightsSet) (s : Entries) (key : ℕ) : Type 0 where
+  pub entry : Entry
+  pub at : entry_at s key ≡ Some entry
+  pub inside : IsInPages source end entry.place
+  pub standing : Standing
+  pub stands : entry.stands ≡ Some standing
+  pub shares : common standing.rights rights ≢ no_rights
+
+-- the child of what is under the key, at this place, with those of these rights that the parent has
+abbrev pub child_entry : Place → ℕ → Standing → RightsSet → Entry
+child_entry place parent above rights = record {
+  place = place;
+  wanted = false;
+  stands = Some (record { frame = above.frame; rights = common above.rights rights; source = false; granted = None; parent = Some parent });
+}
+
+-- its child at the place that the page goes to
+abbrev pub brought : (source : Place) (end : ℕ) (target : Place) (rights : RightsSet) (s : Entries) (key : ℕ) → IsShared source end rights s key → Entry
+brought source end target rights s key h = child_entry (moved_place source target h.entry.place) key h.standing rights
+
+-- Each of these pages that shares a right with these has a child at the place that it goes to, which had no key, and everything else is unchanged.
+pub record AddsChildren (source : Place) (end : ℕ) (target : Place) (rights : RightsSet) (old new : Entries) : Type 0 where
+  pub child : (key : ℕ) (h : IsShared source end rights old key) → (k : ℕ) × (entry_at new k ≡ Some (brought source end target rights old key h))
+  pub kept : (key : ℕ) (e : Entry) → entry_at old key ≡ Some e → entry_at new key ≡ Some e
+  pub only : (k : ℕ) (e : Entry) → entry_at new k ≡ Some e → (entry_at old k ≡ Some e) ⊎ ((key : ℕ) × (h : IsShared source end rights old key) × (e ≡ brought source end target rights old key h))
+  pub free : (key : ℕ) (h : IsShared source end rights old key) → (other : ℕ) → ¬ (IsAt old (moved_place source target h.entry.place) other)
