@@ -1,12 +1,12 @@
 -- Children of the pages of a block, one after another.
-use Rattle.std.proofs.Common.{◌≡◌, ◌≢◌, ℕ, ◌+◌, ◌<◌, ◌≤◌, ◌⊎◌, Option, Some, None, false, refl, sym, ap, ◌∙◌, subst, inl, inr, arith}
+use Rattle.std.proofs.Common.{◌≡◌, ◌≢◌, ℕ, ◌+◌, ◌-◌, ◌<◌, ◌≤◌, ◌⊎◌, Option, Some, None, refl, sym, ap, ◌∙◌, subst, inl, inr, arith}
 use Rattle.std.proofs.lemmas.Bool.{cases_lt, cases_eq}
 use Rattle.std.specs.Option.{option_map, option_and_then}
 use Rattle.l4_fpage.specs.Rights.{RightsSet, common, no_rights}
 use Rattle.l4_nodes.specs.declared.Place.{Place}
 use Rattle.l4_links.specs.declared.Standing.{Standing}
 use Rattle.l4_links.specs.declared.Entry.{Entry}
-use Rattle.l4_links.specs.Entries.{Entries, entry_at, standing_at, IsAt, IsInPages, moved_place, AddsChild, IsShared, child_entry, brought, AddsChildren}
+use Rattle.l4_links.specs.Entries.{Entries, entry_at, IsAt, IsInPages, moved_place, AddsChild, IsShared, child_entry, brought, AddsChildren}
 
 some_not : (s : Entries) (k : ℕ) (e : Entry) → entry_at s k ≡ None → entry_at s k ≡ Some e → ⊥
 some_not s k e none some = let z : ◌≡◌ {A = Option Entry} None (Some e) = sym none ∙ some in cc
@@ -53,10 +53,14 @@ module _ (source target : Place) (page end : ℕ) (rights : RightsSet) (start no
       earlier key h = record {
         entry = h.entry;
         at = h.at;
-        inside = (h.inside.0, h.inside.1, elim (cases_lt h.entry.place.page page) [
-          | inl lt ↦ lt
-          | inr ge ↦ absurd (h.shares (none key h.entry h.standing (a.kept key h.entry h.at) h.inside ge h.stands))
-        ]);
+        inside = (
+          h.inside.0,
+          h.inside.1,
+          elim (cases_lt h.entry.place.page page) [
+            | inl lt ↦ lt
+            | inr ge ↦ absurd (h.shares (none key h.entry h.standing (a.kept key h.entry h.at) h.inside ge h.stands))
+          ],
+        );
         standing = h.standing;
         stands = h.stands;
         shares = h.shares;
@@ -123,9 +127,11 @@ module _ (source target : Place) (page next key : ℕ) (rights : RightsSet) (sta
       | inl same ↦ inr (key, this, same_entry (sym is ∙ ap (entry_at new) same ∙ child_is key this refl))
       | inr ne ↦ elim (a.only j e (sym (c.others j ne) ∙ is)) [
         | inl was ↦ inl was
-        | inr came ↦ inr (came.0,
-            record { entry = came.1.entry; at = came.1.at; inside = (came.1.inside.0, came.1.inside.1, (let b = came.1.inside.2 in omega (arith, b, more))); standing = came.1.standing; stands = came.1.stands; shares = came.1.shares },
-            came.2)
+        | inr came ↦ inr (
+          came.0,
+          record { entry = came.1.entry; at = came.1.at; inside = (came.1.inside.0, came.1.inside.1, (let b = came.1.inside.2 in omega (arith, b, more))); standing = came.1.standing; stands = came.1.stands; shares = came.1.shares },
+          came.2,
+        )
       ]
     ];
     free = λ j h other is. elim (which j h) [
@@ -143,3 +149,62 @@ module _ (source target : Place) (page next key : ℕ) (rights : RightsSet) (sta
           over : (o : Option Entry) → entry_at start other ≡ o → option_map {T = Entry} (λ e. e.place) o ≡ Some p → IsAt now p other
           over None was z = absurd (let w : ◌≡◌ {A = Option Place} None (Some p) = z in cc)
           over (Some e) was z = ap (option_map {T = Entry} (λ x. x.place)) (a.kept other e was) ∙ z
+
+-- pages up to one, and then those after it
+module _ (source target : Place) (page end : ℕ) (rights : RightsSet) (start now new : Entries) (apart : source.space ≢ target.space) (a : AddsChildren source page target rights start now) (from : source.page ≤ page) (le : page ≤ end)
+    (b : AddsChildren (record { space = source.space; page = page }) end (record { space = target.space; page = page - source.page + target.page }) rights now new) where
+  abbrev later : Place
+  later = record { space = source.space; page = page }
+
+  abbrev onward : Place
+  onward = record { space = target.space; page = page - source.page + target.page }
+
+  -- the place that a page goes to is the same
+  goes : (p : Place) → page ≤ p.page → moved_place later onward p ≡ moved_place source target p
+  goes p ge = λ i. record { space = target.space; page = (let e : p.page - page + (page - source.page + target.page) ≡ p.page - source.page + target.page = omega (arith, ge, from) in e i) }
+
+  abbrev sooner : (k : ℕ) (h : IsShared source end rights start k) → h.entry.place.page < page → IsShared source page rights start k
+  sooner k h lt = record { entry = h.entry; at = h.at; inside = (h.inside.0, h.inside.1, lt); standing = h.standing; stands = h.stands; shares = h.shares }
+
+  abbrev rest : (k : ℕ) (h : IsShared source end rights start k) → page ≤ h.entry.place.page → IsShared later end rights now k
+  rest k h ge = record { entry = h.entry; at = a.kept k h.entry h.at; inside = (h.inside.0, ge, h.inside.2); standing = h.standing; stands = h.stands; shares = h.shares }
+
+  abbrev first : (k : ℕ) (h : IsShared source page rights start k) → IsShared source end rights start k
+  first k h = record { entry = h.entry; at = h.at; inside = (h.inside.0, h.inside.1, (let lt = h.inside.2 in omega (arith, lt, le))); standing = h.standing; stands = h.stands; shares = h.shares }
+
+  abbrev second : (k : ℕ) (h : IsShared later end rights now k) → IsShared source end rights start k
+  second k h = record {
+    entry = h.entry;
+    at = was_there source target page end rights start now apart a k h.entry h.at h.inside.0;
+    inside = (h.inside.0, (let ge = h.inside.1 in omega (arith, ge, from)), h.inside.2);
+    standing = h.standing;
+    stands = h.stands;
+    shares = h.shares;
+  }
+
+  still_at : (other : ℕ) (p : Place) → IsAt start p other → IsAt now p other
+  still_at other p is = over (entry_at start other) refl is
+    where
+      over : (o : Option Entry) → entry_at start other ≡ o → option_map {T = Entry} (λ e. e.place) o ≡ Some p → IsAt now p other
+      over None was z = absurd (let w : ◌≡◌ {A = Option Place} None (Some p) = z in cc)
+      over (Some e) was z = ap (option_map {T = Entry} (λ x. x.place)) (a.kept other e was) ∙ z
+
+  pub adds_joined : AddsChildren source end target rights start new
+  adds_joined = record {
+    child = λ k h. elim (cases_lt h.entry.place.page page) [
+      | inl lt ↦ let c = a.child k (sooner k h lt) in (c.0, b.kept c.0 (brought source end target rights start k h) c.1)
+      | inr ge ↦ let c = b.child k (rest k h ge) in (c.0, c.1 ∙ ap (λ (p : Place). Some (child_entry p k h.standing rights)) (goes h.entry.place ge))
+    ];
+    kept = λ k e at. b.kept k e (a.kept k e at);
+    only = λ k e at. elim (b.only k e at) [
+      | inl was ↦ elim (a.only k e was) [
+        | inl first_was ↦ inl first_was
+        | inr came ↦ inr (came.0, first came.0 came.1, came.2)
+      ]
+      | inr came ↦ inr (came.0, second came.0 came.1, came.2 ∙ ap (λ (p : Place). child_entry p came.0 came.1.standing rights) (goes came.1.entry.place came.1.inside.1))
+    ];
+    free = λ k h other is. elim (cases_lt h.entry.place.page page) [
+      | inl lt ↦ a.free k (sooner k h lt) other is
+      | inr ge ↦ b.free k (rest k h ge) other (subst (λ (p : Place). IsAt now p other) (sym (goes h.entry.place ge)) (still_at other (moved_place source target h.entry.place) is))
+    ];
+  }

@@ -1,5 +1,5 @@
 -- A child at an entry of a table, while two tables are read and written.
-use Rattle.std.proofs.Common.{◌≡◌, ◌≢◌, ℕ, ◌+◌, ◌*◌, ◌-◌, ◌<◌, ◌≤◌, List, Option, Some, None, false, IsTrue, slice_index_or, slice_set, refl, sym, ap, ◌∙◌, subst, arith}
+use Rattle.std.proofs.Common.{◌≡◌, ◌≢◌, ℕ, ◌+◌, ◌*◌, ◌-◌, ◌<◌, ◌≤◌, Bool, List, Option, Some, None, false, IsTrue, slice_index_or, refl, sym, ap, ◌∙◌, subst, inl, inr, arith}
 use Rattle.std.specs.Option.{option_map, option_and_then}
 use Rattle.std.specs.FinMap as map
 use Rattle.std.specs.FinSet as set
@@ -12,11 +12,11 @@ use Rattle.l4_nodes.specs.declared.Place.{Place}
 use Rattle.l4_nodes.specs.declared.nodes.Node.{Node}
 use Rattle.l4_links.specs.declared.Standing.{Standing}
 use Rattle.l4_links.specs.declared.Entry.{Entry}
-use Rattle.l4_links.specs.Entries.{Entries, entry_at, standing_at, IsAt, IsInPages, moved_place, AddsChild, AddsChildren}
-use Rattle.l4_nodes.specs.Slots.{Slots, slot_at, node_at}
+use Rattle.l4_links.specs.Entries.{Entries, entry_at, IsAt, IsInPages, moved_place, AddsChild, AddsChildren}
+use Rattle.l4_nodes.specs.Slots.{Slots, node_at}
 use Rattle.l4_links.specs.Inside.Nodes.{IsOf}
-use Rattle.l4_links.specs.Inside.Keeping.{IsLive, IsIndexed, entries_of, standing_of}
-use Rattle.l4_links.specs.Inside.Growing.{AddsAt, AreRows, AreSameBeyond, AddsRow, SharesNone}
+use Rattle.l4_links.specs.Inside.Keeping.{entries_of, standing_of}
+use Rattle.l4_links.specs.Inside.Growing.{AddsAt, AreRows, AreSameBeyond, AddsRow, SharesNone, SharesSome, Enters, IsHeld}
 use Rattle.l4_links.proofs.Adding.{blank_of}
 use Rattle.l4_links.proofs.Kept.{nodes_blank, live_nodes, live_child}
 use Rattle.l4_links.proofs.Moving.{unnamed}
@@ -107,11 +107,14 @@ module _ (f t n : ℕ) (place : Place) (rights : RightsSet) (source old_row row 
   pub run_passed : ((k : ℕ) → slice_index_or source (f + n) None ≡ Some k → SharesNone k rights now) → AddsRow f t (n + 1) place rights source old_row row old now
   run_passed none from high other first head stamp all r at =
       let v = w from high other first head stamp all r at in
-      let end : high * table_pages + f + n + 1 ≡ high * table_pages + f + (n + 1) = omega arith in
-      (v.0, v.1, v.2,
-          subst (λ (z : ℕ). AddsChildren (page_at from high f) z place rights (entries_of old) (entries_of now)) end
-          (adds_passed (page_at from high f) place (high * table_pages + f + n) (high * table_pages + f + n + 1) rights (entries_of old) (entries_of now) v.1.apart v.3
-          (λ k e x is h le stands. shared_none k e x is (none k (here_page from high other first head stamp v.0 v.1 k e is h le)) stands) (omega arith)))
+      let end : high * table_pages + f + n + 1 ≡ high * table_pages + f + (n + 1) = omega arith in (
+        v.0,
+        v.1,
+        v.2,
+        subst (λ (z : ℕ). AddsChildren (page_at from high f) z place rights (entries_of old) (entries_of now)) end
+            (adds_passed (page_at from high f) place (high * table_pages + f + n) (high * table_pages + f + n + 1) rights (entries_of old) (entries_of now) v.1.apart v.3
+            (λ k e x is h le stands. shared_none k e x is (none k (here_page from high other first head stamp v.0 v.1 k e is h le)) stands) (omega arith)),
+      )
     where
       shared_none : (k : ℕ) (e : Entry) (x : Standing) → entry_at (entries_of now) k ≡ Some e → SharesNone k rights now → e.stands ≡ Some x → common x.rights rights ≡ no_rights
       shared_none k e x is none stands = over (node_at now k) refl (sym (standing_is now k) ∙ ap (option_and_then (λ (z : Entry). z.stands)) is ∙ stands)
@@ -133,9 +136,9 @@ module _ (f t n : ℕ) (place : Place) (rights : RightsSet) (source old_row row 
         let found = entry_of_page (entries_of now) key source_page ((is_at now source_page key).0 ((v.1.indexed.names source_page key).0 named)) in
         let there : found.0.place ≡ record { space = from; page = high * table_pages + f + n } = found.2 ∙ (λ i. record { space = from; page = (let z : high * table_pages + (f + n) ≡ high * table_pages + f + n = omega arith in z i) }) in
         let goes : p ≡ moved_place (page_at from high f) place found.0.place =
-            (λ i. record { space = place.space; page = (let z : place.page + n ≡ high * table_pages + f + n - (high * table_pages + f) + place.page = omega arith in z i) }) ∙ sym (ap (moved_place (page_at from high f) place) there) in
+        (λ i. record { space = place.space; page = (let z : place.page + n ≡ high * table_pages + f + n - (high * table_pages + f) + place.page = omega arith in z i) }) ∙ sym (ap (moved_place (page_at from high f) place) there) in
         let child : AddsChild key (moved_place (page_at from high f) place found.0.place) rights (entries_of now) (entries_of new) a.key =
-            subst (λ (q : Place). AddsChild key q rights (entries_of now) (entries_of new) a.key) goes (view_added now new key p a.above rights a.key a.stands a.adds) in
+        subst (λ (q : Place). AddsChild key q rights (entries_of now) (entries_of new) a.key) goes (view_added now new key p a.above rights a.key a.stands a.adds) in
         let above : child.above ≡ standing_of a.above = same_standing (sym child.at_parent ∙ standing_is now key ∙ ap (option_map standing_of) a.stands) in
         let end : high * table_pages + f + n + 1 ≡ high * table_pages + f + (n + 1) = omega arith in (
           with_key place.space other (t + n) a.key v.0,
@@ -151,3 +154,30 @@ module _ (f t n : ℕ) (place : Place) (rights : RightsSet) (source old_row row 
       where
         same_standing : {x y : Standing} → ◌≡◌ {A = Option Standing} (Some x) (Some y) → x ≡ y
         same_standing h = cc
+
+module _ (f t n : ℕ) (place : Place) (rights : RightsSet) (source old_row row : List (Option ℕ)) (old now : Slots) (w : AddsRow f t n place rights source old_row row old now) where
+  -- nothing has changed since
+  pub run_same : (new : Slots) (new_row : List (Option ℕ)) → new ≡ now → new_row ≡ row → AddsRow f t n place rights source old_row new_row old new
+  run_same new new_row slots_same row_same = subst (λ (z : List (Option ℕ)). AddsRow f t n place rights source old_row z old new) (sym row_same) (subst (λ (z : Slots). AddsRow f t n place rights source old_row row old z) (sym slots_same) w)
+
+  -- an entry that was passed, or has its child
+  pub run_entered : f + n < table_pages → t + n < table_pages → IsPage (place.page + n) → (key : Option ℕ) → key ≡ slice_index_or source (f + n) None → (new : Slots) (new_row : List (Option ℕ))
+      → Enters key (record { space = place.space; page = place.page + n }) rights (t + n) now new row new_row → AddsRow f t (n + 1) place rights source old_row new_row old new
+  run_entered f_lt t_lt fits key key_is new new_row enters = elim enters [
+    | inl none ↦
+        let passed = run_passed f t n place rights source old_row row old now w f_lt (λ k e. none.0 k (key_is ∙ e)) in
+        subst (λ (z : List (Option ℕ)). AddsRow f t (n + 1) place rights source old_row z old new) (sym none.1.1) (subst (λ (z : Slots). AddsRow f t (n + 1) place rights source old_row row old z) (sym none.1.0) passed)
+    | inr came ↦ run_added f t n place rights source old_row row old now w f_lt came.0 (sym key_is ∙ came.1) new new_row came.2 t_lt fits
+  ]
+
+  -- an entry at which it stops
+  pub run_held : (key : ℕ) (refused : Bool) (new : Slots) (new_row : List (Option ℕ)) → IsHeld key rights (t + n) refused now new row new_row → AddsRow f t n place rights source old_row new_row old new × IsHeld key rights (t + n) refused new new new_row new_row
+  run_held key refused new new_row h = (
+    run_same new new_row h.same.0 h.same.1,
+    record {
+      shares = subst (λ (z : Slots). SharesSome key rights z) (sym h.same.0) h.shares;
+      same = (refl, refl);
+      taken = λ no. subst (λ (z : List (Option ℕ)). slice_index_or z (t + n) None ≢ None) (sym h.same.1) (h.taken no);
+      lacks = λ yes. ap (λ (z : List (Option ℕ)). slice_index_or z (t + n) None) h.same.1 ∙ h.lacks yes;
+    },
+  )

@@ -11,6 +11,7 @@ ghost use Rattle.l4_spaces.specs.Tables.{IsPage, space_pages};
 
 mod blocks;
 mod burial;
+mod children;
 mod copying;
 mod creating;
 mod descending;

@@ -145,7 +145,7 @@ impl Row {
 
     /// Gives a place that is there this key.
     #[inline]
-    pub(crate) fn put(&mut self, low: usize, key: usize)
+    pub fn put(&mut self, low: usize, key: usize)
         requires within { low < length self.old }
         ensures { self.new ≡ slice_set self.old low (Some key) }
     {
@@ -160,7 +160,7 @@ impl Row {
 
     /// Removes the key of the entry. Does nothing beyond the end.
     #[inline]
-    pub(crate) fn clear(&mut self, low: usize)
+    pub fn clear(&mut self, low: usize)
         ensures { self.new ≡ slice_set self.old low None }
     {
         if low < self.short.len() {

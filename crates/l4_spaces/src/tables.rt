@@ -9,7 +9,7 @@ use crate::row::{BLOCK, Row};
 use std::alloc::{AllocError, Global};
 
 /// The number of pages of a table.
-pub(crate) const TABLE_PAGES: u32 = 2048;
+pub const TABLE_PAGES: u32 = 2048;
 
 /// The number of tables of a space.
 pub(crate) const SPACE_TABLES: usize = 2048;
@@ -109,7 +109,7 @@ fn grow_root(tables: &mut Vec<Row>, alloc: Global, high: usize) -> Result<(), Al
 }
 
 /// Returns whether the page's table exists.
-fn is_ready(tables: &Vec<Row>, page: u32) -> bool
+pub fn is_ready(tables: &Vec<Row>, page: u32) -> bool
     ensures { result ≡ is_made tables.now.items (page / table_pages) }
 {
     let high = (page / TABLE_PAGES) as usize;

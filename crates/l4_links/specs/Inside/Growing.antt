@@ -1,6 +1,5 @@
 -- Children of the pages of one table, at places of another one. (this profile's own)
-use Rattle.std.specs.Prelude.{◌≡◌, ◌≢◌, ◌⊎◌, ◌+◌, ◌*◌, ◌<◌, ℕ, List, Option, Some, None, IsTrue, slice_index_or, slice_set}
-use Rattle.std.specs.Ordering.{nat_cmp}
+use Rattle.std.specs.Prelude.{◌≡◌, ◌≢◌, ◌⊎◌, ◌+◌, ◌*◌, ℕ, Bool, true, false, List, Option, Some, None, IsTrue, slice_index_or, slice_set}
 use Rattle.std.specs.FinSet as set
 use Rattle.l4_fpage.specs.Rights.{RightsSet, common, no_rights}
 use Rattle.l4_spaces.specs.Tables.{Tables, key_of, table_pages}
@@ -59,3 +58,15 @@ AddsRow f t n place rights source row_old row_new old new =
     (from high other : ℕ) (first head : Option ℕ) (stamp : ℕ) (all : Tables) → AreRows from high place.space other source row_old old first head stamp all → place.page ≡ other * table_pages + t
     → (later : Tables) × AreRows from high place.space other source row_new new first head stamp later × AreSameBeyond place.space other all later
     × AddsChildren (record { space = from; page = high * table_pages + f }) (high * table_pages + f + n) place rights (entries_of old) (entries_of new)
+
+-- what has come of an entry of the source's table, which names this key or none: nothing, where no right is shared, or else a child
+abbrev pub Enters : Option ℕ → Place → RightsSet → ℕ → Slots → Slots → List (Option ℕ) → List (Option ℕ) → Type 0
+Enters key place rights low old new row_old row_new =
+    (((k : ℕ) → key ≡ Some k → SharesNone k rights old) × IsSameRow old new row_old row_new) ⊎ ((k : ℕ) × (key ≡ Some k) × AddsAt k place rights low old new row_old row_new)
+
+-- No child has come, though a right is shared: the entry of the target's table names a key, or memory was refused. Nothing has changed.
+pub record IsHeld (key : ℕ) (rights : RightsSet) (low : ℕ) (refused : Bool) (old new : Slots) (row_old row_new : List (Option ℕ)) : Type 0 where
+  pub shares : SharesSome key rights old
+  pub same : IsSameRow old new row_old row_new
+  pub taken : refused ≡ false → slice_index_or row_old low None ≢ None
+  pub lacks : refused ≡ true → slice_index_or row_old low None ≡ None
