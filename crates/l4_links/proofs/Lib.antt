@@ -26,6 +26,8 @@ pub mod Naming
 pub mod Asides
 pub mod ManyChildren
 pub mod RowSteps
+pub mod PageRuns
+pub mod OnePage
 pub mod Moving
 pub mod Noting
 pub mod Laws

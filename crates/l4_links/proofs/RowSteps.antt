@@ -79,12 +79,20 @@ run_first f t place rights source row slots from high other first head stamp all
     (all, r, same_beyond place.space other all, subst (λ (n : ℕ). AddsChildren (page_at from high f) n place rights (entries_of slots) (entries_of slots)) (omega arith) (adds_first (page_at from high f) place rights (entries_of slots)))
 
 -- the entry of a key that is of a page
-entry_of_page : (s : Entries) (k : ℕ) (p : Place) → IsAt s p k → (e : Entry) × (entry_at s k ≡ Some e) × (e.place ≡ p)
+pub entry_of_page : (s : Entries) (k : ℕ) (p : Place) → IsAt s p k → (e : Entry) × (entry_at s k ≡ Some e) × (e.place ≡ p)
 entry_of_page s k p is = over (entry_at s k) refl is
   where
     over : (o : Option Entry) → entry_at s k ≡ o → option_map {T = Entry} (λ e. e.place) o ≡ Some p → (e : Entry) × (entry_at s k ≡ Some e) × (e.place ≡ p)
     over None at z = absurd (let w : ◌≡◌ {A = Option Place} None (Some p) = z in cc)
     over (Some e) at z = (e, at, (let w : ◌≡◌ {A = Option Place} (Some e.place) (Some p) = z in cc))
+
+-- what is under the key shares no right with these, by the entries
+pub shared_none : (slots : Slots) (rights : RightsSet) (k : ℕ) (e : Entry) (x : Standing) → entry_at (entries_of slots) k ≡ Some e → SharesNone k rights slots → e.stands ≡ Some x → common x.rights rights ≡ no_rights
+shared_none slots rights k e x is none stands = over (node_at slots k) refl (sym (standing_is slots k) ∙ ap (option_and_then (λ (z : Entry). z.stands)) is ∙ stands)
+  where
+    over : (o : Option Node) → node_at slots k ≡ o → option_map standing_of o ≡ Some x → common x.rights rights ≡ no_rights
+    over None at z = absurd (let u : ◌≡◌ {A = Option Standing} None (Some x) = z in cc)
+    over (Some m) at z = (let u : ◌≡◌ {A = Option Standing} (Some (standing_of m)) (Some x) = z in let e : standing_of m ≡ x = cc in ap (λ (y : Standing). common y.rights rights) (sym e) ∙ none m at)
 
 same_key : {a b : ℕ} → ◌≡◌ {A = Option ℕ} (Some a) (Some b) → a ≡ b
 same_key h = cc
@@ -113,15 +121,8 @@ module _ (f t n : ℕ) (place : Place) (rights : RightsSet) (source old_row row 
         v.2,
         subst (λ (z : ℕ). AddsChildren (page_at from high f) z place rights (entries_of old) (entries_of now)) end
             (adds_passed (page_at from high f) place (high * table_pages + f + n) (high * table_pages + f + n + 1) rights (entries_of old) (entries_of now) v.1.apart v.3
-            (λ k e x is h le stands. shared_none k e x is (none k (here_page from high other first head stamp v.0 v.1 k e is h le)) stands) (omega arith)),
+            (λ k e x is h le stands. shared_none now rights k e x is (none k (here_page from high other first head stamp v.0 v.1 k e is h le)) stands) (omega arith)),
       )
-    where
-      shared_none : (k : ℕ) (e : Entry) (x : Standing) → entry_at (entries_of now) k ≡ Some e → SharesNone k rights now → e.stands ≡ Some x → common x.rights rights ≡ no_rights
-      shared_none k e x is none stands = over (node_at now k) refl (sym (standing_is now k) ∙ ap (option_and_then (λ (z : Entry). z.stands)) is ∙ stands)
-        where
-          over : (o : Option Node) → node_at now k ≡ o → option_map standing_of o ≡ Some x → common x.rights rights ≡ no_rights
-          over None at z = absurd (let u : ◌≡◌ {A = Option Standing} None (Some x) = z in cc)
-          over (Some m) at z = (let u : ◌≡◌ {A = Option Standing} (Some (standing_of m)) (Some x) = z in let e : standing_of m ≡ x = cc in ap (λ (y : Standing). common y.rights rights) (sym e) ∙ none m at)
 
   -- a child came
   module _ (key : ℕ) (is : slice_index_or source (f + n) None ≡ Some key) (new : Slots) (new_row : List (Option ℕ)) (a : AddsAt key (record { space = place.space; page = place.page + n }) rights (t + n) now new row new_row) (t_lt : t + n < table_pages)

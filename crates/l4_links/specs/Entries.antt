@@ -10,6 +10,7 @@ use Rattle.l4_spaces.specs.Tables.{IsPage}
 use Rattle.l4_nodes.specs.declared.Place.{Place}
 use Rattle.l4_links.specs.declared.Standing.{Standing}
 use Rattle.l4_links.specs.declared.Entry.{Entry}
+use Rattle.l4_links.specs.declared.Halt.{Halt}
 use Rattle.l4_links.specs.Leads.{Leads}
 
 -- the entry under each key from 0 on, if there is one
@@ -285,3 +286,10 @@ pub record AddsChildren (source : Place) (end : ℕ) (target : Place) (rights : 
   pub kept : (key : ℕ) (e : Entry) → entry_at old key ≡ Some e → entry_at new key ≡ Some e
   pub only : (k : ℕ) (e : Entry) → entry_at new k ≡ Some e → (entry_at old k ≡ Some e) ⊎ ((key : ℕ) × (h : IsShared source end rights old key) × (e ≡ brought source end target rights old key h))
   pub free : (key : ℕ) (h : IsShared source end rights old key) → (other : ℕ) → ¬ (IsAt old (moved_place source target h.entry.place) other)
+
+-- Adding children stopped at this one of these pages. It shares a right with these, but its place has a key, or an allocation failed.
+pub record IsHalted (source : Place) (end : ℕ) (target : Place) (rights : RightsSet) (s : Entries) (halt : Halt) : Type 0 where
+  pub shared : IsShared source end rights s halt.key
+  pub page_is : shared.entry.place.page ≡ halt.page
+  pub taken : halt.refused ≡ false → (other : ℕ) × IsAt s (moved_place source target shared.entry.place) other
+  pub absent : halt.refused ≡ true → (other : ℕ) → ¬ (IsAt s (moved_place source target shared.entry.place) other)

@@ -31,7 +31,7 @@ pub(crate) struct Pages {
 
 /// Returns the place to which the page of the source's space moves.
 #[inline]
-fn place_from(source: Place, target: Place, page: u32) -> Place
+pub(crate) fn place_from(source: Place, target: Place, page: u32) -> Place
     requires after { source.page ≤ page }
     requires fits { IsPage (page - source.page + target.page) }
     ensures { result ≡ moved_place source target (record { space = source.space; page = page }) }

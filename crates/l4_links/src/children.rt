@@ -1,17 +1,24 @@
-//! Adds children for the pages of one table, at places of another one, up to the first place that has a key.
+//! Adds children for many pages, up to the first place that has a key. The tables of the places' space are aside meanwhile. Pages of one
+//! table whose places are in one table form a run.
 
-ghost use Rattle.std.specs.Prelude.{◌≡◌, ◌≢◌, ◌≤◌, ◌<◌, ◌+◌, ◌*◌, ℕ, Option, List, length, MatchOption, Some, None, slice_index_or};
+ghost use Rattle.std.specs.Prelude.{◌≡◌, ◌≢◌, ◌≤◌, ◌<◌, ◌+◌, ◌-◌, ◌*◌, ◌/◌, ◌%◌, ℕ, Option, List, length, MatchOption, IfOk, IfErr, OnErr, Some, None, true, false, slice_index_or};
 ghost use Rattle.l4_fpage.specs.Rights.{common, no_rights};
-ghost use Rattle.l4_spaces.specs.Tables.{Tables, IsPage, space_pages, table_pages};
+ghost use Rattle.l4_spaces.specs.Tables.{Tables, IsPage, space_pages, space_tables, table_pages};
+ghost use Rattle.l4_spaces.specs.Rows.{entry, is_made, AreWhole, AreTablesOf};
 ghost use Rattle.l4_nodes.specs.Slots.{node_at};
 ghost use Rattle.l4_nodes.specs.declared.Place.{Place as APlace};
 ghost use Rattle.l4_links.specs.Inside.Nodes.{AreKeys, IsForest};
-ghost use Rattle.l4_links.specs.Inside.Growing.{SharesNone, Enters, IsHeld, AreRows, AddsRow};
+ghost use Rattle.l4_links.specs.Entries.{IsHalted};
+ghost use Rattle.l4_links.specs.Inside.Keeping.{entries_of};
+ghost use Rattle.l4_links.specs.Inside.Growing.{SharesNone, SharesSome, Enters, IsHeld, AreRows, AddsRow, AreGrowing, AddsPages, AddsPart};
 
+use crate::Halt;
+use crate::blocks::{Pages, place_from};
 use crate::lists::add_under;
 use l4_fpage::Rights;
 use l4_nodes::{Node, Place, Slots, node_of};
-use l4_spaces::Row;
+use l4_spaces::tables::{TABLE_PAGES, is_ready, make_all, next_page};
+use l4_spaces::{BLOCK, NoMemory, Row, Spaces};
 
 /// Entries of one table, as many of another one, and rights.
 #[derive(Clone, Copy)]
@@ -26,7 +33,7 @@ pub(crate) struct Run {
 
 /// Returns the node under the key, if it shares a right with these.
 #[inline(always)]
-fn sharing(nodes: &Slots, key: usize, rights: Rights) -> Option<Node>
+pub(crate) fn sharing(nodes: &Slots, key: usize, rights: Rights) -> Option<Node>
     ensures { MatchOption result (SharesNone key rights nodes.now.slots)
         (λ n. (node_at nodes.now.slots key ≡ Some n)
         × (common n.rights rights ≢ no_rights)) }
@@ -120,4 +127,151 @@ pub(crate) fn add_run(
         }
     }
     None
+}
+
+/// Returns the run that begins with the page. It ends with a block of entries, with a table, or with the pages.
+#[inline]
+fn run_at(of: &Pages, page: u32) -> Run
+    requires from { of.now.source.page ≤ page }
+    requires before { page < of.now.end }
+    requires fits { of.now.end - of.now.source.page + of.now.target.page ≤ space_pages }
+    ensures source { result.from ≡ page % table_pages }
+    ensures target { result.to ≡ (page - of.now.source.page + of.now.target.page) % table_pages }
+    ensures rights { result.rights ≡ of.now.rights }
+    ensures some { 1 ≤ result.entries }
+    ensures before { page + result.entries ≤ of.now.end }
+    ensures in_source { result.from + result.entries ≤ table_pages }
+    ensures in_target { result.to + result.entries ≤ table_pages }
+{
+    let from = (page % TABLE_PAGES) as usize;
+    let to = ((page - of.source.page + of.target.page) % TABLE_PAGES) as usize;
+    let left = (of.end - page) as usize;
+    let places = (TABLE_PAGES as usize - to).min(BLOCK - from % BLOCK);
+    Run {
+        from,
+        to,
+        entries: left.min(places),
+        rights: of.rights,
+    }
+}
+
+/// Allocates the table of the page, if what is under the key shares a right with these. Returns whether the table exists.
+fn make_ready(
+    nodes: &Slots,
+    targets: &mut Vec<Row>,
+    key: usize,
+    page: u32,
+    rights: Rights,
+) -> Result<bool, NoMemory>
+    requires whole { AreWhole targets.old.items }
+    requires full { length targets.old.items ≤ space_tables }
+    requires fits { IsPage page }
+    ensures made { IfOk result (λ ready. ready ≡ true
+        → is_made targets.new.items (page / table_pages) ≡ true) }
+    ensures none { IfOk result (λ ready. ready ≡ false → SharesNone key rights nodes.now.slots) }
+    ensures lacks { OnErr result
+        (SharesSome key rights nodes.now.slots × (entry targets.old.items page ≡ None)) }
+    ensures same { (other : ℕ) → entry targets.new.items other ≡ entry targets.old.items other }
+    ensures whole { AreWhole targets.new.items }
+    ensures full { length targets.new.items ≤ space_tables }
+{
+    if is_ready(targets, page) {
+        return Ok(true);
+    }
+    let Some(_) = sharing(nodes, key, rights) else {
+        return Ok(false);
+    };
+    let alloc = *targets.allocator();
+    match make_all(targets, alloc, &[page]) {
+        Ok(()) => Ok(true),
+        Err(_) => Err(NoMemory),
+    }
+}
+
+/// Adds children for a page with this key, and for those after it in one run. Returns the page after them.
+fn add_from(
+    nodes: &mut Slots,
+    sources: &Vec<Row>,
+    targets: &mut Vec<Row>,
+    of: &Pages,
+    page: u32,
+    key: usize,
+) -> Result<u32, Halt>
+    requires apart { of.now.source.space ≢ of.now.target.space }
+    requires from { of.now.source.page ≤ page }
+    requires before { page < of.now.end }
+    requires fits { of.now.end - of.now.source.page + of.now.target.page ≤ space_pages }
+    requires shows { entry sources.now.items page ≡ Some key }
+    requires growing { (pages : Tables) × (first head : Option ℕ) × (stamp : ℕ) × (all : Tables)
+        × AreTablesOf pages of.now.source.space sources.now.items
+        × AreGrowing of.now.target.space pages targets.old.items nodes.old.slots first head stamp all }
+    ensures adds { IfOk result (λ next. (page < next) × (next ≤ of.now.end)
+        × AddsPart of.now.source page next of.now.target of.now.rights sources.now.items
+        targets.old.items targets.new.items nodes.old.slots nodes.new.slots) }
+    ensures halts { IfErr result (λ halt. (page ≤ halt.page)
+        × AddsPart of.now.source page halt.page of.now.target of.now.rights sources.now.items
+        targets.old.items targets.new.items nodes.old.slots nodes.new.slots
+        × IsHalted of.now.source of.now.end of.now.target of.now.rights
+        (entries_of nodes.new.slots) halt) }
+{
+    let place = place_from(of.source, of.target, page);
+    let ready = match make_ready(nodes, targets, key, place.page, of.rights) {
+        Ok(ready) => ready,
+        Err(_) => {
+            return Err(Halt {
+                page,
+                key,
+                refused: true,
+            });
+        }
+    };
+    if !ready {
+        return Ok(page + 1);
+    }
+    let run = run_at(of, page);
+    let source = &sources[(page / TABLE_PAGES) as usize];
+    let target = &mut targets[(place.page / TABLE_PAGES) as usize];
+    let Some((step, key, refused)) = add_run(nodes, source, target, &run, place) else {
+        return Ok(page + run.entries as u32);
+    };
+    Err(Halt {
+        page: page + step as u32,
+        key,
+        refused,
+    })
+}
+
+/// Adds children for all pages, up to the first one whose place has a key, or for which memory is refused.
+pub(crate) fn add_all(
+    nodes: &mut Slots,
+    pages: &Spaces,
+    targets: &mut Vec<Row>,
+    of: &Pages,
+) -> Option<Halt>
+    requires apart { of.now.source.space ≢ of.now.target.space }
+    requires rising { of.now.source.page ≤ of.now.end }
+    requires fits { of.now.end - of.now.source.page + of.now.target.page ≤ space_pages }
+    requires growing { (first head : Option ℕ) × (stamp : ℕ) × (all : Tables)
+        × AreGrowing of.now.target.space pages.now targets.old.items nodes.old.slots first head stamp all }
+    ensures { MatchOption result
+        (AddsPages of.now.source of.now.end of.now.target of.now.rights pages.now targets.old.items
+        targets.new.items nodes.old.slots nodes.new.slots)
+        (λ halt. AddsPages of.now.source halt.page of.now.target of.now.rights pages.now
+        targets.old.items targets.new.items nodes.old.slots nodes.new.slots
+        × IsHalted of.now.source of.now.end of.now.target of.now.rights
+        (entries_of nodes.new.slots) halt) }
+{
+    let Some(sources) = pages.tables(of.source.space) else {
+        return None;
+    };
+    let mut page = of.source.page;
+    loop {
+        let Some((next, key)) = next_page(sources, page, of.end) else {
+            return None;
+        };
+        match add_from(nodes, sources, targets, of, next, key) {
+            Ok(after) => page = after,
+            Err(halt) => return Some(halt),
+        }
+    }
 }

@@ -24,6 +24,7 @@ mod walks;
 
 use blocks::{Pages, move_block};
 use burial::cap_at;
+use children::{add_all, sharing};
 use creating::nodes_for;
 use l4_fpage::Rights;
 pub use l4_nodes::Place;
@@ -62,6 +63,17 @@ pub struct Entry {
     pub stands: Option<Standing>,
 }
 
+/// The page at which adding children stopped, since its place has a key or an allocation failed.
+#[derive(Clone, Copy, Debug, PartialEq, Eq)]
+pub struct Halt {
+    /// The page that has no child.
+    pub page: u32,
+    /// Its key.
+    pub key: usize,
+    /// Whether an allocation failed. Otherwise the place has a key.
+    pub refused: bool,
+}
+
 /// The nodes of all pages, and the spaces that exist.
 #[derive(Drop)]
 pub struct Links {
@@ -95,7 +107,7 @@ impl Model for Links {
 impl Links {
     ghost use Rattle.l4_spaces.specs.Listed.{NoSpaceFrom, IsNextSpace};
     ghost use Rattle.l4_links.specs.ListOf.{IsListOf};
-    ghost use Rattle.l4_links.specs.Entries.{entry_at, standing_at, parent_of, IsStanding, IsBlank, IsAt, IsSource, HaveRights, HavePlaces, AreTrees, NoKeyFrom, IsNextKey, NoKeyIn, IsNextKeyIn, IsKeyOf, NoParentIn, IsNextParentIn, Descends, AddsBlank, Stands, Sprouts, AddsChild, Clears, CutsBelow, Buries, CapsBelow, CapsTree, SetsSource, SetsPlain, SetsWanted, TakesOver, MovesPages, Hinders, LacksPlace};
+    ghost use Rattle.l4_links.specs.Entries.{entry_at, standing_at, parent_of, IsStanding, IsBlank, IsAt, IsSource, HaveRights, HavePlaces, AreTrees, NoKeyFrom, IsNextKey, NoKeyIn, IsNextKeyIn, IsKeyOf, NoParentIn, IsNextParentIn, Descends, AddsBlank, Stands, Sprouts, AddsChild, Clears, CutsBelow, Buries, CapsBelow, CapsTree, SetsSource, SetsPlain, SetsWanted, TakesOver, MovesPages, Hinders, LacksPlace, AddsChildren, IsHalted};
     ghost use Rattle.l4_links.specs.declared.Standing.{Standing as AStanding};
 
     /// Creates a value without pages and spaces. Memory for the nodes of this many pages is allocated at once, except for the tables that
@@ -362,6 +374,71 @@ impl Links {
         lists::add_under(&mut self.nodes, parent, place, &above, rights);
         self.stamp = fresh(self.stamp);
         Ok(Some(key))
+    }
+
+    /// Adds a child for each page from the source on and before the end that shares a right with these, at the places from the target on, in
+    /// another space. Each child has its parent's frame, and those of these rights that the parent has. Stops at the first such page whose
+    /// place has a key, or for which an allocation fails, and returns it; the children of the pages before it stay.
+    pub fn add_children(
+        &mut self,
+        source: Place,
+        end: u32,
+        target: Place,
+        rights: Rights,
+    ) -> Option<Halt>
+        requires apart { source.space ≢ target.space }
+        requires there { IsTrue (set.contains self.old.spaces target.space) }
+        requires rising { source.page ≤ end }
+        requires fits { end - source.page + target.page ≤ space_pages }
+        ensures adds { MatchOption result
+            (AddsChildren source end target rights self.old.entries self.new.entries)
+            (λ halt. AddsChildren source halt.page target rights self.old.entries self.new.entries
+            × IsHalted source end target rights self.new.entries halt) }
+        ensures spaces { self.new.spaces ≡ self.old.spaces }
+    {
+        if end - source.page == 1 {
+            return self.add_at(source, target, rights);
+        }
+        let mut targets = self.pages.take_tables(target.space);
+        let of = Pages {
+            source,
+            end,
+            target,
+            rights,
+        };
+        let halt = add_all(&mut self.nodes, &self.pages, &mut targets, &of);
+        self.pages.put_tables(target.space, targets);
+        self.stamp = fresh(self.stamp);
+        halt
+    }
+
+    /// Adds the child of one page. To take tables aside would cost more than the page.
+    fn add_at(&mut self, source: Place, target: Place, rights: Rights) -> Option<Halt>
+        requires apart { source.space ≢ target.space }
+        requires there { IsTrue (set.contains self.old.spaces target.space) }
+        requires fits { IsPage target.page }
+        ensures adds { MatchOption result
+            (AddsChildren source (source.page + 1) target rights self.old.entries self.new.entries)
+            (λ halt. AddsChildren source halt.page target rights self.old.entries self.new.entries
+            × IsHalted source (source.page + 1) target rights self.new.entries halt) }
+        ensures spaces { self.new.spaces ≡ self.old.spaces }
+    {
+        let Some(key) = self.find(source) else {
+            return None;
+        };
+        let Some(_) = sharing(&self.nodes, key, rights) else {
+            return None;
+        };
+        let refused = match self.add_child(key, target, rights) {
+            Ok(Some(_)) => return None,
+            Ok(None) => false,
+            Err(_) => true,
+        };
+        Some(Halt {
+            page: source.page,
+            key,
+            refused,
+        })
     }
 
     /// None if the page has a key, and else the refusal.

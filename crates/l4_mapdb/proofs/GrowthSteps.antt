@@ -1,5 +1,5 @@
 -- Children come one after another.
-use Rattle.std.proofs.Common.{◌≡◌, ◌≢◌, ℕ, ◌+◌, ◌<◌, ◌⊎◌, List, Option, Some, None, false, option_and_then, refl, sym, ap, ◌∙◌, subst, slice_get, inl, inr, arith}
+use Rattle.std.proofs.Common.{◌≡◌, ◌≢◌, ℕ, ◌+◌, ◌<◌, ◌⊎◌, List, Option, Some, None, false, option_and_then, refl, sym, ap, ◌∙◌, slice_get, inl, inr, arith}
 use Rattle.std.proofs.lemmas.Bool.{cases_lt, false≢true}
 use Rattle.l4_fpage.specs.Rights.{common, no_rights}
 use Rattle.l4_nodes.specs.declared.Place.{Place as LinkPlace}
@@ -9,10 +9,10 @@ use Rattle.l4_links.specs.Entries.{Entries, Linked, entry_at, standing_at, IsAt,
 use Rattle.l4_mapdb.specs.declared.ItemMove.{ItemMove}
 use Rattle.l4_mapdb.specs.declared.sources.UsedMove.{UsedMove}
 use Rattle.l4_mapdb.specs.Inside.Messages.{plain, IsMoved, turn, turn_of, IsNextMove}
-use Rattle.l4_mapdb.specs.Inside.Growing.{AreMaps, child_at, child_of, GrowsAt, IsGround, Earlier, Grown, Mapped}
+use Rattle.l4_mapdb.specs.Inside.Growing.{AreMaps, child_at, child_of, IsGround, Earlier, Grown, Mapped}
 use Rattle.l4_mapdb.proofs.Unique.{same_value}
 use Rattle.l4_mapdb.proofs.Moves.{stand_of, found_of, is_at, entry_of, one_by, move_page}
-use Rattle.l4_mapdb.proofs.Marking.{by_key, stand_in, same_move}
+use Rattle.l4_mapdb.proofs.Marking.{stand_in, same_move}
 
 -- under a key is an entry or nothing
 pub some_none : (s : Entries) (key : ℕ) (e : Entry) → entry_at s key ≡ None → entry_at s key ≡ Some e → ⊥
@@ -129,66 +129,6 @@ module _ (start : Linked) (from to : ℕ) (items : List ItemMove) (ground : IsGr
     apart = λ m n a b lt. absurd (omega (arith, lt));
   }
 
-  -- one child more
-  module _ (now new : Linked) (next : ℕ) (u : UsedMove) (by : ItemMove) (is : IsNextMove now.entries from to items next u) (item : slice_get items u.item ≡ Some by) (spaces : new.spaces ≡ now.spaces)
-      (grows : GrowsAt u.source u.target by.rights now.entries new.entries) (grown : Grown start from to items (Earlier next) now) where
-    here : Used u
-    here = moved_back (Earlier next) now grown u is.moved
-
-    which : (m : UsedMove) → Used m → turn_of m < turn u.item (u.page + 1) → (turn_of m < next) ⊎ (u ≡ m)
-    which = passed_or_this start ground.places from to items now.entries next u is here (moved_on (Earlier next) now grown)
-
-    weaker : (m : UsedMove) → turn_of m < next → turn_of m < turn u.item (u.page + 1)
-    weaker m lt = let after = is.after in omega (arith, lt, after)
-
-    child_is : (m : UsedMove) (used : Used m) → u ≡ m → entry_at new.entries grows.key ≡ Some (child m used)
-    child_is m used e =
-        let t = stands_still (Earlier next) now grown u here in
-        let above : grows.above ≡ t.0 = same_value (sym grows.stands ∙ t.1) in
-        let at : standing_at start.entries u.source ≡ Some grows.above = t.2 ∙ ap (λ (x : Standing). Some x) (sym above) in
-        let own : entry_at new.entries grows.key ≡ Some (child u here) = grows.child ∙ ap (λ (x : Entry). Some x) (child_as u here grows.above by at item) in
-        subst (λ (v : UsedMove). (w : Used v) → entry_at new.entries grows.key ≡ Some (child v w)) e
-        (λ w. grows.child ∙ ap (λ (x : Entry). Some x) (child_as u w grows.above by at item)) used
-
-    still : (key : ℕ) (e : Entry) → entry_at now.entries key ≡ Some e → entry_at new.entries key ≡ Some e
-    still key e at = grows.others key (λ same. some_none now.entries key e (ap (entry_at now.entries) same ∙ grows.vacant) at) ∙ at
-
-    -- a child that is there is not at the target
-    elsewhere : (m : UsedMove) → Used m → turn_of m < next → m.target ≢ u.target
-    elsewhere m used lt same =
-        let c = grown.child m used lt in
-        grows.free c.0 (is_at now.entries c.0 (child m used) u.target c.1 same)
-
-    pub grown_more : Grown start from to items (Earlier (turn u.item (u.page + 1))) new
-    grown_more = record {
-      spaces = spaces ∙ grown.spaces;
-      kept = λ key e at. still key e (grown.kept key e at);
-      child = λ m used lt. elim (which m used lt) [
-        | inl less ↦ let c = grown.child m used less in (c.0, still c.0 (child m used) c.1)
-        | inr e ↦ (grows.key, child_is m used e)
-      ];
-      only = λ key e at. by_key key grows.key
-          (λ same. inr (u, here, (let z = is.after in omega arith), same_value (sym at ∙ ap (entry_at new.entries) same ∙ child_is u here refl)))
-          (λ ne. elim (grown.only key e (sym (grows.others key ne) ∙ at)) [
-            | inl was ↦ inl was
-            | inr n ↦ inr (n.0, n.1, weaker n.0 n.2, n.3)
-          ]);
-      absent = λ m used lt. elim (which m used lt) [
-        | inl less ↦ grown.absent m used less
-        | inr e ↦ subst (λ (v : UsedMove). (key : ℕ) → ¬ (IsAt start.entries v.target key)) e (absent_before (Earlier next) now grown u.target grows.free)
-      ];
-      apart = λ m n a b lt_m lt_n same. elim (which m a lt_m) [
-        | inl less_m ↦ elim (which n b lt_n) [
-          | inl less_n ↦ grown.apart m n a b less_m less_n same
-          | inr e ↦ absurd (elsewhere m a less_m (same ∙ ap (λ (v : UsedMove). v.target) (sym e)))
-        ]
-        | inr e ↦ elim (which n b lt_n) [
-          | inl less_n ↦ absurd (elsewhere n b less_n (sym same ∙ ap (λ (v : UsedMove). v.target) (sym e)))
-          | inr f ↦ ap turn_of (sym e ∙ f)
-        ]
-      ];
-    }
-
   -- all used moves were passed
   pub grown_all : (now : Linked) (next : ℕ) → ((m : UsedMove) → IsMoved now.entries from to items m → turn_of m < next) → Grown start from to items (Earlier next) now → Grown start from to items Used now
   grown_all now next none grown =
@@ -225,20 +165,3 @@ module _ (start : Linked) (from to : ℕ) (items : List ItemMove) (ground : IsGr
       | inr r ↦ grown.absent h.move h.used h.used r.key r.at
     ];
   }
-
-  -- up to the used move that has no child
-  pub grown_before : (now : Linked) (next : ℕ) (u : UsedMove) → IsNextMove now.entries from to items next u → Grown start from to items (Earlier next) now → Grown start from to items (Earlier (turn_of u)) now
-  grown_before now next u is grown = record {
-    spaces = grown.spaces;
-    kept = grown.kept;
-    child = λ m used lt. grown.child m used (passed m used lt);
-    only = λ key e at. elim (grown.only key e at) [ inl was ↦ inl was | inr n ↦ inr (n.0, n.1, (let after = is.after in let lt = n.2 in omega (arith, after, lt)), n.3) ];
-    absent = λ m used lt. grown.absent m used (passed m used lt);
-    apart = λ m n a b lt_m lt_n. grown.apart m n a b (passed m a lt_m) (passed n b lt_n);
-  }
-    where
-      passed : (m : UsedMove) → Used m → turn_of m < turn_of u → turn_of m < next
-      passed m used lt = elim (cases_lt (turn_of m) next) [
-        | inl less ↦ less
-        | inr ge ↦ let first = is.first m (moved_on (Earlier next) now grown m used) ge in absurd (omega (arith, first, lt))
-      ]

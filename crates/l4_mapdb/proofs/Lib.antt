@@ -26,6 +26,7 @@ pub mod Gone
 pub mod Handed
 pub mod Grown
 pub mod GrowthSteps
+pub mod BlockGrowth
 pub mod ItemWalk
 pub mod Keyed
 pub mod Leading

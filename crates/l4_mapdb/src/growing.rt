@@ -1,19 +1,16 @@
 //! The short path for a message that maps pages to absent places of another space. Each child is added when its page is reached. If this
 //! turns out not to be possible, the children are removed again.
 
-ghost use Rattle.std.specs.Prelude.{◌≡◌, ◌≢◌, ℕ, IsTrue, OnOk, OnErr, IfErr, true, false};
+ghost use Rattle.std.specs.Prelude.{◌≡◌, ◌≤◌, ◌<◌, ◌+◌, ◌^◌, ℕ, IsTrue, OnOk, OnErr, IfErr, true, false};
 ghost use Rattle.std.specs.FinSet as set;
-ghost use Rattle.l4_fpage.specs.Rights.{common, no_rights};
-ghost use Rattle.l4_spaces.specs.Tables.{IsPage};
-ghost use Rattle.l4_links.specs.declared.Standing.{Standing as AStanding};
-ghost use Rattle.l4_links.specs.Entries.{Linked, entry_at, standing_at, IsAt, IsStanding, HaveRights};
+ghost use Rattle.l4_links.specs.Entries.{Linked, entry_at, IsAt, HaveRights};
 ghost use Rattle.l4_mapdb.specs.Inside.Messages.{IsMoved, turn_of};
-ghost use Rattle.l4_mapdb.specs.Inside.Growing.{AreMaps, GrowsAt, TakesBack, IsGround, Earlier, Grown, Mapped, IsStopped, Stops};
+ghost use Rattle.l4_mapdb.specs.Inside.Growing.{AreMaps, move_from, TakesBack, IsGround, Earlier, Grown, Mapped, IsStopped, Stops};
 
 use crate::ItemMove;
+use crate::cutting::end_of;
 use crate::sources::{UsedMove, UsedMoves};
-use l4_fpage::Rights;
-use l4_links::{Links, Place};
+use l4_links::{Halt, Links, Place};
 
 /// The point at which adding the children of a message stopped.
 #[derive(Clone, Copy)]
@@ -24,31 +21,27 @@ pub(crate) struct Stop {
     pub refused: bool,
 }
 
-/// Adds the child of a used move, if nothing is at its target.
-fn grow(links: &mut Links, used: UsedMove, rights: Rights) -> Result<(), Stop>
-    requires there { IsTrue (set.contains links.old.spaces used.target.space) }
-    requires fits { IsPage used.target.page }
-    requires stands { IsStanding links.old.entries used.source }
-    requires some { (above : AStanding) → standing_at links.old.entries used.source ≡ Some above
-        → common above.rights rights ≢ no_rights }
-    ensures ok { OnOk result
-        (GrowsAt used.source used.target rights links.old.entries links.new.entries) }
-    ensures err { OnErr result (links.new ≡ links.old) }
-    ensures stop { IfErr result (λ stop. stop.used ≡ used) }
-    ensures lacks { IfErr result
-        (λ stop. stop.refused ≡ true → (key : ℕ) → ¬ (IsAt links.old.entries used.target key)) }
-    ensures spaces { links.new.spaces ≡ links.old.spaces }
+/// Returns the stop at the page of the item at which adding children stopped.
+fn stop_of(by: &ItemMove, item: usize, to: u64, halt: Halt) -> Stop
+    requires from { by.now.mv.source.first ≤ halt.page }
+    requires before { halt.page < by.now.mv.source.first + 2 ^ by.now.mv.source.log }
+    ensures used { result.used ≡ move_from to item halt.key halt.page by.now }
+    ensures refused { result.refused ≡ halt.refused }
 {
-    match links.add_child(used.source, used.target, rights) {
-        Ok(Some(_)) => Ok(()),
-        Ok(None) => Err(Stop {
-            used,
-            refused: false,
-        }),
-        Err(_) => Err(Stop {
-            used,
-            refused: true,
-        }),
+    let target = Place {
+        space: to,
+        page: halt.page - by.mv.source.first + by.mv.target.first,
+    };
+    let used = UsedMove {
+        item,
+        page: halt.page,
+        source: halt.key,
+        target,
+        grant: by.grant,
+    };
+    Stop {
+        used,
+        refused: halt.refused,
     }
 }
 
@@ -62,11 +55,19 @@ fn grow_all(links: &mut Links, from: u64, to: u64, items: &[ItemMove]) -> Result
     ensures err { IfErr result (IsStopped links.old from to items.now links.new) }
     ensures spaces { links.new.spaces ≡ links.old.spaces }
 {
-    let mut moves = UsedMoves::new();
-    while let Some(used) = moves.next(links, from, to, items) {
-        match grow(links, used, items[used.item].rights) {
-            Ok(()) => {}
-            Err(stop) => return Err(stop),
+    for item in 0..items.len() {
+        let by = &items[item];
+        let source = Place {
+            space: from,
+            page: by.mv.source.first,
+        };
+        let target = Place {
+            space: to,
+            page: by.mv.target.first,
+        };
+        let end = end_of(by.mv.source);
+        if let Some(halt) = links.add_children(source, end, target, by.rights) {
+            return Err(stop_of(by, item, to, halt));
         }
     }
     Ok(())

@@ -3,7 +3,7 @@ use Rattle.std.specs.Prelude.{◌≡◌, ◌≢◌, ◌⊎◌, ◌+◌, ◌*◌,
 use Rattle.std.specs.FinSet as set
 use Rattle.l4_fpage.specs.Rights.{RightsSet, common, no_rights}
 use Rattle.l4_spaces.specs.Tables.{Tables, key_of, table_pages}
-use Rattle.l4_spaces.specs.Rows.{IsRowOf, InTable}
+use Rattle.l4_spaces.specs.Rows.{Rows, AreTablesOf, AreAside, IsRowOf, InTable}
 use Rattle.l4_nodes.specs.Keys.{IsKey}
 use Rattle.l4_nodes.specs.declared.Place.{Place}
 use Rattle.l4_nodes.specs.declared.nodes.Node.{Node}
@@ -11,7 +11,7 @@ use Rattle.l4_nodes.specs.Slots.{Slots, node_at}
 use Rattle.l4_links.specs.Inside.Nodes.{AddsUnder}
 use Rattle.l4_links.specs.Inside.Stacks.{HasStack}
 use Rattle.l4_links.specs.Inside.Keeping.{IsIndexed, IsLive, entries_of}
-use Rattle.l4_links.specs.Entries.{AddsChildren}
+use Rattle.l4_links.specs.Entries.{moved_place, AddsChildren}
 
 -- what is under the key shares no right with these
 abbrev pub SharesNone : ℕ → RightsSet → Slots → Type 0
@@ -70,3 +70,23 @@ pub record IsHeld (key : ℕ) (rights : RightsSet) (low : ℕ) (refused : Bool) 
   pub same : IsSameRow old new row_old row_new
   pub taken : refused ≡ false → slice_index_or row_old low None ≢ None
   pub lacks : refused ≡ true → slice_index_or row_old low None ≡ None
+
+-- The nodes are trees. The tables of one space are aside, and with these back in place the tables name each page's key.
+pub record AreGrowing (to : ℕ) (pages : Tables) (targets : Rows) (slots : Slots) (first head : Option ℕ) (stamp : ℕ) (all : Tables) : Type 0 where
+  pub live : IsLive slots first stamp
+  pub stack : HasStack slots head
+  pub aside : AreAside to targets pages all
+  pub indexed : IsIndexed slots all
+  pub there : IsTrue (set.contains all.spaces to)
+
+-- the pages from the source on and below the end have their children, while the tables of the target's space are aside
+abbrev pub AddsPages : (source : Place) (end : ℕ) (target : Place) → RightsSet → Tables → (old_rows new_rows : Rows) → (old new : Slots) → Type 0
+AddsPages source end target rights pages old_rows new_rows old new =
+    (first head : Option ℕ) (stamp : ℕ) (all : Tables) → AreGrowing target.space pages old_rows old first head stamp all
+    → (later : Tables) × AreGrowing target.space pages new_rows new first head stamp later × AddsChildren source end target rights (entries_of old) (entries_of new)
+
+-- the same for the pages from this one on, whose tables these are
+abbrev pub AddsPart : (source : Place) (page end : ℕ) (target : Place) → RightsSet → (sources old_rows new_rows : Rows) → (old new : Slots) → Type 0
+AddsPart source page end target rights sources old_rows new_rows old new =
+    (pages : Tables) → AreTablesOf pages source.space sources
+    → AddsPages (record { space = source.space; page = page }) end (moved_place source target (record { space = source.space; page = page })) rights pages old_rows new_rows old new

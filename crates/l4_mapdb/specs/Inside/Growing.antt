@@ -1,16 +1,14 @@
 -- Children that the pages of a message get, one after another, where nothing is at its targets. (this profile's own)
-use Rattle.std.specs.Prelude.{◌≡◌, ◌≢◌, ◌⊎◌, ◌<◌, ◌≤◌, ℕ, Bool, List, Some, None, false, true, slice_get}
+use Rattle.std.specs.Prelude.{◌≡◌, ◌≢◌, ◌⊎◌, ◌<◌, ◌≤◌, ◌+◌, ◌-◌, ℕ, Bool, List, Some, None, false, true, slice_get}
 use Rattle.l4_fpage.specs.Rights.{RightsSet, common}
 use Rattle.l4_nodes.specs.declared.Place.{Place as LinkPlace}
 use Rattle.l4_links.specs.declared.Standing.{Standing}
 use Rattle.l4_links.specs.declared.Entry.{Entry}
-use Rattle.l4_links.specs.Entries.{Entries, Linked, entry_at, standing_at, IsAt, Descends, HavePlaces, AreTrees, cut_off}
+use Rattle.l4_links.specs.Entries.{Entries, Linked, entry_at, IsAt, Descends, HavePlaces, AreTrees, cut_off}
 use Rattle.l4_mapdb.specs.declared.ItemMove.{ItemMove}
 use Rattle.l4_mapdb.specs.declared.sources.UsedMove.{UsedMove}
 use Rattle.l4_mapdb.specs.declared.growing.Stop.{Stop}
-use Rattle.l4_mapdb.specs.Transfer.{IsUsed, IsEntangled, Delivers}
-use Rattle.l4_mapdb.specs.View.{mappings_of}
-use Rattle.l4_mapdb.specs.Delivering.{IsClean, RootsKnown}
+use Rattle.l4_mapdb.specs.Delivering.{IsClean}
 use Rattle.l4_mapdb.specs.Inside.Messages.{IsMoved, turn_of}
 use Rattle.l4_mapdb.specs.Inside.Tangles.{HasTangle}
 
@@ -30,15 +28,15 @@ child_at place parent above rights = record {
   stands = Some (record { frame = above.frame; rights = common above.rights rights; source = false; granted = None; parent = Some parent });
 }
 
--- a child of what stands under the key has come to the place, which had no key
-pub record GrowsAt (parent : ℕ) (place : LinkPlace) (rights : RightsSet) (old new : Entries) : Type 0 where
-  pub above : Standing
-  pub stands : standing_at old parent ≡ Some above
-  pub free : (other : ℕ) → ¬ (IsAt old place other)
-  pub key : ℕ
-  pub vacant : entry_at old key ≡ None
-  pub child : entry_at new key ≡ Some (child_at place parent above rights)
-  pub others : (other : ℕ) → other ≢ key → entry_at new other ≡ entry_at old other
+-- the move of this item, which has this number, from the page of this key
+abbrev pub move_from : (to number key page : ℕ) → ItemMove → UsedMove
+move_from to number key page by = record {
+  item = number;
+  page = page;
+  source = key;
+  target = record { space = to; page = page - by.mv.source.first + by.mv.target.first };
+  grant = by.grant;
+}
 
 -- what stands under the key is gone with its page, what descends from it is cut off, and all else is as it was
 pub record TakesBack (top : ℕ) (old new : Entries) : Type 0 where

@@ -1,16 +1,11 @@
-use Rattle.std.proofs.Common.{◌≡◌, ◌≤◌}
-use Rattle.l4_mapdb.specs.Inside.Messages.{turn_in, turns_left}
+use Rattle.std.proofs.Common.{◌≡◌}
+use Rattle.l4_mapdb.specs.Inside.Messages.{turn}
 use Rattle.l4_mapdb.specs.Inside.Growing.{Earlier, Grown}
 use Rattle.l4_mapdb.proofs.growing.grow_all.Given as goal
-use Rattle.l4_fpage.specs.Pages.{most_pages}
 
--- the used moves before this turn have their children
-abbrev pub invariant-loop-used : goal.invariant-loop-used
-invariant-loop-used l = record {
-  fits : l.moves.page ≤ most_pages;
+-- the pages of the items before this one have their children
+abbrev pub invariant-loop-item : goal.invariant-loop-item
+invariant-loop-item l = record {
   spaces : l.links.spaces ≡ l.fn.links.spaces;
-  grown : Grown l.fn.links l.from l.to l.items (Earlier (turn_in l.moves)) l.links;
+  grown : Grown l.fn.links l.from l.to l.items (Earlier (turn l.item 0)) l.links;
 }
-
-abbrev pub decreases-loop-used : goal.decreases-loop-used
-decreases-loop-used l = turns_left l.items l.moves
