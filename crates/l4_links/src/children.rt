@@ -182,10 +182,8 @@ fn make_ready(
         return Ok(false);
     };
     let alloc = *targets.allocator();
-    match make_all(targets, alloc, &[page]) {
-        Ok(()) => Ok(true),
-        Err(_) => Err(NoMemory),
-    }
+    make_all(targets, alloc, &[page])?;
+    Ok(true)
 }
 
 /// Adds children for a page with this key, and for those after it in one run. Returns the page after them.

@@ -7,35 +7,30 @@
 ghost use Rattle.std.specs.Prelude.{◌≡◌, ◌≢◌, ◌⊎◌, ◌↔◌, ◌≤◌, ◌+◌, ◌-◌, [], ℕ, length, true, false, IsTrue, IsOk, OnOk, OnErr, IfOk, IfSome, MatchOption, Some, None};
 ghost use Rattle.std.specs.FinSet as set;
 ghost use Rattle.l4_fpage.specs.Rights.{common, no_rights};
+ghost use Rattle.std.specs.Option.{option_map};
 ghost use Rattle.l4_spaces.specs.Tables.{IsPage, space_pages};
+ghost use Rattle.l4_nodes.specs.Slots.{HasRoomFor};
+ghost use Rattle.l4_links.specs.Inside.Keeping.{standing_of};
 
 mod blocks;
 mod burial;
 mod children;
-mod copying;
-mod creating;
-mod descending;
 mod lists;
-mod names;
 mod parents;
-mod stamps;
-mod standings;
 mod walks;
 
 use blocks::{Pages, move_block};
 use burial::cap_at;
 use children::{add_all, sharing};
-use creating::nodes_for;
 use l4_fpage::Rights;
 pub use l4_nodes::Place;
-use l4_nodes::{Link, Slots, node_of, set_plain, set_rights, set_source, set_wanted};
+use l4_nodes::{Link, Node, Slots, node_of, set_plain, set_rights, set_source, set_wanted};
 pub use l4_spaces::NoMemory;
 use l4_spaces::Spaces;
-use names::{remove, take_over};
-use stamps::{SOURCES_WALK, fresh, stamp_for};
-use standings::standing_of;
+use lists::{remove, take_over};
 use std::alloc::Global;
 use std::marker::Model;
+use walks::{SOURCES_WALK, fresh, stamp_for};
 
 /// A node of the trees of mappings.
 #[derive(Clone, Copy, Debug, PartialEq, Eq)]
@@ -112,7 +107,6 @@ impl Links {
 
     /// Creates a value without pages and spaces. Memory for the nodes of this many pages is allocated at once, except for the tables that
     /// name them.
-    ///
     /// Returns `NoMemory` if an allocation fails.
     pub fn new(alloc: Global, pages: usize) -> Result<Links, NoMemory>
         ensures entries { IfOk result (λ links. links.entries ≡ []) }
@@ -130,7 +124,6 @@ impl Links {
     }
 
     /// Adds an empty space. Changes nothing if the space exists.
-    ///
     /// Returns `NoMemory` if an allocation fails; then nothing has changed.
     pub fn add_space(&mut self, space: u64) -> Result<(), NoMemory>
         ensures ok { OnOk result
@@ -236,7 +229,6 @@ impl Links {
     }
 
     /// Adds a blank for a page that has no key, and returns its key.
-    ///
     /// Returns `NoMemory` if an allocation fails, or if there would be room for 2^32 - 1 keys or more; then nothing has changed.
     pub fn add_blank(&mut self, place: Place) -> Result<usize, NoMemory>
         requires there { IsTrue (set.contains self.old.spaces place.space) }
@@ -331,7 +323,6 @@ impl Links {
 
     /// Adds a child of the parent for a page that has no key, and returns the child's key. The child has the parent's frame, and those of
     /// these rights that the parent has, which must be at least one. Returns None, and changes nothing, if the page has a key.
-    ///
     /// Returns `NoMemory` only if the page has no key; then nothing has changed.
     pub fn add_child(
         &mut self,
@@ -496,7 +487,6 @@ impl Links {
     /// Moves the pages from the source on and before the end to the places from the target on, in another space. Each page keeps its key,
     /// its rights, its parent and its children. Returns whether the pages were moved. They are not, and nothing changes, if a page has
     /// other rights than these, or one of the places has a key.
-    ///
     /// Returns `NoMemory` only if one of the places has no key; then nothing has changed.
     pub fn move_pages(
         &mut self,
@@ -621,7 +611,6 @@ impl Links {
     }
 
     /// Returns the keys of everything that descends from the key, each once.
-    ///
     /// Returns `NoMemory` if an allocation fails.
     pub fn descendants(&self, alloc: Global, key: usize) -> Result<Vec<usize>, NoMemory>
         ensures { IfOk result
@@ -630,7 +619,7 @@ impl Links {
         let Some(_) = node_of(&self.nodes, key) else {
             return Ok(Vec::new(alloc));
         };
-        let keys = descending::keys_below(alloc, &self.nodes, key)?;
+        let keys = walks::keys_below(alloc, &self.nodes, key)?;
         Ok(keys)
     }
 
@@ -661,4 +650,48 @@ impl Links {
     {
         set_wanted(&mut self.nodes, key, wanted);
     }
+
+    /// Returns a copy with the same keys, pages and spaces, in memory of its own. A change of one is not visible in the other.
+    /// Returns `NoMemory` if an allocation fails.
+    pub fn copy(&self) -> Result<Links, NoMemory>
+        ensures { IfOk result (λ copy. copy ≡ self.now) }
+    {
+        let nodes = self.nodes.copy()?;
+        let pages = self.pages.copy()?;
+        Ok(Links {
+            nodes,
+            pages,
+            first: self.first,
+            stamp: self.stamp,
+            walk: self.walk,
+            doomed: self.doomed,
+        })
+    }
+}
+
+/// Returns a value without slots that has room for this many: none of them needs an allocation.
+/// Returns `NoMemory` if an allocation fails.
+fn nodes_for(alloc: Global, pages: usize) -> Result<Slots, NoMemory>
+    ensures none { IfOk result (λ nodes. nodes.slots ≡ []) }
+    ensures room { IfOk result (λ nodes. HasRoomFor nodes pages) }
+{
+    let mut nodes = Slots::new(alloc);
+    nodes.make_room(pages)?;
+    Ok(nodes)
+}
+
+/// Returns the node under a key, as contracts see it.
+fn standing_of(node: Option<Node>) -> Option<Standing>
+    ensures { result ≡ option_map standing_of node }
+{
+    let Some(node) = node else {
+        return None;
+    };
+    Some(Standing {
+        frame: node.frame,
+        rights: node.rights,
+        source: node.source,
+        granted: node.granted,
+        parent: node.parent.key(),
+    })
 }

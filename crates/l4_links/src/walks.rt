@@ -1,16 +1,20 @@
-//! Walks over the run of a node's descendants. A node whose run was visited by a walk of the same stamp is skipped with all its
-//! descendants.
+//! Walks over the run of a node's descendants, their stamps, and the list of their keys. A node whose run was visited by a walk of the same
+//! stamp is skipped with all its descendants.
 
-ghost use Rattle.std.specs.Prelude.{◌≡◌, ◌≢◌, ◌≤◌, ℕ, List, Option, Some, None, true, false};
+ghost use Rattle.std.specs.Prelude.{◌≡◌, ◌≢◌, ◌≤◌, ℕ, List, Option, Some, None, true, false, IfOk, ◌⊎◌};
 ghost use Rattle.l4_links.specs.Leads.{Leads};
 ghost use Rattle.l4_links.specs.Inside.Trees.{parent_at};
 ghost use Rattle.l4_links.specs.Inside.Stacks.{HasStack};
 ghost use Rattle.l4_nodes.specs.Slots.{node_at};
-ghost use Rattle.l4_links.specs.Inside.Nodes.{limbs, AreKeys, IsForest, HasMarks, CapsBelow, HasSeen, IsSame, Meets, NoneMet, IsMarked, IsStamped};
+ghost use Rattle.l4_links.specs.Inside.Nodes.{limbs, AreKeys, IsForest, HasMarks, CapsBelow, HasSeen, IsSame, Meets, NoneMet, IsMarked, IsStamped, AreUnmarked};
+ghost use Rattle.l4_links.specs.ListOf.{IsListOf};
+ghost use Rattle.l4_links.specs.Inside.Keeping.{IsFresh, BeginsWalk, sources_walk};
 
+use crate::NoMemory;
 use crate::burial::cap_at;
 use l4_fpage::Rights;
 use l4_nodes::{Link, Node, Slots, close, node_of, see};
+use std::alloc::Global;
 
 /// Returns the link at which the walk continues: after the run of a node if it has visited that run, and otherwise at the next node.
 fn onward(node: &Node, stamp: u32) -> Link
@@ -140,4 +144,72 @@ pub(crate) fn is_leaf(nodes: &Slots, key: usize) -> bool
         unreachable!()
     };
     after.depth <= node.depth
+}
+
+/// Returns the keys of everything that descends from the node: the run of deeper nodes after it.
+pub(crate) fn keys_below(alloc: Global, nodes: &Slots, top: usize) -> Result<Vec<usize>, NoMemory>
+    requires forest { (ks : List ℕ) × IsForest nodes.now.slots ks }
+    requires there { node_at nodes.now.slots top ≢ None }
+    ensures { IfOk result
+        (λ keys. IsListOf (λ (key : ℕ). Leads (parent_at (limbs nodes.now.slots)) key top)
+        keys.items) }
+{
+    let Some(head) = node_of(nodes, top) else {
+        unreachable!()
+    };
+    let depth = head.depth;
+    let mut at = head.next;
+    let mut keys = Vec::new(alloc);
+    for _ in 0..nodes.capacity() {
+        let Some(key) = at.key() else {
+            return Ok(keys);
+        };
+        let Some(node) = node_of(nodes, key) else {
+            unreachable!()
+        };
+        if node.depth <= depth {
+            return Ok(keys);
+        }
+        keys.push(key)?;
+        at = node.next;
+    }
+    Ok(keys)
+}
+
+/// The number of a walk for sources. A walk that caps rights has the number of their bits, which is less.
+pub(crate) const SOURCES_WALK: u8 = 8;
+
+/// Returns a stamp that no node has. After the last stamp it returns 0, with which nothing is marked.
+pub(crate) fn fresh(stamp: u32) -> u32
+    ensures { IsFresh stamp result }
+{
+    if stamp == 0 || stamp == u32::MAX {
+        return 0;
+    }
+    stamp + 1
+}
+
+/// Takes the stamps of all walks from all nodes. It is needed once in 2^32 - 1 stamps.
+#[cold]
+fn unmark_all(nodes: &mut Slots)
+    ensures same { IsSame nodes.old.slots nodes.new.slots }
+    ensures unmarked { AreUnmarked nodes.new.slots }
+{
+    nodes.clear_notes();
+}
+
+/// Returns the stamp for a walk: the last one if that walk had the same purpose, or a fresh one. After the last stamp, removes the stamps
+/// from all nodes and begins again.
+pub(crate) fn stamp_for(nodes: &mut Slots, stamp: u32, last: u8, walk: u8) -> u32
+    ensures same { IsSame nodes.old.slots nodes.new.slots }
+    ensures begins { BeginsWalk last walk stamp result nodes.old.slots nodes.new.slots }
+{
+    if stamp == 0 {
+        unmark_all(nodes);
+        return 1;
+    }
+    if last == walk {
+        return stamp;
+    }
+    fresh(stamp)
 }

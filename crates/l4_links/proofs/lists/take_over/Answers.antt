@@ -1,7 +1,7 @@
 use Rattle.std.proofs.Common.{◌≢◌, sym, ap, ◌∙◌, inl}
 use Rattle.l4_nodes.specs.Slots.{node_at}
 use Rattle.l4_links.proofs.Naming.{place_there, place_fits, place_present, taken, indexed_taken}
-use Rattle.l4_links.proofs.names.take_over.Goals as goal
+use Rattle.l4_links.proofs.lists.take_over.Goals as goal
 
 pub set-requires-clause-there : goal.set-requires-clause-there
 set-requires-clause-there c = place_there c.args.nodes.now.slots c.args.pages.now c.args.blank c.in-Some-place_of.to c.requires.indexed (sym c.place_of-2.ensures ∙ c.in-Some-place_of.is)

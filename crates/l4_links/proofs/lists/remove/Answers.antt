@@ -1,6 +1,6 @@
 use Rattle.std.proofs.Common.{sym, ◌∙◌}
 use Rattle.l4_links.proofs.Naming.{indexed_removed}
-use Rattle.l4_links.proofs.names.remove.Goals as goal
+use Rattle.l4_links.proofs.lists.remove.Goals as goal
 
 pub returns-clause-indexed : goal.returns-clause-indexed
 returns-clause-indexed c i =

@@ -1,6 +1,6 @@
 use Rattle.std.proofs.Common.{◌≡◌, ◌+◌, ◌++◌, ◌∷◌, [], ℕ, List, length, Option, None, refl, sym, ap, ◌∙◌, subst, arith, length-append}
 use Rattle.l4_links.proofs.Listing.{HasPassed, passed_first, passed_more, passed_ends, passed_there, passed_at_end, passed_at_key}
-use Rattle.l4_links.proofs.descending.keys_below.Goals as goal
+use Rattle.l4_links.proofs.walks.keys_below.Goals as goal
 
 pub loop-init : goal.loop-init
 loop-init c =
