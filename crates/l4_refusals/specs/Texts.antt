@@ -5,7 +5,7 @@ use Rattle.std.specs.Prelude.{ℕ, ◌+◌, ◌*◌, List, [], ◌∷◌, ◌++�
 abbrev pub spelled : List ℕ → ℕ
 spelled code = slice_index_or code 0 0 * 256 + slice_index_or code 1 0
 
--- the codes of the library and of the kernel, each with a line that says what it means
+-- the codes of the library, of the kernel and of running out of memory, each with a line that says what it means
 abbrev pub kernel_texts : List (List ℕ × List ℕ)
 kernel_texts =
     (codes "B1", codes "the handle is empty: it was never created, or it was freed")
@@ -18,6 +18,7 @@ kernel_texts =
     ∷ (codes "K3", codes "the thread's previous call has not ended yet")
     ∷ (codes "K4", codes "a timeout is neither never (0) nor zero (0x400)")
     ∷ (codes "K6", codes "the number of frames must be from 1 to 4,096")
+    ∷ (codes "NoMemory", codes "there was not enough memory")
     ∷ []
 
 -- the codes of messages, each with a line that says what it means
@@ -67,7 +68,7 @@ check_texts =
     ∷ (codes "C6", codes "the region itself is refused with N1, N2 or N3")
     ∷ []
 
--- the codes of a pager's table, of a locked kernel and of running out of memory, each with a line that says what it means
+-- the codes of a pager's table and of a locked kernel, each with a line that says what it means
 abbrev pub table_texts : List (List ℕ × List ℕ)
 table_texts =
     (codes "P1", codes "the region overlaps another region in the table")
@@ -83,7 +84,6 @@ table_texts =
     ∷ (codes "X1", codes "the seat of this number was given out, but was not returned")
     ∷ (codes "X2", codes "the seat of this number was never given out, or was returned twice")
     ∷ (codes "X3", codes "the seat of this number does not match the lock's records")
-    ∷ (codes "NoMemory", codes "there was not enough memory")
     ∷ []
 
 -- all codes

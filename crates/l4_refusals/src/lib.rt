@@ -18,8 +18,8 @@ fn meaning(code: &'static [u8], line: &'static [u8]) -> Text
     Text { code, line }
 }
 
-/// Returns the refusals of the library and of the kernel.
-fn kernel_texts() -> [Text; 10]
+/// Returns the refusals of the library and of the kernel, and a failed allocation.
+fn kernel_texts() -> [Text; 11]
     ensures { map bytes_of result ≡ kernel_texts }
 {
     [
@@ -42,6 +42,7 @@ fn kernel_texts() -> [Text; 10]
         meaning(b"K3", b"the thread's previous call has not ended yet"),
         meaning(b"K4", b"a timeout is neither never (0) nor zero (0x400)"),
         meaning(b"K6", b"the number of frames must be from 1 to 4,096"),
+        meaning(b"NoMemory", b"there was not enough memory"),
     ]
 }
 
@@ -152,8 +153,8 @@ fn check_texts() -> [Text; 6]
     ]
 }
 
-/// Returns the refusals of a pager's table and of a locked kernel, and a failed allocation.
-fn table_texts() -> [Text; 14]
+/// Returns the refusals of a pager's table and of a locked kernel.
+fn table_texts() -> [Text; 13]
     ensures { map bytes_of result ≡ table_texts }
 {
     [
@@ -200,7 +201,6 @@ fn table_texts() -> [Text; 14]
             b"X3",
             b"the seat of this number does not match the lock's records",
         ),
-        meaning(b"NoMemory", b"there was not enough memory"),
     ]
 }
 
