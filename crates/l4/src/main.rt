@@ -6,6 +6,7 @@
 //! opened; 3 if a read or a write failed; 4 if there was no memory.
 #![tactic(auto)]
 
+mod recorded;
 mod reports;
 mod tested;
 
@@ -28,10 +29,12 @@ use l4_programs::{
     status_of, stopped, warn_of_cut_line,
 };
 use l4_reasons::Reason;
-use l4_sinks::{Ended, Style, answer_script};
+use l4_record::NoSegments;
+use l4_sinks::{Ended, Outputs, Style, answer_script};
 use l4_step_lines::{Fault, JudgeFault, judge};
 use l4_symbols::write_words;
 use l4_text::{RunFault, ScriptReader};
+use recorded::run_to;
 use reports::{report_no_plan, report_no_thread, report_refused, report_unproved};
 use std::io::{Read, Write};
 use std::process::ExitCode;
@@ -233,13 +236,17 @@ fn run<R: AllocGlobal + Files + Input + Print + Eprint>(
             &mut output,
         )
     } else {
+        let outputs = Outputs {
+            answers: &mut output,
+            segments: NoSegments,
+        };
         let (_, answered) = answer_script(
             rt.alloc(),
             script.frames,
             script.size,
             notes.style,
             &mut reader,
-            &mut output,
+            outputs,
         );
         answered
     };
@@ -379,7 +386,15 @@ fn execute<R: AllocGlobal + Files + Input + Print + Eprint>(rt: &R, asked: Optio
             explain,
             number,
             moves,
+            history_to: None,
         } => run(rt, &script, annotations(strict, explain, number, moves)),
+        Options::Run {
+            script,
+            strict,
+            explain,
+            history_to: Some(name),
+            ..
+        } => run_to(rt, &script, Style { strict, explain }, name.as_str()),
         Options::History {
             script,
             strict,

@@ -142,6 +142,7 @@ fn options_in(alloc: Global, words: &[&str]) -> Result<Option<ScriptOptions>, Ru
                 explain: false,
                 number: false,
                 moves: false,
+                history_to: None,
             },
         ) => {
             if script.file.is_some() {

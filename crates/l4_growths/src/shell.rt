@@ -3,6 +3,7 @@
 use crate::stop;
 use l4_ipc::PageSize;
 use l4_options::{OptionFault, Options, StepOptions, options, step_options};
+use l4_record::NoSegments;
 use l4_shell::{RunFault, run};
 use l4_sinks::Teller;
 use std::io;
@@ -21,6 +22,7 @@ fn run_once<R: AllocGlobal + Print>(rt: &R) -> io::Result<bool> {
         PageSize::Kib4,
         &mut script,
         &mut Teller::new(io::writer(rt), false, None),
+        &mut NoSegments,
     ) {
         Ok(lines) => {
             println!(rt; "done script {lines} left {}\n.", script.len())?;

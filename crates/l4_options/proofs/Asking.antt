@@ -124,7 +124,7 @@ frames_fit : (found : List Row) (n : ℕ) → AreFramesIn found n → IsFrameCou
 frames_fit found n e = framed (first_of _ found) n e
 
 asks_in_range : (name : Text) (found : List Row) (o : Options) → Asks name found o → IsInRange o
-asks_in_range name found (Run script strict explain number moves) asks = frames_fit found script.frames asks.1.frames
+asks_in_range name found (Run script strict explain number moves history_to) asks = frames_fit found script.frames asks.1.frames
 asks_in_range name found (History script strict answers) asks = frames_fit found script.frames asks.1.frames
 asks_in_range name found (Judge list all) asks = frames_fit found list.frames asks.1.frames
 asks_in_range name found (Why script strict thread page) asks = frames_fit found script.frames asks.1.frames
@@ -136,7 +136,7 @@ asks_in_range name found (Test files tap write) asks = tt
 asks_in_range name found (Show text) asks = tt
 
 text_in_range : (o : Options) → IsText o → IsInRange o
-text_in_range (Run script strict explain number moves) text = absurd text
+text_in_range (Run script strict explain number moves history_to) text = absurd text
 text_in_range (History script strict answers) text = absurd text
 text_in_range (Judge list all) text = absurd text
 text_in_range (Why script strict thread page) text = absurd text

@@ -1,11 +1,11 @@
 -- The commands of the programs, as clap reads them, and what the words of a command line ask for (this profile's own).
-use Rattle.std.specs.Prelude.{◌≡◌, ◌⊎◌, ◌&&◌, List, [], ◌∷◌, length, map, codes, Some, true, false}
+use Rattle.std.specs.Prelude.{◌≡◌, ◌⊎◌, ◌&&◌, List, [], ◌∷◌, length, map, codes, Some, is_some, option_map, true, false}
 use Rattle.std.specs.String.{string_bytes}
 use Rattle.clap.specs.Faults.{fault_of}
 use Rattle.clap.specs.Kinds.{IsAmong, Kinds}
 use Rattle.clap.specs.Lexer.{usize_max}
 use Rattle.clap.specs.Simple.{App, Shape, new_rule, new_shape, matches_of, subcommand_of}
-use Rattle.clap.specs.Walk.{Row, Rule, Text}
+use Rattle.clap.specs.Walk.{Row, Rule, Text, first_of}
 use Rattle.clap.specs.declared.builder.action.ArgAction.TheVariants.{Set, Append, SetTrue}
 use Rattle.clap.specs.declared.error.kind.ErrorKind.TheVariants.{DisplayHelp, DisplayVersion}
 use Rattle.l4_options.specs.Spelled.{AreEncodedIn, AreFilesIn, AreFramesIn, AreNumbersIn, IsNumberAt, IsReadingIn, IsRegionIn, IsScriptIn, IsSizeIn, is_on}
@@ -47,7 +47,8 @@ script_rules rules = word (codes "file") ∷ option (codes "frames") ∷ option 
 
 abbrev pub run_command : Shape
 run_command = command (codes "run") (
-    script_rules (switch (codes "strict") ∷ switch (codes "explain") ∷ switch (codes "number") ∷ switch (codes "moves") ∷ []))
+    script_rules (switch (codes "strict") ∷ switch (codes "explain") ∷ switch (codes "number") ∷ switch (codes "moves")
+    ∷ option (codes "history-to") ∷ []))
 
 abbrev pub history_command : Shape
 history_command = command (codes "history") (script_rules (switch (codes "strict") ∷ switch (codes "answers") ∷ []))
@@ -94,9 +95,11 @@ l4_steps_program = record {
 
 -- the command of this name asks for this, with what was found behind it
 abbrev pub Asks : Text → List Row → Options → Type 0
-Asks name found (Run script strict explain number moves) =
+Asks name found (Run script strict explain number moves history_to) =
     (name ≡ codes "run") × IsScriptIn found script × (strict ≡ is_on found (codes "strict")) × (explain ≡ is_on found (codes "explain"))
     × (number ≡ is_on found (codes "number")) × (moves ≡ is_on found (codes "moves"))
+    × (option_map string_bytes history_to ≡ first_of (codes "history-to") found)
+    × (number && is_some history_to ≡ false) × (moves && is_some history_to ≡ false)
 Asks name found (History script strict answers) =
     (name ≡ codes "history") × IsScriptIn found script × (strict ≡ is_on found (codes "strict")) × (answers ≡ is_on found (codes "answers"))
 Asks name found (Judge list all) = (name ≡ codes "judge") × IsScriptIn found list × (all ≡ is_on found (codes "all"))

@@ -12,7 +12,7 @@ IsFrameCount n = (1 ≤ n) × (n ≤ max_frames)
 
 -- the number of frames that the command line of l4 asks for is one that a machine can have
 abbrev pub IsInRange : Options → Type 0
-IsInRange (Run script strict explain number moves) = IsFrameCount script.frames
+IsInRange (Run script strict explain number moves history_to) = IsFrameCount script.frames
 IsInRange (History script strict answers) = IsFrameCount script.frames
 IsInRange (Judge list all) = IsFrameCount list.frames
 IsInRange (Why script strict thread page) = IsFrameCount script.frames

@@ -12,10 +12,10 @@ use crate::help::{ABOUT, CHECK, DECODE, HISTORY, JUDGE, PLAN, SCRIPT, WHY};
 use crate::requests::{OptionFault, Options};
 use crate::testing::{of_files, test_options};
 use crate::values::{
-    all_option, answers_option, explain_option, file_argument, frames_option, help_text, is_on,
-    is_strict, is_word, moves_option, number_of, number_option, reading_of, reading_option,
-    region_of, script_of, size_of, size_option, strict_option, without_hyphens, words_argument,
-    words_of,
+    all_option, answers_option, explain_option, file_argument, frames_option, help_text,
+    history_option, is_on, is_strict, is_word, moves_option, name_of, number_of, number_option,
+    reading_of, reading_option, region_of, script_of, size_of, size_option, strict_option,
+    without_hyphens, words_argument, words_of,
 };
 use clap::error::ErrorKind;
 use clap::{Arg, ArgAction, ArgMatches, Command, Error};
@@ -104,7 +104,8 @@ fn of_script<'a>(alloc: Global) -> Result<Command<'a>, AllocError>
         .arg(strict_option(alloc))?
         .arg(explain_option(alloc))?
         .arg(number_option(alloc))?
-        .arg(moves_option(alloc))
+        .arg(moves_option(alloc))?
+        .arg(history_option(alloc))
 }
 
 /// The command `history`.
@@ -213,16 +214,24 @@ fn without_matches<'a, S: AsStr>(
 fn run_options(alloc: Global, matches: &ArgMatches<'_>) -> Result<Options, OptionFault>
     ensures { IfOk result (Asks (codes "run") (found_in matches.now)) }
 {
-    match script_of(alloc, matches) {
-        Ok(script) => Ok(Options::Run {
-            script,
-            strict: is_strict(matches),
-            explain: is_on(matches, "explain"),
-            number: is_on(matches, "number"),
-            moves: is_on(matches, "moves"),
-        }),
-        Err(fault) => Err(fault),
+    let script = script_of(alloc, matches)?;
+    let history_to = name_of(alloc, matches, "history-to")?;
+    let number = is_on(matches, "number");
+    let moves = is_on(matches, "moves");
+    if number && history_to.is_some() {
+        return Err(OptionFault::Exclude("--number", "--history-to"));
     }
+    if moves && history_to.is_some() {
+        return Err(OptionFault::Exclude("--moves", "--history-to"));
+    }
+    Ok(Options::Run {
+        script,
+        strict: is_strict(matches),
+        explain: is_on(matches, "explain"),
+        number,
+        moves,
+        history_to,
+    })
 }
 
 /// What the matches of `history` ask for.
@@ -363,7 +372,7 @@ fn requested<'a, S: AsStr>(alloc: Global, words: &'a [S]) -> Result<Options, Opt
 }
 
 /// Reads the words of the command line, the program's name first:
-/// `l4 run [FILE] [--frames N] [--strict] [--explain] [--number] [--moves]`, `l4 history [FILE] [--frames N] [--strict] [--answers]`,
+/// `l4 run [FILE] [--frames N] [--strict] [--explain] [--number] [--moves] [--history-to SEGMENTS]`, `l4 history [FILE] [--frames N] [--strict] [--answers]`,
 /// `l4 judge [FILE] [--frames N] [--all]`, `l4 why THREAD PAGE [FILE] [--frames N] [--strict]`, `l4 plan SOURCE TARGET COUNT RIGHTS`, `l4 check` with the same words, `l4 decode [--as READING] WORD..`, `l4 encode [--as KIND] TOKEN..`, `l4 test FILE.. [--tap] [--write]`, each with
 /// `--page-size BYTES` where that is wanted, `--help`, `help` or `--version`. N is 256 and BYTES 4096 where they are left out; READING is
 /// message, fpage, window or id.

@@ -353,6 +353,12 @@ of its code. With --number, 'L: ' stands before each answer to line L. With
 
 Lines that begin with '# ' have no number. All of these options can be combined.
 
+With --history-to, the history is written to SEGMENTS, which must be a new file,
+while the script runs: after each line that leaves 100,000 steps or more, and at
+the end. The program then keeps no more steps than these in memory, and no line is
+refused with L1. If a write to the file fails, the run ends there. --history-to
+can be combined with --strict and --explain.
+
 These are the codes. Some carry a number; ITEM, WORD and PLACE count from 0.
 l4 plan, l4 check, l4 decode and l4_steps print these codes too:
 
@@ -412,8 +418,9 @@ l4 plan, l4 check, l4 decode and l4_steps print these codes too:
 
 Exit status: 0 at the end of the script, 1 if a refused line ended it (with
 --strict), 2 if the command line is invalid or FILE cannot be opened, 3 if a read
-or a write failed, 4 if there is not enough memory. With --moves, 4 also if a step
-gets another answer when it is executed again, because memory ran out.
+or a write failed, or if SEGMENTS exists, 4 if there is not enough memory. With
+--moves, 4 also if a step gets another answer when it is executed again, because
+memory ran out.
 
 docs/profile.md of the source lists how this kernel differs from the L4 X.2
 manual.";

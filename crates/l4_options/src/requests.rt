@@ -19,13 +19,15 @@ pub struct ScriptOptions {
 #[derive(Debug, Drop)]
 pub enum Options {
     /// Answers a script: up to its first refused line if `strict`, with an explanation of each answer if `explain`, with the number of its
-    /// line before each answer if `number`, and with the pages that each transfer moved if `moves`.
+    /// line before each answer if `number`, and with the pages that each transfer moved if `moves`. Writes the history to the file
+    /// `history_to` while the script runs; then neither `number` nor `moves` is set.
     Run {
         script: ScriptOptions,
         strict: bool,
         explain: bool,
         number: bool,
         moves: bool,
+        history_to: Option<String>,
     },
     /// Writes the history of a script, up to its first refused line if `strict`, with the answers to each step if `answers`.
     History {

@@ -96,6 +96,17 @@ pub(crate) fn moves_option<'a>(alloc: Global) -> Arg<'a>
         .action(ArgAction::SetTrue)
 }
 
+/// The option `--history-to`.
+pub(crate) fn history_option<'a>(alloc: Global) -> Arg<'a>
+    ensures { IsRule (option (codes "history-to")) result }
+{
+    Arg::new(alloc, "history-to")
+        .long("history-to")
+        .value_name("SEGMENTS")
+        .help("Write the history to this new file while the script runs")
+        .action(ArgAction::Set)
+}
+
 /// The option `--answers`.
 pub(crate) fn answers_option<'a>(alloc: Global) -> Arg<'a>
     ensures { IsRule (switch (codes "answers")) result }
@@ -338,6 +349,24 @@ pub(crate) fn texts_of<'m, 'a>(matches: &'m ArgMatches<'a>, id: &str) -> Option<
     matches.get_strs(id)
 }
 
+/// A copy of the word of an argument, if there is one.
+pub(crate) fn name_of(
+    alloc: Global,
+    matches: &ArgMatches<'_>,
+    id: &str,
+) -> Result<Option<String>, OptionFault>
+    ensures { IfOk result
+        (λ name. option_map string_bytes name ≡ first_of id.now (found_in matches.now)) }
+{
+    let Some(word) = text_of(matches, id) else {
+        return Ok(None);
+    };
+    match String::from_str(alloc, word) {
+        Ok(name) => Ok(Some(name)),
+        Err(_) => Err(OptionFault::Memory),
+    }
+}
+
 /// Whether a switch is on.
 pub(crate) fn is_on(matches: &ArgMatches<'_>, id: &str) -> bool
     ensures { result ≡ is_on (found_in matches.now) id.now }
@@ -438,21 +467,8 @@ pub(crate) fn script_of(
 {
     let frames = frames_of(alloc, matches)?;
     let size = size_of(alloc, matches)?;
-    let Some(name) = text_of(matches, "file") else {
-        return Ok(ScriptOptions {
-            frames,
-            size,
-            file: None,
-        });
-    };
-    match String::from_str(alloc, name) {
-        Ok(name) => Ok(ScriptOptions {
-            frames,
-            size,
-            file: Some(name),
-        }),
-        Err(_) => Err(OptionFault::Memory),
-    }
+    let file = name_of(alloc, matches, "file")?;
+    Ok(ScriptOptions { frames, size, file })
 }
 
 /// The fault of a word to explain that is not a number.

@@ -1,6 +1,8 @@
 -- The results of scripts (this profile's own).
-use Rattle.std.specs.Prelude.{◌⊎◌, ℕ, Bool, true, false, List, [], Some, Ok, codes}
+use Rattle.std.specs.Prelude.{◌≡◌, ◌⊎◌, ℕ, Bool, true, false, List, [], Some, Ok, codes}
 use Rattle.l4_fpage.specs.declared.sizes.PageSize.{PageSize}
+use Rattle.l4_record.specs.declared.segments.NoSegments.{NoSegments}
+use Rattle.l4_record.specs.declared.segments.Segment.{Segment}
 use Rattle.l4_sinks.specs.Scripts.{RunsScript}
 use Rattle.l4_sinks.specs.declared.scripts.Ended.{Ended}
 use Rattle.l4_history.specs.Histories.{HasText}
@@ -13,11 +15,19 @@ use Rattle.l4_history.specs.declared.asking.Presence.TheVariants.{Present, Absen
 use Rattle.l4_page.specs.declared.telling.Told.{Told as Answer}
 use Rattle.l4_page.specs.Told.{IsTold, TellsNothing}
 
+-- a run whose history stays with the kernel
+abbrev pub keeps_none : NoSegments → NoSegments → List Segment → Type 0
+keeps_none first now segments = segments ≡ []
+
+abbrev pub none : NoSegments
+none = record {}
+
 -- THE RESULT OF A RUN that is not strict: the text of the answers to all lines of the script, explained or not, and the number of lines;
 -- or memory ran out
 abbrev pub TellsAnswers : ℕ → PageSize → Bool → List ℕ → List ℕ → List ℕ → Answer → Type 0
 TellsAnswers frames size explain script old new told =
-    ((rest : List ℕ) × (text : List ℕ) × (ended : Ended) × RunsScript frames size false explain (Some script) (Some rest) (Some []) (Some text) (Ok ended)
+    ((rest : List ℕ) × (text : List ℕ) × (ended : Ended)
+    × RunsScript false frames size false explain (Some script) (Some rest) (Some []) (Some text) keeps_none none none (Ok ended)
     × IsTold text true ended.lines old new told)
     ⊎ TellsNothing (codes "NoMemory") old new told
 

@@ -8,7 +8,8 @@ use crate::given::machine_of;
 use crate::telling::{NO_MEMORY, Told, refused, tell};
 use l4_fpage::PageSize;
 use l4_history::{Annotations, annotated_script, answered_history, history};
-use l4_sinks::{Style, answer_script};
+use l4_record::NoSegments;
+use l4_sinks::{Outputs, Style, answer_script};
 use std::alloc::Global;
 
 /// Runs a script on a machine with this number of frames, and writes its answers, explained if `explain` is true.
@@ -28,9 +29,13 @@ fn answered(
         strict: false,
         explain,
     };
-    let (text, ran) = answer_script(alloc, frames, size, style, &mut rest, Vec::new(alloc));
+    let outputs = Outputs {
+        answers: Vec::new(alloc),
+        segments: NoSegments,
+    };
+    let (outputs, ran) = answer_script(alloc, frames, size, style, &mut rest, outputs);
     match ran {
-        Ok(ended) => tell(text.as_slice(), true, ended.lines, out),
+        Ok(ended) => tell(outputs.answers.as_slice(), true, ended.lines, out),
         Err(_) => refused(NO_MEMORY),
     }
 }

@@ -1,5 +1,5 @@
 -- A call that was entered, and what it appended to the history (this profile's own).
-use Rattle.std.specs.Prelude.{◌≡◌, ℕ, ◌∷◌, ◌++◌, length, map, Ok}
+use Rattle.std.specs.Prelude.{◌≡◌, ℕ, ◌≤◌, ◌∷◌, ◌++◌, length, map, Ok}
 use Rattle.l4_ipc.specs.declared.calls.Call.{Call}
 use Rattle.l4_ipc.specs.declared.steps.Step.TheVariants.{Start}
 use Rattle.l4_ipc.specs.Machine.{Machine}
@@ -7,15 +7,18 @@ use Rattle.l4_ipc.specs.Steps.{Steps, IsIdle}
 use Rattle.l4_record.specs.declared.appended.Appended.{Appended}
 use Rattle.l4_record.specs.Following.{Lasts, ComeNext, start_entry, next_entry}
 use Rattle.l4_record.specs.Seated.{Seated, CanEnter}
+use Rattle.l4_record.specs.Segments.{kept_count}
+use Rattle.l4_record.specs.Sizes.{max_steps}
 
--- The call was entered. Its start, and the next steps until no step is enabled, were appended to the history. The replies of all calls that
--- ended in these steps can still be read.
+-- The call was entered. Its start, and the next steps until no step is enabled, at most 128, were appended to the history. The replies of
+-- all calls that ended in these steps can still be read.
 pub record Enters (old new : Seated) (n : ℕ) (call : Call) (appended : Appended) : Type 0 where
-  pub can : CanEnter (length old.history) old.numbers n
+  pub can : CanEnter (kept_count old.kept_from old.history) old.numbers n
   pub started : Machine
   pub starts : Steps old.machine (Start n call) (Ok appended.start) started
   pub lasts : Lasts new.machine started appended.start
   pub next : ComeNext started appended.next.items new.machine
+  pub few : length appended.next.items ≤ max_steps
   pub idle : IsIdle new.machine
   pub history : new.history ≡ old.history ++ start_entry n call appended.start ∷ map (next_entry n) appended.next.items
-  pub same : (new.numbers ≡ old.numbers) × (new.seen ≡ old.seen)
+  pub same : (new.numbers ≡ old.numbers) × (new.seen ≡ old.seen) × (new.kept_from ≡ old.kept_from)

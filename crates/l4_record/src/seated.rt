@@ -1,10 +1,12 @@
 //! The kernel of a script: a recorded kernel, and the numbers of the threads that may enter calls.
-ghost use Rattle.std.specs.Prelude.{◌≡◌, ◌≤◌, ◌↔◌, false, IsTrue, IfOk, IfErr, MatchResult, length};
+ghost use Rattle.std.specs.Prelude.{◌≡◌, ◌≤◌, ◌<◌, ◌↔◌, false, IsTrue, IfOk, IfErr, IfSome, IfNone, MatchResult, length};
 ghost use Rattle.l4_record.specs.Recording.{RefusesBoot};
-ghost use Rattle.l4_record.specs.Seated.{is_among, IsNew, with_number, MayEnter, Refuses};
+ghost use Rattle.l4_record.specs.Seated.{is_among, IsNew, with_number, MayEnter, HandsOut, Refuses};
+ghost use Rattle.l4_record.specs.Segments.{kept, kept_count};
+ghost use Rattle.l4_record.specs.Sizes.{max_handed_out};
 ghost use Rattle.l4_record.specs.Entering.{Enters};
 
-use crate::{Appended, Board, History, RecordRefusal, Recorder, Watch};
+use crate::{Appended, Board, History, RecordRefusal, Recorder, Segment, Watch};
 use l4_ipc::{Call, Kernel, NoMemory, PageSize, Refused};
 use std::alloc::Global;
 use std::marker::Model;
@@ -29,9 +31,9 @@ impl Model for SeatedKernel {
 
     ghost coded = { seated_code thread.the_row.coded entry.the_row.coded };
 
-    ghost view = { λ a. seated a.recorder.kernel a.recorder.history a.numbers.items a.watch.seen };
+    ghost view = { λ a. seated a.recorder.kernel a.recorder.history a.numbers.items a.watch.seen a.recorder.kept_from };
 
-    ghost invariant = { λ a. (a.watch.board ≡ a.board) × (a.recorder.kept_from ≡ 0) };
+    ghost invariant = { λ a. a.watch.board ≡ a.board };
 }
 
 impl SeatedKernel {
@@ -61,9 +63,9 @@ impl SeatedKernel {
         self.recorder.kernel()
     }
 
-    /// Returns the history.
+    /// Returns the entries that are kept: those that were recorded since the last segment was handed out, or since boot.
     pub fn history(&self) -> &History
-        ensures { result.now.entries ≡ self.now.history }
+        ensures { result.now.entries ≡ kept self.now.kept_from self.now.history }
     {
         self.recorder.history()
     }
@@ -103,7 +105,8 @@ impl SeatedKernel {
     /// the thread runs.
     pub fn may_enter(&self, number: u32) -> bool
         ensures { IsTrue result
-            ↔ MayEnter self.now.machine (length self.now.history) self.now.numbers number }
+            ↔ MayEnter self.now.machine (kept_count self.now.kept_from self.now.history)
+            self.now.numbers number }
     {
         if !self.has_seat(number) {
             return false;
@@ -127,8 +130,8 @@ impl SeatedKernel {
     ) -> Result<(), RecordRefusal>
         ensures ok { IfOk result (λ _. Enters self.old self.new number call.now appended.new) }
         ensures err { IfErr result
-            (λ e. Refuses self.old.machine (length self.old.history) self.old.numbers number
-            call.now e × (self.new ≡ self.old)) }
+            (λ e. Refuses self.old.machine (kept_count self.old.kept_from self.old.history)
+            self.old.numbers number call.now e × (self.new ≡ self.old)) }
     {
         if !self.has_seat(number) {
             return Err(RecordRefusal::Kernel(Refused::UnknownThread));
@@ -150,9 +153,21 @@ impl SeatedKernel {
         board.look(watch)
     }
 
-    /// Returns the history.
+    /// Hands out the entries that are kept, as a segment. From then on, the kernel keeps the entries of later calls only. Their numbers
+    /// continue.
+    ///
+    /// Returns `None` if more than 2^63 entries were recorded since boot. Then nothing has changed.
+    pub fn hand_out(&mut self) -> Option<Segment>
+        ensures some { IfSome result (HandsOut self.old self.new) }
+        ensures none { IfNone result
+            ((max_handed_out < length self.old.history) × (self.new ≡ self.old)) }
+    {
+        self.recorder.hand_out()
+    }
+
+    /// Returns the entries that are kept.
     pub fn into_history(self) -> History
-        ensures { result.entries ≡ self.history }
+        ensures { result.entries ≡ kept self.kept_from self.history }
     {
         let SeatedKernel {
             recorder,

@@ -79,7 +79,8 @@ fn reads_a_plain_run(rt: HostRuntime) {
                 strict: false,
                 explain: false,
                 number: false,
-                moves: false
+                moves: false,
+                history_to: None
             })
         )
     );

@@ -1,4 +1,5 @@
 use l4_fpage::PageSize;
+use l4_record::NoSegments;
 use l4_shell::{RunFault, run};
 use l4_sinks::Teller;
 use l4_text::{Drip, Sip};
@@ -58,7 +59,8 @@ fn answers_a_script(rt: HostRuntime) -> Result<(), Fail> {
             256,
             PageSize::Kib4,
             &mut script,
-            &mut Teller::new(&mut written, false, None)
+            &mut Teller::new(&mut written, false, None),
+            &mut NoSegments
         ),
         Ok(4)
     );
@@ -77,7 +79,8 @@ fn answers_a_script_of_small_pages(rt: HostRuntime) -> Result<(), Fail> {
             256,
             PageSize::Kib1,
             &mut script,
-            &mut Teller::new(&mut written, false, None)
+            &mut Teller::new(&mut written, false, None),
+            &mut NoSegments
         ),
         Ok(4)
     );
@@ -102,6 +105,7 @@ fn a_failing_read_loses_no_answer(rt: HostRuntime) -> Result<(), Fail> {
             PageSize::Kib4,
             &mut reader,
             &mut Teller::new(&mut written, false, None),
+            &mut NoSegments,
         );
         assert_eq!(rt; result, Err(RunFault::Read), "at {calls}");
         let whole = newlines(SCRIPT.get(..calls).ok_or("no front")?);
@@ -126,7 +130,8 @@ fn a_cut_line_is_refused(rt: HostRuntime) -> Result<(), Fail> {
                 256,
                 PageSize::Kib4,
                 &mut reader,
-                &mut Teller::new(&mut written, false, None)
+                &mut Teller::new(&mut written, false, None),
+                &mut NoSegments
             ),
             Ok(count),
             "at {end}"
@@ -154,6 +159,7 @@ fn a_comment_without_end_gives_nothing(rt: HostRuntime) -> Result<(), Fail> {
             PageSize::Kib4,
             &mut reader,
             &mut Teller::new(&mut written, false, None),
+            &mut NoSegments,
         );
         assert_eq!(rt; result, Err(RunFault::Read), "after {calls}");
         assert!(rt; written.is_empty(), "after {calls}");
@@ -176,6 +182,7 @@ fn a_failing_write_leaves_a_beginning(rt: HostRuntime) -> Result<(), Fail> {
             PageSize::Kib4,
             &mut script,
             &mut Teller::new(&mut writer, false, None),
+            &mut NoSegments,
         );
         assert_eq!(rt; result, Err(RunFault::Write), "at {calls}");
         assert!(rt;

@@ -2,5 +2,6 @@ pub mod RoundTrip
 pub mod Fitting
 pub mod Bytes
 pub mod Same
+pub mod Kept
 pub mod Readers
 pub mod Departing

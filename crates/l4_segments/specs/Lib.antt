@@ -4,3 +4,4 @@ pub mod Files
 pub mod Inside
 pub mod Joining
 pub mod Saved
+pub mod Writing

@@ -10,6 +10,7 @@ mod laws;
 mod reading;
 mod saved;
 mod words;
+mod writing;
 
 pub use entries::{put_entry, read_entry};
 pub use faults::{FaultKind, FileFault};
@@ -19,3 +20,4 @@ pub use l4_record::{Entry, History, Segment};
 pub use laws::{files_determine_segments, written_entries_read_back};
 pub use reading::read_segment;
 pub use saved::SavedSegment;
+pub use writing::{KeepFault, SegmentWriter};

@@ -21,6 +21,7 @@ use Rattle.l4_record.specs.declared.appended.Appended.{Appended}
 use Rattle.l4_record.specs.declared.entries.Entry.{Entry}
 use Rattle.l4_record.specs.declared.refusals.RecordRefusal.{RecordRefusal}
 use Rattle.l4_record.specs.Following.{ComeNext, start_entry, next_entry}
+use Rattle.l4_record.specs.Segments.{kept_count}
 use Rattle.l4_record.specs.Seated.{Seated, is_among, IsNew, Refuses as RefusesCall, with_number}
 use Rattle.l4_record.specs.Entering.{Enters as EntersCall}
 use Rattle.l4_shell.specs.Inside.Entering.{Entered}
@@ -48,17 +49,19 @@ told_later now after (n ∷ ended) lasts =
 record Walked (m : Machine) (steps : List NextStep) (new : Machine) : Type 0 where
   pub done : List Done
   pub next : AreNext m done new
+  pub count : length done ≡ length steps
   pub entries : (n : ℕ) → map (next_entry n) steps ≡ map (done_entry n) done
   pub texts : flat_map (next_reports new) steps ≡ flat_map done_reports done
   pub ended : ended_later steps ≡ ended_in done
 
 walked : (m : Machine) (steps : List NextStep) (new : Machine) → ComeNext m steps new → Walked m steps new
-walked m [] new g = record { done = []; next = g; entries = λ n. refl; texts = refl; ended = refl }
+walked m [] new g = record { done = []; next = g; count = refl; entries = λ n. refl; texts = refl; ended = refl }
 walked m (s ∷ steps) new g =
     let w : Walked g.1.0 steps new = walked g.1.0 steps new g.1.3 in
     record {
       done = record { step = step_of s; answer = answer_of s; after = g.1.0 } ∷ w.done;
       next = (g.0, g.1.1, w.next);
+      count = ap (λ (k : ℕ). suc k) w.count;
       entries = λ n. ap (λ (l : List Entry). next_entry n s ∷ l) (w.entries n);
       texts = λ i. (own_report (step_of s) (answer_of s).outcome ++ told_later new g.1.0 (answer_of s).ended.items g.1.2 i) ++ w.texts i;
       ended = ap (λ (l : List ℕ). (answer_of s).ended.items ++ l) w.ended;
@@ -76,6 +79,7 @@ calls_on has_told old new caller call appended read thread ended before t e same
         starts = e.starts;
         steps = w.done;
         next = w.next;
+        few = (let l = w.count in let few = e.few in omega (arith, l, few));
         idle = e.idle;
         history = e.history ∙ ap (λ (l : List Entry). old.history ++ start_entry caller call appended.start ∷ l) (w.entries caller);
         same = e.same;
@@ -99,12 +103,12 @@ act_of old new later caller call e = record {
 }
 
 entered : (old new : Seated) (sv later : Servers) (caller : ℕ) (call : Call) → (e : Entered old new caller call) → IsEntered (session old sv) (act_of old new later caller call e)
-entered old new sv later caller call e = record { can = e.can; start_is = refl; starts = e.starts; next = e.next; idle = e.idle }
+entered old new sv later caller call e = record { can = e.can; start_is = refl; starts = e.starts; next = e.next; few = e.few; idle = e.idle }
 
 -- the session once a call was entered
 went : (old new : Seated) (sv later : Servers) (caller : ℕ) (call : Call) → (e : Entered old new caller call) → session new later ≡ after_act (session old sv) (act_of old new later caller call e)
 went old new sv later caller call e =
-    λ i. record { machine = new.machine; servers = later; history = e.history i; numbers = e.same.0 i; seen = e.same.1 i }
+    λ i. record { machine = new.machine; servers = later; history = e.history i; numbers = e.same.0 i; seen = e.same.1 i; kept_from = e.same.2 i }
 
 -- ACTS
 
@@ -201,7 +205,7 @@ acting_spent has_told old thread count m has before s all g = record {
 
 -- an act was refused
 pub acting_refused : {T : Type 0} (has_told : T → T → List Report → Type 0) (old : Session) (thread count : ℕ) (m new : Seated) (sv later : Servers) (has : Bool) (before s t : T) (server : ℕ) (call : Call) (refusal : RecordRefusal) (told : List Report) → count < 256 → Acting old thread count (session m sv) has has_told before s → ActsNext m.machine.threads sv server call later
-    → RefusesCall m.machine (length m.history) m.numbers server call refusal × (new ≡ m) → told ≡ RefusedAct server (call_refusal refusal) ∷ [] → AddsAll has_told s t told
+    → RefusesCall m.machine (kept_count m.kept_from m.history) m.numbers server call refusal × (new ≡ m) → told ≡ RefusedAct server (call_refusal refusal) ∷ [] → AddsAll has_told s t told
     → TellsActs old thread has (session new later) has_told before t
 acting_refused has_told old thread count m new sv later has before s t server call refusal told lt g acts refused is tells =
     record {
@@ -291,12 +295,12 @@ pub refuses_on : {T : Type 0} (has_told : T → T → List Report → Type 0) (o
     → (told : List Report) × Refuses (session old sv) line thread asked told (session new later) × AddsAll has_told before t told
 refuses_on has_told old new sv later line thread call asked before t is same r = (
   RefusedLine line (call_refusal r.refusal) ∷ [],
-  (r.refusal, subst (λ (c : Call). RefusesCall old.machine (length old.history) old.numbers thread c r.refusal) is r.refused, (refl, λ i. session (r.same i) (same i))),
+  (r.refusal, subst (λ (c : Call). RefusesCall old.machine (kept_count old.kept_from old.history) old.numbers thread c r.refusal) is r.refused, (refl, λ i. session (r.same i) (same i))),
   r.tells,
 )
 
 pub refusal_told : {T : Type 0} (has_told : T → T → List Report → Type 0) (old new : Seated) (line thread : ℕ) (call : Call) (refusal : RecordRefusal) (told : List Report) (before t : T)
-    → RefusesCall old.machine (length old.history) old.numbers thread call refusal × (new ≡ old) → told ≡ RefusedLine line (call_refusal refusal) ∷ [] → AddsAll has_told before t told
+    → RefusesCall old.machine (kept_count old.kept_from old.history) old.numbers thread call refusal × (new ≡ old) → told ≡ RefusedLine line (call_refusal refusal) ∷ [] → AddsAll has_told before t told
     → TellsRefusal old line thread call new has_told before t
 refusal_told has_told old new line thread call refusal told before t refused is tells =
     record { refusal = refusal; refused = refused.0; same = refused.1; tells = adds_is has_told before t _ _ is tells }
@@ -318,7 +322,7 @@ creates_not has_told old between sv line number call told before t lacks is tell
 pub first_seats : (frames : ℕ) (size : PageSize) (k k' last : Seated) → IsNew frames size k → k' ≡ record k { numbers = with_number k.numbers 1 } → last ≡ record k' { numbers = with_number k'.numbers 2 } → HasFirstSeats frames size last
 first_seats frames size k k' last new one two =
     subst (λ (x : Seated). HasFirstSeats frames size x) (sym two)
-    (subst (λ (x : Seated). HasFirstSeats frames size (record x { numbers = with_number x.numbers 2 })) (sym one) (new.0, new.1, ap (λ (l : List ℕ). with_number (with_number l 1) 2) new.2, new.3, new.4))
+    (subst (λ (x : Seated). HasFirstSeats frames size (record x { numbers = with_number x.numbers 2 })) (sym one) (new.0, new.1, ap (λ (l : List ℕ). with_number (with_number l 1) 2) new.2, new.3, new.4, new.5))
 
 or_false : (b : Bool) → (b || false) ≡ b
 or_false true = refl

@@ -7,3 +7,6 @@ pub mod Booted
 pub mod StraightLines
 pub mod SizesKept
 pub mod OneAnswer
+pub mod Lengthened
+pub mod HandingOut
+pub mod Room

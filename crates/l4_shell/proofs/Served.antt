@@ -1,5 +1,5 @@
 -- A thread is served, or a region is added, and that told.
-use Rattle.std.proofs.Common.{◌≡◌, ℕ, Bool, true, false, not, ◌⊎◌, List, [], ◌∷◌, length, Option, Some, None, Ok, inl, inr, refl, subst, sym, ap, ◌∙◌}
+use Rattle.std.proofs.Common.{◌≡◌, ℕ, Bool, true, false, not, ◌⊎◌, List, [], ◌∷◌, Option, Some, None, Ok, inl, inr, refl, subst, sym, ap, ◌∙◌}
 use Rattle.std.specs.Prelude.{IsTrue, MatchOption}
 use Rattle.std.specs.Option.{option_map, option_map_or}
 use Rattle.std.proofs.lemmas.Bool.{false≢true}
@@ -11,6 +11,7 @@ use Rattle.l4_ipc.specs.declared.steps.Answer.{Answer}
 use Rattle.l4_ipc.specs.Machine.{Machine}
 use Rattle.l4_ipc.specs.Steps.{Steps}
 use Rattle.l4_pager.specs.Serving.{waiting}
+use Rattle.l4_record.specs.Segments.{kept_count}
 use Rattle.l4_record.specs.Seated.{Seated, MayEnter}
 use Rattle.l4_ipc.specs.declared.steps.Refused.TheVariants.{UnknownThread}
 use Rattle.l4_pager.specs.Regions.{CanAdd}
@@ -33,7 +34,7 @@ pub has_run : (m new : Machine) (n : ℕ) (call : Call) (answer : Answer) → St
 has_run m new n call answer steps = ap (λ (o : Option Thread). option_map_or is_running (option_map (λ (x : Thread). x.state) o) false) steps.1 ∙ steps.2
 
 -- a call is refused where none may be entered
-refused_only : {T : Type 0} (has_told : T → T → List Report → Type 0) (o : Option Bool) (old new : Seated) (line thread : ℕ) (call : Call) (before t : T) → ¬ (MayEnter old.machine (length old.history) old.numbers thread)
+refused_only : {T : Type 0} (has_told : T → T → List Report → Type 0) (o : Option Bool) (old new : Seated) (line thread : ℕ) (call : Call) (before t : T) → ¬ (MayEnter old.machine (kept_count old.kept_from old.history) old.numbers thread)
     → MatchOption o (TellsRefusal old line thread call new has_told before t) (λ ended. TellsCall old thread call thread ended new has_told before t)
     → TellsRefusal old line thread call new has_told before t
 refused_only has_told None old new line thread call before t none h = h
@@ -41,7 +42,7 @@ refused_only has_told (Some ended) old new line thread call before t none h =
     let e = h.enters in absurd (none (e.can, has_run old.machine e.started thread call e.answer e.starts))
 
 pub refuses : {T : Type 0} (has_told : T → T → List Report → Type 0) (o : Option Bool) (old new : Seated) (sv : Servers) (line thread : ℕ) (call : Call) (may : Bool) (before t : T) → call ≡ waiting → may ≡ false
-    → (MayEnter old.machine (length old.history) old.numbers thread → IsTrue may)
+    → (MayEnter old.machine (kept_count old.kept_from old.history) old.numbers thread → IsTrue may)
     → MatchOption o (TellsRefusal old line thread call new has_told before t) (λ ended. TellsCall old thread call thread ended new has_told before t)
     → (told : List Report) × (Refuses (session old sv) line thread waiting told (session new sv) ⊎ LacksRoom (session old sv) line thread told (session new sv)) × AddsAll has_told before t told
 refuses has_told o old new sv line thread call may before t is none only h =
@@ -49,7 +50,7 @@ refuses has_told o old new sv line thread call may before t is none only h =
     (refused_only has_told o old new line thread call before t (λ m. false≢true (sym none ∙ only m)) h) in (r.0, inl r.1, r.2)
 
 pub lacks : {T : Type 0} (has_told : T → T → List Report → Type 0) (m : Seated) (sv : Servers) (line thread : ℕ) (told : List Report) (before t : T) → is_served sv thread ≡ false
-    → MayEnter m.machine (length m.history) m.numbers thread → told ≡ RefusedLine line lacks_memory ∷ [] → AddsAll has_told before t told
+    → MayEnter m.machine (kept_count m.kept_from m.history) m.numbers thread → told ≡ RefusedLine line lacks_memory ∷ [] → AddsAll has_told before t told
     → (told : List Report) × (Refuses (session m sv) line thread waiting told (session m sv) ⊎ LacksRoom (session m sv) line thread told (session m sv)) × AddsAll has_told before t told
 lacks has_told m sv line thread told before t first may is tells = (told, inr (record { first = first; may = may; lacks = (is, refl) }), tells)
 

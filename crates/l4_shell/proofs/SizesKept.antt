@@ -1,5 +1,5 @@
 -- No line changes the size of pages that a script goes by.
-use Rattle.std.proofs.Common.{◌≡◌, ℕ, ◌+◌, Bool, true, false, cond, List, [], ◌∷◌, length, Option, Some, None, Result, Ok, Err, inl, inr, ◌⊎◌, refl, sym, ap, subst, ◌∙◌}
+use Rattle.std.proofs.Common.{◌≡◌, ℕ, ◌+◌, Bool, true, false, cond, nat_lt, List, [], ◌∷◌, length, Option, Some, None, Result, Ok, Err, inl, inr, ◌⊎◌, refl, sym, ap, subst, ◌∙◌}
 use Rattle.std.specs.Prelude.{MatchOption}
 use Rattle.std.specs.Option.{unwrap_or}
 use Rattle.std.specs.Ordering.{nat_cmp, eq_by_cmp}
@@ -27,7 +27,7 @@ use Rattle.l4_commands.specs.Requests.{Unread, asked_of}
 use Rattle.l4_commands.specs.Calls.{root, delete_call}
 use Rattle.l4_record.specs.Seated.{with_number}
 use Rattle.l4_shell.specs.Refusals.{region_refusal}
-use Rattle.l4_shell.specs.Sessions.{Session, State, first_session, Act, IsEntered, after_act, AreActs, StopsActing, Follows, RefusesFor, Enters, RegionAdded, CarriesOut, AnswersLine, AnswersLines}
+use Rattle.l4_shell.specs.Sessions.{Session, State, first_session, Act, IsEntered, after_act, AreActs, StopsActing, Follows, RefusesFor, Enters, RegionAdded, CarriesOut, AnswersLine, kept_in, segment_entries, without_kept, between_lines, AnswersLines}
 use Rattle.l4_shell.specs.Sizes.{GoBy, HasSize}
 
 -- STEPS
@@ -167,10 +167,18 @@ line_size size old line (Ok None) told new a h = same_state_size size old new a.
 line_size size old line (Ok (Some request)) told new a h = carries_size size old.names old.session line request told new.session a.0 h
 line_size size old line (Err unread) told new a h = same_state_size size old new a.1 h
 
-pub lines_sized : (size : PageSize) (old : State) (number : ℕ) (lines : List TextLine) (told : List Report) (new : State) → AnswersLines old number lines told new → HasSize size old.session → HasSize size new.session
-lines_sized size old number [] told new a h = same_state_size size old new a.1 h
-lines_sized size old number (line ∷ lines) told new a h =
-    lines_sized size a.2 (number + 1) lines a.1 new a.4 (line_size size old number (asked_of old.session.machine.size old.names line) a.0 a.2 a.3 h)
+kept_size : (b c : Bool) (size : PageSize) (s : State) → HasSize size s.session → HasSize size (cond b (cond c s (without_kept s)) s).session
+kept_size false c size s h = h
+kept_size true true size s h = h
+kept_size true false size s h = record { machine = h.machine; servers = h.servers }
+
+pub lines_sized : (hands_out : Bool) (size : PageSize) (old : State) (number : ℕ) (lines : List TextLine) (told : List Report) (new : State)
+    → AnswersLines hands_out old number lines told new → HasSize size old.session → HasSize size new.session
+lines_sized hands_out size old number [] told new a h = same_state_size size old new a.1 h
+lines_sized hands_out size old number (line ∷ lines) told new a h =
+    let between : HasSize size a.2.session = line_size size old number (asked_of old.session.machine.size old.names line) a.0 a.2 a.3 h in
+    lines_sized hands_out size (between_lines hands_out a.2) (number + 1) lines a.1 new a.4
+    (kept_size hands_out (nat_lt (kept_in a.2.session) segment_entries) size a.2 between)
 
 pub first_sized : (frames : ℕ) (boot : Machine) → HasSize boot.size (first_session frames boot)
 first_sized frames boot = record {

@@ -1,5 +1,5 @@
 -- The history that a script leaves (this profile's own).
-use Rattle.std.specs.Prelude.{ℕ, ◌≡◌, ◌⊎◌, Bool, true, List, length, filter, Option, Result, Ok, Err}
+use Rattle.std.specs.Prelude.{ℕ, ◌≡◌, ◌⊎◌, Bool, true, false, List, length, filter, Option, Result, Ok, Err}
 use Rattle.std.specs.Io.KnownBytes.{IsAtEnd}
 use Rattle.l4_fpage.specs.declared.sizes.PageSize.{PageSize}
 use Rattle.l4_record.specs.declared.entries.Entry.{Entry}
@@ -11,7 +11,7 @@ use Rattle.l4_text.specs.declared.faults.RunFault.TheVariants.{Read, Write, Memo
 
 -- the first lines of a script were answered, this was reported of them, and this is the history after them
 pub record HasHistory {T : Type 0} (frames : ℕ) (size : PageSize) (old new : Option (List ℕ)) (has_told : T → T → List Report → Type 0) (closed : T → Bool) (before after : T) (history : List Entry) : Type 0 where
-  pub first : AnswersFirst frames size old new has_told closed before
+  pub first : AnswersFirst false frames size old new has_told closed before
   pub adds : AddsAll has_told before after first.told
   pub is_history : history ≡ first.is_answered.last.session.history
 

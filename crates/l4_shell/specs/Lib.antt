@@ -2,6 +2,7 @@ pub mod ByLines
 pub mod Delegations
 pub mod Histories
 pub mod Refusals
+pub mod Room
 pub mod Scripts
 pub mod Sessions
 pub mod Sizes

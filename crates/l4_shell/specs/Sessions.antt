@@ -1,5 +1,5 @@
 -- The answers to a line's call and to the steps that follow it, and to the lines of a script, as reports (this profile's own).
-use Rattle.std.specs.Prelude.{◌≡◌, ℕ, ◌+◌, ◌^◌, ◌<◌, ◌≤◌, ◌⊎◌, ◌↔◌, Bool, false, List, [], ◌∷◌, ◌++◌, length, map, Contains, Option, Some, None, is_some, Result, Ok, Err, MatchOption, if◌then◌else◌}
+use Rattle.std.specs.Prelude.{◌≡◌, ℕ, ◌+◌, ◌^◌, ◌<◌, ◌≤◌, ◌⊎◌, ◌↔◌, Bool, false, List, [], ◌∷◌, ◌++◌, length, nat_lt, map, Contains, Option, Some, None, is_some, Result, Ok, Err, MatchOption, if◌then◌else◌}
 use Rattle.std.specs.Option.{option_map_or}
 use Rattle.std.specs.List.{flat_map, AllPairs}
 use Rattle.l4_fpage.specs.Pages.{space_pages}
@@ -19,6 +19,8 @@ use Rattle.l4_ipc.specs.Steps.{Steps, IsIdle}
 use Rattle.l4_ipc.specs.Following.{Done, AreNext}
 use Rattle.l4_record.specs.declared.entries.Entry.{Entry as HistoryEntry}
 use Rattle.l4_record.specs.declared.refusals.RecordRefusal.{RecordRefusal}
+use Rattle.l4_record.specs.Segments.{kept_count}
+use Rattle.l4_record.specs.Sizes.{max_steps}
 use Rattle.l4_record.specs.Seated.{Seated, is_among, with_number, CanEnter, MayEnter, Refuses as RefusesCall}
 use Rattle.l4_commands.specs.declared.requests.Request.{Request}
 use Rattle.l4_commands.specs.declared.requests.Request.TheVariants.{Enter, CreateThread, EndThread, SendPlan, ListPages, TellParent, AddRegion, ServeThread, GiveName, TellReply, TellSteps}
@@ -65,23 +67,24 @@ waiting_reports thread ended = if ended then [] else (Waits thread ∷ [])
 
 -- SESSIONS
 
--- The state of a script: the kernel, the servers, the history, the numbers that have their seats, and the count that was reported last. An
--- entry of the history is the start of a call, or a step that followed one.
+-- The state of a script: the kernel, the servers, the history, the numbers that have their seats, the count that was reported last, and the
+-- number of the first entry of the history that is kept. An entry is the start of a call, or a step that followed one.
 pub record Session : Type 0 where
   pub machine : Machine
   pub servers : Servers
   pub history : List HistoryEntry
   pub numbers : List ℕ
   pub seen : ℕ
+  pub kept_from : ℕ
 
 -- the session with this kernel, its seats and these servers
 abbrev pub session : Seated → Servers → Session
 session kernel servers =
-    record { machine = kernel.machine; servers = servers; history = kernel.history; numbers = kernel.numbers; seen = kernel.seen }
+    record { machine = kernel.machine; servers = servers; history = kernel.history; numbers = kernel.numbers; seen = kernel.seen; kept_from = kernel.kept_from }
 
 -- at the start, sigma0 and root have their seats, and the servers use the page size of the machine
 abbrev pub first_session : ℕ → Machine → Session
-first_session frames boot = record { machine = boot; servers = no_servers boot.size frames; history = []; numbers = 1 ∷ 2 ∷ []; seen = 0 }
+first_session frames boot = record { machine = boot; servers = no_servers boot.size frames; history = []; numbers = 1 ∷ 2 ∷ []; seen = 0; kept_from = 0 }
 
 -- CALLS
 
@@ -94,12 +97,17 @@ pub record Act : Type 0 where
   pub steps : List Done
   pub after : Machine
 
--- the thread entered the call, and then the next step was executed until no step was enabled
+-- the number of entries that are kept
+abbrev pub kept_in : Session → ℕ
+kept_in s = kept_count s.kept_from s.history
+
+-- the thread entered the call, and then the next step was executed until no step was enabled, at most 128 times
 pub record IsEntered (old : Session) (act : Act) : Type 0 where
-  pub can : CanEnter (length old.history) old.numbers act.thread
+  pub can : CanEnter (kept_in old) old.numbers act.thread
   pub start_is : act.start.step ≡ Start act.thread act.call
   pub starts : Steps old.machine act.start.step (Ok act.start.answer) act.start.after
   pub next : AreNext act.start.after act.steps act.after
+  pub few : length act.steps ≤ max_steps
   pub idle : IsIdle act.after
 
 -- the entry of a step that belongs to a call of this thread
@@ -133,7 +141,7 @@ pub record RefusesAct (old : Session) (count : ℕ) (told : List Report) (new : 
   pub call : Call
   pub acts : ActsNext old.machine.threads old.servers thread call new.servers
   pub refusal : RecordRefusal
-  pub refused : RefusesCall old.machine (length old.history) old.numbers thread call refusal
+  pub refused : RefusesCall old.machine (kept_in old) old.numbers thread call refusal
   pub same : new ≡ record old { servers = new.servers }
   pub told_is : told ≡ RefusedAct thread (call_refusal refusal) ∷ []
 
@@ -169,7 +177,7 @@ RefusesFor Applies code old line told new = (reason : _) × Applies reason × Re
 
 -- the call of this line is refused
 abbrev pub Refuses : Session → ℕ → ℕ → Call → List Report → Session → Type 0
-Refuses old line thread call told new = RefusesFor (RefusesCall old.machine (length old.history) old.numbers thread call) call_refusal old line told new
+Refuses old line thread call told new = RefusesFor (RefusesCall old.machine (kept_in old) old.numbers thread call) call_refusal old line told new
 
 -- the call of this line is entered, and the servers are these from then on; or it is refused
 abbrev pub Enters : Session → ℕ → ℕ → Call → Servers → List Report → Session → Type 0
@@ -188,7 +196,7 @@ Creates old line number call told new =
 -- this one.
 pub record LacksRoom (old : Session) (line thread : ℕ) (told : List Report) (new : Session) : Type 0 where
   pub first : is_served old.servers thread ≡ false
-  pub may : MayEnter old.machine (length old.history) old.numbers thread
+  pub may : MayEnter old.machine (kept_in old) old.numbers thread
   pub lacks : RefusesLine old line lacks_memory told new
 
 -- a thread receives from any thread, and is served from then on
@@ -319,17 +327,29 @@ AnswersLine old line (Ok (Some request)) told new = CarriesOut old.names old.ses
 AnswersLine old line (Err unread) told new =
     (told ≡ UnreadLine old.session.machine.size old.names line (script_refusal unread.fault) unread.bytes ∷ []) × (new ≡ old)
 
--- the reports of lines, one after another, of which the first has this number
-abbrev pub AnswersLines : State → ℕ → List TextLine → List Report → State → Type 0
-AnswersLines old number [] told new = (told ≡ []) × (new ≡ old)
-AnswersLines old number (line ∷ lines) told new =
+-- the least number of kept entries that are handed out after a line
+abbrev pub segment_entries : ℕ
+segment_entries = 100000
+
+-- no entry is kept any more
+abbrev pub without_kept : State → State
+without_kept s = record s { session = record s.session { kept_from = length s.session.history } }
+
+-- the state in which the next line is answered: a script that hands out its history does so after each line that leaves enough entries
+abbrev pub between_lines : Bool → State → State
+between_lines hands_out s = if hands_out then (if nat_lt (kept_in s.session) segment_entries then s else without_kept s) else s
+
+-- The reports of lines, one after another, of which the first has this number. The history is handed out between the lines, or it never is.
+abbrev pub AnswersLines : Bool → State → ℕ → List TextLine → List Report → State → Type 0
+AnswersLines hands_out old number [] told new = (told ≡ []) × (new ≡ old)
+AnswersLines hands_out old number (line ∷ lines) told new =
     (first : List Report) × (rest : List Report) × (between : State) × AnswersLine old number (asked_of old.session.machine.size old.names line) first between
-    × AnswersLines between (number + 1) lines rest new × (told ≡ first ++ rest)
+    × AnswersLines hands_out (between_lines hands_out between) (number + 1) lines rest new × (told ≡ first ++ rest)
 
 -- THE ANSWERS TO A SCRIPT'S LINES, over a machine at boot with this number of frames of this size, and without servers or names
-pub record IsAnswered (frames : ℕ) (size : PageSize) (lines : List TextLine) (told : List Report) : Type 0 where
+pub record IsAnswered (hands_out : Bool) (frames : ℕ) (size : PageSize) (lines : List TextLine) (told : List Report) : Type 0 where
   pub boot : Machine
   pub boots : IsBoot frames boot
   pub sized : boot.size ≡ size
   pub last : State
-  pub answers : AnswersLines (first_state frames boot) 1 lines told last
+  pub answers : AnswersLines hands_out (first_state frames boot) 1 lines told last

@@ -1,5 +1,5 @@
 -- The page size that a script uses (this profile's own).
-use Rattle.std.specs.Prelude.{◌≡◌, ℕ, List}
+use Rattle.std.specs.Prelude.{◌≡◌, ℕ, Bool, List}
 use Rattle.l4_fpage.specs.declared.sizes.PageSize.{PageSize}
 use Rattle.l4_ipc.specs.Machine.{Machine}
 use Rattle.l4_servers.specs.Servers.{Servers, regions_of}
@@ -21,5 +21,5 @@ pub record HasSize (size : PageSize) (s : Session) : Type 0 where
 abbrev pub SizeStays : Type 0
 SizeStays =
     ((frames : ℕ) (boot : Machine) → HasSize boot.size (first_session frames boot))
-    × ((size : PageSize) (old : State) (number : ℕ) (lines : List TextLine) (told : List Report) (new : State)
-    → AnswersLines old number lines told new → HasSize size old.session → HasSize size new.session)
+    × ((hands_out : Bool) (size : PageSize) (old : State) (number : ℕ) (lines : List TextLine) (told : List Report) (new : State)
+    → AnswersLines hands_out old number lines told new → HasSize size old.session → HasSize size new.session)

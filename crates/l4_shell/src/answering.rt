@@ -9,6 +9,7 @@ ghost use Rattle.l4_commands.specs.declared.requests.Request.{Request};
 ghost use Rattle.l4_commands.specs.Commands.{command_of};
 ghost use Rattle.l4_text.specs.Grammar.{is_comment};
 ghost use Rattle.l4_commands.specs.Requests.{some_request, asked_at};
+ghost use Rattle.l4_record.specs.Segments.{kept};
 ghost use Rattle.l4_shell.specs.Sessions.{state, AnswersLine};
 
 use crate::refusals::script_code;
@@ -84,16 +85,17 @@ impl Script {
         }
     }
 
-    /// Returns the history of the lines that were answered.
+    /// Returns the entries of the history that are kept.
     pub(crate) fn history(&self) -> &History
-        ensures { result.now.entries ≡ self.now.session.kernel.history }
+        ensures { result.now.entries
+            ≡ kept self.now.session.kernel.kept_from self.now.session.kernel.history }
     {
         self.session.kernel.history()
     }
 
-    /// Returns the history.
+    /// Returns the entries of the history that are kept.
     pub(crate) fn into_history(self) -> History
-        ensures { result.entries ≡ self.session.kernel.history }
+        ensures { result.entries ≡ kept self.session.kernel.kept_from self.session.kernel.history }
     {
         let Script {
             session,

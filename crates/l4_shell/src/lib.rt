@@ -5,14 +5,16 @@ mod answering;
 mod by_lines;
 mod delegations;
 mod laws;
+mod line_by_line;
 mod recording;
 mod refusals;
 mod running;
+mod segments;
 mod serving;
 mod session;
 
 pub use by_lines::ScriptRun;
 pub use l4_text::RunFault;
-pub use laws::the_size_of_pages_stays;
+pub use laws::{the_history_never_fills_up, the_size_of_pages_stays};
 pub use recording::record;
 pub use running::run;

@@ -7,7 +7,7 @@ use crate::answering::Script;
 use crate::running::booted;
 use l4_answers::Sink;
 use l4_ipc::PageSize;
-use l4_record::History;
+use l4_record::{History, NoSegments};
 use l4_servers::Servers;
 use l4_text::RunFault;
 use std::alloc::Global;
@@ -33,6 +33,7 @@ pub fn record<R: Read, S: Sink>(
         return None;
     };
     let mut script = Script::new(kernel, Servers::new(alloc, frames, size));
-    let answered = script.answer_all(reader, sink);
+    let mut none = NoSegments;
+    let answered = script.answer_all(reader, sink, &mut none);
     Some((script.into_history(), answered))
 }

@@ -2,6 +2,7 @@
 ghost use Rattle.std.specs.Prelude.{◌≡◌, ◌⊎◌, ◌∷◌, List, [], false, MatchOption};
 ghost use Rattle.l4_answers.specs.Reports.{Report, AddsAll};
 ghost use Rattle.l4_shell.specs.Sessions.{session, Enters, Creates, ServesThread, AddsRegion, place_reports, ListsBelow, Shows, parent_answer, reply_answer, Delegates, TellsCount, CarriesOut, naming_report, names_after, Refuses, LacksRoom};
+ghost use Rattle.l4_record.specs.Segments.{kept};
 ghost use Rattle.l4_shell.specs.Inside.Telling.{TellsCall, TellsRefusal};
 ghost use Rattle.l4_pager.specs.Serving.{waiting};
 ghost use Rattle.l4_servers.specs.Servers.{Servers as AllServers, is_served, without};
@@ -154,9 +155,9 @@ impl Session {
         self.kernel.kernel().page_size()
     }
 
-    /// Returns the history.
+    /// Returns the entries of the history that are kept.
     pub(crate) fn into_history(self) -> History
-        ensures { result.entries ≡ self.kernel.history }
+        ensures { result.entries ≡ kept self.kernel.kept_from self.kernel.history }
     {
         let Session {
             kernel,

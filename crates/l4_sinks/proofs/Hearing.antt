@@ -78,7 +78,7 @@ stops_there s strict count told is on opened = elim opened [
 ]
 
 first_heard : (frames : ℕ) (size : PageSize) (strict : Bool) (old new : Option (List ℕ)) (s : Silent) → IsNewSilent s strict
-    → RunsFirst frames size old new HasHeard is_stopped s → AnswersFirst frames size strict old new
+    → RunsFirst false frames size old new HasHeard is_stopped s → AnswersFirst false frames size strict old new
 first_heard frames size strict old new s is a = record {
   read = a.read;
   «from» = a.from;

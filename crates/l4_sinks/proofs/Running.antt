@@ -1,14 +1,16 @@
 -- A run of a script to a teller.
 use Rattle.std.proofs.Common.{◌≡◌, ◌⊎◌, ℕ, Bool, true, false, cond, ◌||◌, List, [], ◌∷◌, ◌++◌, length, Option, Some, None, is_some, Result, Ok, Err, inl, inr, refl, sym, ap, subst, ◌∙◌}
 use Rattle.std.proofs.lemmas.Bool.{false≢true}
+use Rattle.std.proofs.lemmas.List.{append-nil}
 use Rattle.std.specs.Io.KnownBytes.{Appends}
 use Rattle.l4_fpage.specs.declared.sizes.PageSize.{PageSize}
 use Rattle.l4_text.specs.Streams.{WentOut, HasTold}
 use Rattle.l4_text.specs.declared.faults.RunFault.{RunFault}
 use Rattle.l4_text.specs.declared.faults.RunFault.TheVariants.{Read, Write, Memory}
 use Rattle.l4_text.proofs.Gone.{appends_same}
-use Rattle.l4_answers.specs.Reports.{Report, refused_line, has_refusal}
-use Rattle.l4_shell.specs.Scripts.{WasOpen, AnswersFirst as RunsFirst, Runs}
+use Rattle.l4_answers.specs.Reports.{Report, AddsAll, refused_line, has_refusal}
+use Rattle.l4_record.specs.declared.segments.Segment.{Segment}
+use Rattle.l4_shell.specs.Scripts.{WasOpen, AnswersFirst as RunsFirst, AddsOut, Runs}
 use Rattle.l4_shell.proofs.OneAnswer.{none_more}
 use Rattle.l4_sinks.specs.declared.scripts.Ended.{Ended}
 use Rattle.l4_sinks.specs.declared.teller.Teller.{Teller}
@@ -72,9 +74,9 @@ stops_at contents t count told fresh strict opened = elim opened [
       ]
 ]
 
-first_of : {W : Type 0} (contents : W → Option (List ℕ)) (frames : ℕ) (size : PageSize) (strict : Bool) (explains : Option PageSize) (old new : Option (List ℕ)) (t : Teller W) (writer : W) → IsNew t writer strict explains
-    → RunsFirst frames size old new (HasReported contents) is_over t → AnswersFirst frames size strict old new
-first_of contents frames size strict explains old new t writer is a = record {
+first_of : {W : Type 0} (contents : W → Option (List ℕ)) (hands_out : Bool) (frames : ℕ) (size : PageSize) (strict : Bool) (explains : Option PageSize) (old new : Option (List ℕ)) (t : Teller W) (writer : W) → IsNew t writer strict explains
+    → RunsFirst hands_out frames size old new (HasReported contents) is_over t → AnswersFirst hands_out frames size strict old new
+first_of contents hands_out frames size strict explains old new t writer is a = record {
   read = a.read;
   «from» = a.from;
   lines = a.lines;
@@ -111,61 +113,78 @@ is_begun {W = W} contents t sent writer strict explains told is h =
       subst (λ (w : W). WentOut (contents w) (contents sent.writer) out.0) is.writer_is (some_out (contents t.writer) (contents sent.writer) sent.out.0 sent.out.1 out.0 out.2),
     )
 
+-- a whole text is a beginning of it
+whole_begun : (explains : Option PageSize) (told : List Report) (written now : Option (List ℕ)) → IsWritten explains told written now → IsBegun explains told written now
+whole_begun explains told written now w = (w.0, w.1, record { front = w.0; rest = []; whole = sym (append-nil w.0); out = w.2 })
+
+-- a write failed, or a segment was lost once the text was written
+some_begun : {W : Type 0} (contents : W → Option (List ℕ)) (t sent : Teller W) (writer : W) (strict : Bool) (explains : Option PageSize) (told : List Report) → IsNew t writer strict explains
+    → AddsAll (HasReported contents) t sent told ⊎ AddsOut (HasReported contents) (HasWritten contents) t sent told → IsBegun explains told (contents writer) (contents sent.writer)
+some_begun contents t sent writer strict explains told is either = elim either [
+  | inl adds ↦ is_begun contents t sent writer strict explains told is (adds t [] (nothing_reported contents t writer strict explains is))
+  | inr out ↦
+      whole_begun explains told (contents writer) (contents sent.writer)
+      (is_written contents t sent writer strict explains told is (out t [] (nothing_reported contents t writer strict explains is)))
+]
+
 -- THE RUN
 
 over_is : (failed refused : Bool) → (failed || refused) ≡ true → failed ≡ false → refused ≡ true
 over_is true refused h fine = absurd (false≢true (sym fine))
 over_is false refused h fine = h
 
-ok_out : {W : Type 0} (contents : W → Option (List ℕ)) (frames : ℕ) (size : PageSize) (strict explain : Bool) (old new : Option (List ℕ)) (t sent : Teller W) (writer : W) (ended : Ended) (answered : Result ℕ RunFault)
+ok_out : {W K : Type 0} (contents : W → Option (List ℕ)) (hands_out : Bool) (has_kept : K → K → List Segment → Type 0) (had has : K) (frames : ℕ) (size : PageSize) (strict explain : Bool) (old new : Option (List ℕ)) (t sent : Teller W) (writer : W) (ended : Ended) (answered : Result ℕ RunFault)
     → IsNew t writer strict (explains_by explain size) → answered ≡ Ok ended.lines → ended.refused ≡ sent.refused
-    → Runs frames size old new (HasReported contents) (HasWritten contents) is_over t sent answered
-    → RunsScript frames size strict explain old new (contents writer) (contents sent.writer) (Ok ended)
+    → Runs hands_out frames size old new (HasReported contents) (HasWritten contents) is_over t sent has_kept had has answered
+    → RunsScript hands_out frames size strict explain old new (contents writer) (contents sent.writer) has_kept had has (Ok ended)
 unfolding first_of
-ok_out contents frames size strict explain old new t sent writer ended answered is ok same runs =
-    let r = subst (λ (x : Result ℕ RunFault). Runs frames size old new (HasReported contents) (HasWritten contents) is_over t sent x) ok runs in
+ok_out contents hands_out has_kept had has frames size strict explain old new t sent writer ended answered is ok same runs =
+    let r = subst (λ (x : Result ℕ RunFault). Runs hands_out frames size old new (HasReported contents) (HasWritten contents) is_over t sent has_kept had has x) ok runs in
     let h : HasWritten contents t sent r.0.told = r.2 t [] (nothing_reported contents t writer strict (explains_by explain size) is) in (
-      first_of contents frames size strict (explains_by explain size) old new t writer is r.0,
+      first_of contents hands_out frames size strict (explains_by explain size) old new t writer is r.0,
       is_written contents t sent writer strict (explains_by explain size) r.0.told is h,
       r.1,
       same ∙ h.0.refused ∙ ap (λ b. cond b (last_refusal None r.0.told) None) is.strict_is,
       elim r.3 [ inl whole ↦ inl whole | inr over ↦ inr (ap is_some same ∙ over_is sent.out.1 (is_some sent.refused) over h.2) ],
+      r.4,
     )
 
-err_out : {W : Type 0} (contents : W → Option (List ℕ)) (frames : ℕ) (size : PageSize) (strict explain : Bool) (old new : Option (List ℕ)) (t sent : Teller W) (writer : W) (answered : Result ℕ RunFault) (fault : RunFault)
+err_out : {W K : Type 0} (contents : W → Option (List ℕ)) (hands_out : Bool) (has_kept : K → K → List Segment → Type 0) (had has : K) (frames : ℕ) (size : PageSize) (strict explain : Bool) (old new : Option (List ℕ)) (t sent : Teller W) (writer : W) (answered : Result ℕ RunFault) (fault : RunFault)
     → IsNew t writer strict (explains_by explain size) → answered ≡ Err fault
-    → Runs frames size old new (HasReported contents) (HasWritten contents) is_over t sent answered
-    → RunsScript frames size strict explain old new (contents writer) (contents sent.writer) (Err fault)
+    → Runs hands_out frames size old new (HasReported contents) (HasWritten contents) is_over t sent has_kept had has answered
+    → RunsScript hands_out frames size strict explain old new (contents writer) (contents sent.writer) has_kept had has (Err fault)
 unfolding first_of
-err_out contents frames size strict explain old new t sent writer answered Read is err runs =
-    let r = subst (λ (x : Result ℕ RunFault). Runs frames size old new (HasReported contents) (HasWritten contents) is_over t sent x) err runs in
+err_out contents hands_out has_kept had has frames size strict explain old new t sent writer answered Read is err runs =
+    let r = subst (λ (x : Result ℕ RunFault). Runs hands_out frames size old new (HasReported contents) (HasWritten contents) is_over t sent has_kept had has x) err runs in
     let h : HasWritten contents t sent r.0.told = r.2 t [] (nothing_reported contents t writer strict (explains_by explain size) is) in (
-      first_of contents frames size strict (explains_by explain size) old new t writer is r.0,
+      first_of contents hands_out frames size strict (explains_by explain size) old new t writer is r.0,
       r.1,
       is_written contents t sent writer strict (explains_by explain size) r.0.told is h,
+      r.3,
     )
-err_out contents frames size strict explain old new t sent writer answered Write is err runs =
-    let r = subst (λ (x : Result ℕ RunFault). Runs frames size old new (HasReported contents) (HasWritten contents) is_over t sent x) err runs in (
-      first_of contents frames size strict (explains_by explain size) old new t writer is r.0,
-      is_begun contents t sent writer strict (explains_by explain size) r.0.told is (r.1 t [] (nothing_reported contents t writer strict (explains_by explain size) is)),
+err_out contents hands_out has_kept had has frames size strict explain old new t sent writer answered Write is err runs =
+    let r = subst (λ (x : Result ℕ RunFault). Runs hands_out frames size old new (HasReported contents) (HasWritten contents) is_over t sent has_kept had has x) err runs in (
+      first_of contents hands_out frames size strict (explains_by explain size) old new t writer is r.0,
+      some_begun contents t sent writer strict (explains_by explain size) r.0.told is r.1,
+      r.2,
     )
-err_out contents frames size strict explain old new t sent writer answered Memory is err runs =
-    let r = subst (λ (x : Result ℕ RunFault). Runs frames size old new (HasReported contents) (HasWritten contents) is_over t sent x) err runs in
-    (r.0, ap (λ x. contents x.writer) r.1 ∙ ap contents is.writer_is)
+err_out contents hands_out has_kept had has frames size strict explain old new t sent writer answered Memory is err runs =
+    let r = subst (λ (x : Result ℕ RunFault). Runs hands_out frames size old new (HasReported contents) (HasWritten contents) is_over t sent has_kept had has x) err runs in
+    (r.0, ap (λ x. contents x.writer) r.1 ∙ ap contents is.writer_is, r.2)
 
 -- the writer is handed back
-pub runs_ok : {W : Type 0} (contents : W → Option (List ℕ)) (frames : ℕ) (size : PageSize) (strict explain : Bool) (old new : Option (List ℕ)) (t sent : Teller W) (writer back : W) (ended : Ended) (answered : Result ℕ RunFault)
+pub runs_ok : {W K : Type 0} (contents : W → Option (List ℕ)) (hands_out : Bool) (has_kept : K → K → List Segment → Type 0) (had has : K) (frames : ℕ) (size : PageSize) (strict explain : Bool) (old new : Option (List ℕ)) (t sent : Teller W) (writer back : W) (ended : Ended) (answered : Result ℕ RunFault)
     → IsNew t writer strict (explains_by explain size) → answered ≡ Ok ended.lines → ended.refused ≡ sent.refused → back ≡ sent.writer
-    → Runs frames size old new (HasReported contents) (HasWritten contents) is_over t sent answered
-    → RunsScript frames size strict explain old new (contents writer) (contents back) (Ok ended)
-runs_ok {W = W} contents frames size strict explain old new t sent writer back ended answered is ok same given runs =
-    subst (λ (w : W). RunsScript frames size strict explain old new (contents writer) (contents w) (Ok ended)) (sym given)
-    (ok_out contents frames size strict explain old new t sent writer ended answered is ok same runs)
+    → Runs hands_out frames size old new (HasReported contents) (HasWritten contents) is_over t sent has_kept had has answered
+    → RunsScript hands_out frames size strict explain old new (contents writer) (contents back) has_kept had has (Ok ended)
+runs_ok {W = W} contents hands_out has_kept had has frames size strict explain old new t sent writer back ended answered is ok same given runs =
+    subst (λ (w : W). RunsScript hands_out frames size strict explain old new (contents writer) (contents w) has_kept had has (Ok ended)) (sym given)
+    (ok_out contents hands_out has_kept had has frames size strict explain old new t sent writer ended answered is ok same runs)
 
-pub runs_err : {W : Type 0} (contents : W → Option (List ℕ)) (frames : ℕ) (size : PageSize) (strict explain : Bool) (old new : Option (List ℕ)) (t sent : Teller W) (writer back : W) (answered : Result ℕ RunFault) (fault : RunFault)
+pub runs_err : {W K : Type 0} (contents : W → Option (List ℕ)) (hands_out : Bool) (has_kept : K → K → List Segment → Type 0) (had has : K) (frames : ℕ) (size : PageSize) (strict explain : Bool) (old new : Option (List ℕ)) (t sent : Teller W) (writer back : W) (answered : Result ℕ RunFault) (fault : RunFault)
     → IsNew t writer strict (explains_by explain size) → answered ≡ Err fault → back ≡ sent.writer
-    → Runs frames size old new (HasReported contents) (HasWritten contents) is_over t sent answered
-    → RunsScript frames size strict explain old new (contents writer) (contents back) (Err fault)
-runs_err {W = W} contents frames size strict explain old new t sent writer back answered fault is err given runs =
-    subst (λ (w : W). RunsScript frames size strict explain old new (contents writer) (contents w) (Err fault)) (sym given)
-    (err_out contents frames size strict explain old new t sent writer answered fault is err runs)
+    → Runs hands_out frames size old new (HasReported contents) (HasWritten contents) is_over t sent has_kept had has answered
+    → RunsScript hands_out frames size strict explain old new (contents writer) (contents back) has_kept had has (Err fault)
+runs_err {W = W} contents hands_out has_kept had has frames size strict explain old new t sent writer back answered fault is err given runs =
+    subst (λ (w : W). RunsScript hands_out frames size strict explain old new (contents writer) (contents w) has_kept had has (Err fault)) (sym given)
+    (err_out contents hands_out has_kept had has frames size strict explain old new t sent writer answered fault is err runs)

@@ -8,6 +8,6 @@ mod silent;
 mod stops;
 mod teller;
 
-pub use scripts::{Ended, Style, answer_script, record_script};
+pub use scripts::{Ended, Outputs, Style, answer_script, record_script};
 pub use stops::{Expected, Stop, stop_of};
 pub use teller::Teller;

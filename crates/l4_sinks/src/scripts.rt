@@ -7,7 +7,7 @@ use crate::silent::Silent;
 use crate::teller::Teller;
 use l4_fpage::PageSize;
 use l4_reasons::Reason;
-use l4_record::History;
+use l4_record::{History, SegmentSink};
 use l4_shell::{record, run};
 use l4_text::RunFault;
 use std::alloc::Global;
@@ -31,6 +31,15 @@ pub struct Ended {
     pub refused: Option<Reason>,
 }
 
+/// Where the answers and the history of a script go.
+#[derive(Drop)]
+pub struct Outputs<W, K> {
+    /// The writer of the answers.
+    pub answers: W,
+    /// The receiver of the history, which `NoSegments` leaves with the kernel.
+    pub segments: K,
+}
+
 fn explains_by(explain: bool, size: PageSize) -> Option<PageSize>
     ensures { result ≡ explains_by explain size }
 {
@@ -38,26 +47,32 @@ fn explains_by(explain: bool, size: PageSize) -> Option<PageSize>
 }
 
 /// Executes the script that the reader gives, line by line, on a new kernel with this many frames, 1 to 4,096, of this size, and writes the
-/// answers to each line in this style. Returns the writer, and how the script ended. Faults are those of `l4_shell::run`.
-pub fn answer_script<R: Read, W: Write>(
+/// answers to each line in this style. Hands out the history if a receiver takes segments. Returns the outputs, and how the script ended.
+/// Faults are those of `l4_shell::run`.
+pub fn answer_script<R: Read, W: Write, K: SegmentSink>(
     alloc: Global,
     frames: u32,
     size: PageSize,
     style: Style,
     reader: &mut R,
-    writer: W,
-) -> (W, Result<Ended, RunFault>)
+    outputs: Outputs<W, K>,
+) -> (Outputs<W, K>, Result<Ended, RunFault>)
     requires some { 1 ≤ frames }
     requires fit { frames ≤ max_frames }
-    ensures { RunsScript frames size style.strict style.explain (R.remaining reader.old) (R.remaining reader.new)
-        (W.contents writer) (W.contents result.0) result.1 }
+    ensures { RunsScript (K.takes outputs.segments) frames size style.strict style.explain
+        (R.remaining reader.old) (R.remaining reader.new)
+        (W.contents outputs.answers) (W.contents result.0.answers)
+        K.has_kept outputs.segments result.0.segments result.1 }
 {
-    let mut teller = Teller::new(writer, style.strict, explains_by(style.explain, size));
-    let answered = run(alloc, frames, size, reader, &mut teller);
-    let (writer, refused) = teller.into_parts();
+    let Outputs { answers, segments } = outputs;
+    let mut segments = segments;
+    let mut teller = Teller::new(answers, style.strict, explains_by(style.explain, size));
+    let answered = run(alloc, frames, size, reader, &mut teller, &mut segments);
+    let (answers, refused) = teller.into_parts();
+    let outputs = Outputs { answers, segments };
     match answered {
-        Ok(lines) => (writer, Ok(Ended { lines, refused })),
-        Err(fault) => (writer, Err(fault)),
+        Ok(lines) => (outputs, Ok(Ended { lines, refused })),
+        Err(fault) => (outputs, Err(fault)),
     }
 }
 

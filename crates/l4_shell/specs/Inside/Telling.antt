@@ -10,6 +10,7 @@ use Rattle.l4_ipc.specs.declared.steps.NextStep.{NextStep}
 use Rattle.l4_ipc.specs.NextSteps.{step_of, answer_of}
 use Rattle.l4_record.specs.declared.appended.Appended.{Appended}
 use Rattle.l4_record.specs.declared.refusals.RecordRefusal.{RecordRefusal}
+use Rattle.l4_record.specs.Segments.{kept_count}
 use Rattle.l4_record.specs.Seated.{Seated, is_among, Refuses as RefusesCall}
 use Rattle.l4_shell.specs.Inside.Entering.{Entered}
 use Rattle.l4_answers.specs.Reports.{Report, RefusedLine, AddsAll}
@@ -42,7 +43,7 @@ pub record TellsCall {T : Type 0} (old : Seated) (caller : ℕ) (call : Call) (t
 -- a call was refused, and that told
 pub record TellsRefusal {T : Type 0} (old : Seated) (line thread : ℕ) (call : Call) (new : Seated) (has_told : T → T → List Report → Type 0) (before after : T) : Type 0 where
   pub refusal : RecordRefusal
-  pub refused : RefusesCall old.machine (length old.history) old.numbers thread call refusal
+  pub refused : RefusesCall old.machine (kept_count old.kept_from old.history) old.numbers thread call refusal
   pub same : new ≡ old
   pub tells : AddsAll has_told before after (RefusedLine line (call_refusal refusal) ∷ [])
 

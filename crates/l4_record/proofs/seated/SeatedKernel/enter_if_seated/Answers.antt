@@ -8,4 +8,4 @@ returns-clause-ok c =
     let has : is_among c.args.number c.self.inside.numbers.items ≡ true =
     ap (λ (s : Seated). is_among c.args.number s.numbers) c.self.view_is ∙ (search rules) in
     ok_enters c.enter.result c.args.self.now c.self.inside.recorder c.enter.new.self c.self.inside.numbers.items c.self.inside.watch.seen c.args.number c.args.call.now c.enter.new.appended
-    has c.self.invariant.1 c.self.view_is c.enter.ensures.ok
+    has c.self.view_is c.enter.ensures.ok
