@@ -240,6 +240,37 @@ class Maker:
         yield from self.hand_on(giver, taker, words)
         yield self.any_unmap(self.random.choice([giver, taker]))
 
+    def plan_rows(self):
+        """Scatters pages around the borders of groups of 64 pages and of tables of 2,048, and passes on large ranges that have them. Later
+        ranges often land on pages of earlier ones. Giver and taker are often in one space, with source and target in one table."""
+        random = self.random
+        giver, taker = self.sharing() if random.random() < 0.4 else self.pair()
+        if giver == 1:
+            giver, taker = taker, giver
+        area = random.choice([0, 0, 1 << 12, self.pages - (1 << 12)])
+        spots = random.choice([range(60, 68), range(2040, 2056), [*range(60, 68), *range(2040, 2056), *range(4090, 4096)]])
+        source = self.page_of(1)
+        for _ in range(random.choice([1, 2])):
+            log = random.choice([0, 0, 1, 2])
+            begins = sorted({area + spot >> log << log for spot in spots})
+            chosen = random.sample(begins, min(len(begins), random.choice([2, 5, 8])))
+            words = [2 * len(chosen) << 6]
+            for begin in chosen:
+                words += self.one_range(random.choice([source, self.page_of(1)]), begin, log, random.choice([7, 7, 6, 5]))[1:]
+            yield from self.hand_on(1, giver, words)
+        for _ in range(random.choice([1, 2, 3])):
+            log = random.choice([2, 3, 5, 6, 7, 10, 11, 12])
+            begin = area + random.choice(list(spots)) >> log << log
+            onto = random.choice([begin, begin ^ 1 << log, area ^ 1 << 12, self.page()]) % self.pages
+            words = [2 << 6, *self.one_range(begin, onto, log, self.rights(), random.choice([8, 8, 10]))[1:]]
+            if random.random() < 0.4:
+                words[0] = 4 << 6
+                words += self.one_range(begin ^ 1 << log, onto ^ 1 << log, log, self.rights(), random.choice([8, 8, 10]))[1:]
+            yield from self.hand_on(giver, taker, words)
+            if random.random() < 0.3:
+                giver, taker = taker, giver
+        yield self.any_unmap(random.choice([giver, taker]))
+
     def one_range(self, source, target, log, rights, kind=8):
         """A message of one item of 2^log pages, of which the first has this page."""
         first = source >> log << log
@@ -284,7 +315,7 @@ class Maker:
 class StepMaker(Maker):
     """Makes lists of kernel steps."""
 
-    PLANS = {"chain": 2, "tree": 1, "grants": 2, "family": 3, "ranges": 2, "queue": 0.2, "fault": 1, "spaces": 1}
+    PLANS = {"chain": 2, "tree": 1, "grants": 2, "family": 3, "ranges": 2, "rows": 3, "queue": 0.2, "fault": 1, "spaces": 1}
 
     def any_line(self):
         random = self.random
@@ -429,7 +460,7 @@ class StepMaker(Maker):
 class ScriptMaker(Maker):
     """Makes scripts."""
 
-    PLANS = {"chain": 2, "tree": 1, "grants": 2, "family": 3, "ranges": 2, "queue": 0.2, "serve": 2, "pagers": 4, "regions": 0.3, "spaces": 1, "names": 0.1}
+    PLANS = {"chain": 2, "tree": 1, "grants": 2, "family": 3, "ranges": 2, "rows": 3, "queue": 0.2, "serve": 2, "pagers": 4, "regions": 0.3, "spaces": 1, "names": 0.1}
 
     def line(self):
         """Returns the next line, often with symbolic tokens in place of words and with names in place of threads."""
