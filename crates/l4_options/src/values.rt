@@ -1,6 +1,7 @@
 //! Values on a command line: numbers, rights, regions, words, and the options `--frames`, `--page-size` and `--as`.
 ghost use Rattle.std.specs.Prelude.{◌≡◌, ◌+◌, ◌*◌, ◌^◌, IfOk, codes, option_map, map, Some};
 ghost use Rattle.std.specs.Str.{bytes_eq};
+ghost use Rattle.std.specs.String.{string_bytes};
 ghost use Rattle.clap.specs.Walk.{all_of, first_of};
 ghost use Rattle.clap.specs.Values.{kind_of};
 ghost use Rattle.l4_text.specs.Numbers.{below, digit_of, value_from};
