@@ -1,6 +1,6 @@
 //! The result of comparing another kernel's answer, as C gets it.
 ghost use Rattle.std.specs.Prelude.{◌≡◌};
-ghost use Rattle.l4_c_values.specs.Judged.{verdict_of, place_of, expected_of, next_or_none, judge_result, unjudged_result};
+ghost use Rattle.l4_c_values.specs.Judged.{verdict_of, place_of, expected_of, judge_result, unjudged_result};
 
 use crate::results::{NextResult, no_step, step_told};
 use l4_step_lines::Judgement;
@@ -26,13 +26,8 @@ fn verdict_of(judgement: &Judgement) -> u32
 {
     match &judgement.difference {
         None => 1,
-        Some(difference) => {
-            if difference.expected.as_slice() == NOT_ENABLED {
-                3
-            } else {
-                2
-            }
-        }
+        Some(difference) if difference.expected.as_slice() == NOT_ENABLED => 3,
+        Some(_) => 2,
     }
 }
 
@@ -56,16 +51,6 @@ pub fn expected_of(judgement: &Judgement) -> &[u8]
     }
 }
 
-/// Returns the result for the step that is enabled, if there is one.
-fn next_told(judgement: &Judgement) -> NextResult
-    ensures { result ≡ next_or_none judgement.now.next }
-{
-    match &judgement.next {
-        None => no_step(0),
-        Some(step) => step_told(step),
-    }
-}
-
 /// Returns the result for an answer that was not compared.
 pub fn unjudged(refusal: u32) -> JudgeResult
     ensures { result ≡ unjudged_result refusal }
@@ -84,12 +69,16 @@ pub fn unjudged(refusal: u32) -> JudgeResult
 pub fn judge_told(judgement: &Judgement) -> JudgeResult
     ensures { result ≡ judge_result judgement.now }
 {
+    let enabled = match &judgement.next {
+        None => no_step(0),
+        Some(step) => step_told(step),
+    };
     JudgeResult {
         refusal: 0,
         verdict: verdict_of(judgement),
         place: place_of(judgement),
         length: expected_of(judgement).len() as u64,
-        enabled: next_told(judgement),
+        enabled,
         reserved: [0; 2],
     }
 }

@@ -20,8 +20,6 @@ pub struct KernelHandle {
 }
 
 impl Model for KernelHandle {
-    ghost use Rattle.std.specs.Prelude.{Option};
-    ghost use Rattle.l4_ipc.specs.Machine.{Machine};
     ghost use Rattle.l4_c_values.specs.Inside.Held.{held};
     ghost use Rattle.l4_ipc.specs.contracts.kernel.Kernel as kernel;
 
@@ -65,10 +63,8 @@ impl KernelHandle {
             (λ kernel. self.old.value ≡ Some kernel.value) }
         ensures empty { self.new.value ≡ None }
     {
-        match replace(self, KernelHandle::empty()).into_loose(alloc) {
-            Some(loose) => Some(loose.into_box()),
-            None => None,
-        }
+        let loose = replace(self, KernelHandle::empty()).into_loose(alloc)?;
+        Some(loose.into_box())
     }
 
     /// Puts a kernel into the handle, which must be empty.

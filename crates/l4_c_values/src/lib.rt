@@ -16,11 +16,9 @@ mod pagers;
 mod protocols;
 mod recorded;
 mod regions;
-mod replies;
 mod results;
 mod segments;
 mod sigma0s;
-mod sizes;
 
 pub use calls::{CallGiven, DELETE, delete, rights, write_call};
 pub use judgements::{JudgeResult, expected_of, judge_told, unjudged};
@@ -30,7 +28,7 @@ pub use links::{
     ChainResult, Link, chain_told, fault_detail, fault_number, link_given, link_told, no_chain,
 };
 pub use locks::LockHandle;
-pub use messages::{MessageResult, message_told, no_message, unread};
+pub use messages::{MessageResult, message_told, no_message, no_reply, reply_told, unread};
 pub use numbers::{
     BAD_FRAMES, EMPTY, HANDED_OUT, HELD, NO_MEMORY, NO_SUCH_CALL, NO_SUCH_SIZE, NO_SUCH_STEP,
     OTHER_ANSWER, OTHER_CHAIN, TOO_LONG, kernel_detail, kernel_number, message_detail,
@@ -42,8 +40,7 @@ pub use recorded::{
     EntryResult, ReceiptResult, SeatResult, SeatedResult, entered_told, entry_told, lock_detail,
     lock_number, mismatch_told, no_entry, no_receipt, no_seat, receipt_told, seat_told, unseated,
 };
-pub use regions::{RegionGiven, entry_of, region_of};
-pub use replies::{no_reply, reply_told};
+pub use regions::{RegionGiven, bytes_of, entry_of, region_of, size_of};
 pub use results::{
     EnterResult, MappingResult, NextResult, PageResult, ReplyResult, SizeResult, SpaceResult,
     StepResult, answered, done_told, no_page, no_step, padded, page_told, place_told, refused,
@@ -51,4 +48,3 @@ pub use results::{
 };
 pub use segments::SegmentHandle;
 pub use sigma0s::Sigma0Handle;
-pub use sizes::{bytes_of, size_of};

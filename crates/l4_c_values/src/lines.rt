@@ -35,22 +35,15 @@ fn ipc_given(given: &ReplyResult) -> IpcReply
 fn reply_given(given: &ReplyResult) -> Option<Reply>
     ensures { result ≡ reply_given given.now }
 {
-    if given.kind == 1 {
-        Some(Reply::Ipc(ipc_given(given)))
-    } else if given.kind == 2 {
-        Some(Reply::Hit)
-    } else if given.kind == 3 {
-        Some(Reply::Answered)
-    } else if given.kind == 4 {
-        Some(Reply::FaultFailed(given.error))
-    } else if given.kind == 5 {
-        Some(Reply::Unmapped)
-    } else if given.kind == 6 {
-        Some(Reply::Controlled)
-    } else if given.kind == 7 {
-        Some(Reply::Gone)
-    } else {
-        None
+    match given.kind {
+        1 => Some(Reply::Ipc(ipc_given(given))),
+        2 => Some(Reply::Hit),
+        3 => Some(Reply::Answered),
+        4 => Some(Reply::FaultFailed(given.error)),
+        5 => Some(Reply::Unmapped),
+        6 => Some(Reply::Controlled),
+        7 => Some(Reply::Gone),
+        _ => None,
     }
 }
 
@@ -148,14 +141,8 @@ fn add_message(line: &mut Line, reply: &Reply)
     requires { length line.old.items ≤ 80 }
     ensures { line.new.items ≡ line.old.items ++ words_text (reply_words (Some reply.now)) }
 {
-    match reply {
-        Reply::Ipc(reply) => add_words(line, reply.words.as_slice()),
-        Reply::Hit => {}
-        Reply::Answered => {}
-        Reply::FaultFailed(_) => {}
-        Reply::Unmapped => {}
-        Reply::Controlled => {}
-        Reply::Gone => {}
+    if let Reply::Ipc(reply) = reply {
+        add_words(line, reply.words.as_slice());
     }
 }
 
@@ -175,16 +162,12 @@ pub fn reply_line(number: u32, given: &ReplyResult) -> Line
 fn outcome_text(outcome: u32) -> &'static [u8]
     ensures { (result.now ≡ outcome_text outcome) × (length result.now ≤ 10) }
 {
-    if outcome == 2 {
-        b" done"
-    } else if outcome == 3 {
-        b" no-window"
-    } else if outcome == 4 {
-        b" entangled"
-    } else if outcome == 5 {
-        b" no-memory"
-    } else {
-        b""
+    match outcome {
+        2 => b" done",
+        3 => b" no-window",
+        4 => b" entangled",
+        5 => b" no-memory",
+        _ => b"",
     }
 }
 

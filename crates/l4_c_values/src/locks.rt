@@ -63,10 +63,8 @@ impl LockHandle {
             (λ lock. self.old.value ≡ Some lock.value) }
         ensures empty { self.new.value ≡ None }
     {
-        match replace(self, LockHandle::empty()).into_loose(alloc) {
-            Some(loose) => Some(loose.into_box()),
-            None => None,
-        }
+        let loose = replace(self, LockHandle::empty()).into_loose(alloc)?;
+        Some(loose.into_box())
     }
 
     /// Puts a locked kernel into the handle, which must be empty.

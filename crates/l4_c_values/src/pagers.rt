@@ -63,10 +63,8 @@ impl PagerHandle {
             (λ table. self.old.value ≡ Some table.value) }
         ensures empty { self.new.value ≡ None }
     {
-        match replace(self, PagerHandle::empty()).into_loose(alloc) {
-            Some(loose) => Some(loose.into_box()),
-            None => None,
-        }
+        let loose = replace(self, PagerHandle::empty()).into_loose(alloc)?;
+        Some(loose.into_box())
     }
 
     /// Puts a table into the handle, which must be empty.

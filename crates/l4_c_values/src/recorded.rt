@@ -4,8 +4,8 @@ ghost use Rattle.l4_ipc.specs.declared.calls.Call.TheVariants.{Control as Contro
 ghost use Rattle.l4_c_values.specs.Recorded.{lock_code, lock_carries, mismatch_code, mismatch_seat, unseated_result, entered_result, no_call, given_of, words_of, entry_with, no_entry_result, entry_result, no_receipt_result, receipt_result, no_seat_result, seat_result};
 
 use crate::calls::CallGiven;
+use crate::messages::{no_reply, reply_told};
 use crate::numbers::{NO_MEMORY, kernel_detail, kernel_number, outcome_number};
-use crate::replies::{no_reply, reply_told};
 use crate::results::{ReplyResult, padded};
 use l4_ipc::{Call, Control, IpcCall, MAX_THREADS, MAX_WORDS, Step};
 use l4_lock::{Entered, Entry, LockRefusal, Mismatch, Receipt, Seat};

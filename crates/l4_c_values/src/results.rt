@@ -1,8 +1,7 @@
 //! The results of calls, as C gets them.
 ghost use Rattle.std.specs.Prelude.{◌≡◌, ◌≤◌, [], length};
 ghost use Rattle.l4_ipc.specs.NextSteps.{step_of, answer_of};
-ghost use Rattle.l4_c_values.specs.Told.{no_page_result, page_result};
-ghost use Rattle.l4_c_values.specs.Told.{told_place, filled, outcome_number, refusal_result, answer_result, step_result, no_step_result, next_result, done_result};
+ghost use Rattle.l4_c_values.specs.Told.{told_place, filled, outcome_number, refusal_result, answer_result, step_result, no_step_result, next_result, done_result, no_page_result, page_result};
 
 use crate::numbers::{kernel_detail, kernel_number, outcome_number};
 use l4_ipc::{Answer, MAX_THREADS, MAX_WORDS, NextStep, Outcome, Refused, Step};

@@ -63,10 +63,8 @@ impl SegmentHandle {
             (λ segment. self.old.value ≡ Some segment.value) }
         ensures empty { self.new.value ≡ None }
     {
-        match replace(self, SegmentHandle::empty()).into_loose(alloc) {
-            Some(loose) => Some(loose.into_box()),
-            None => None,
-        }
+        let loose = replace(self, SegmentHandle::empty()).into_loose(alloc)?;
+        Some(loose.into_box())
     }
 
     /// Puts a segment into the handle, which must be empty.

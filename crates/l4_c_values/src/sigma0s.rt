@@ -62,10 +62,8 @@ impl Sigma0Handle {
             (λ table. self.old.value ≡ Some table.value) }
         ensures empty { self.new.value ≡ None }
     {
-        match replace(self, Sigma0Handle::empty()).into_loose(alloc) {
-            Some(loose) => Some(loose.into_box()),
-            None => None,
-        }
+        let loose = replace(self, Sigma0Handle::empty()).into_loose(alloc)?;
+        Some(loose.into_box())
     }
 
     /// Puts a table into the handle, which must be empty.
