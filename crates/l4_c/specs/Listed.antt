@@ -6,7 +6,7 @@ use Rattle.l4_ipc.specs.Machine.{Machine}
 use Rattle.l4_refusals.specs.Texts.{spelled}
 use Rattle.l4_c_values.specs.declared.results.SpaceResult.{SpaceResult}
 use Rattle.l4_c.specs.Asked.{space_result}
-use Rattle.l4_c.specs.declared.listing.ThreadResult.{ThreadResult}
+use Rattle.l4_c.specs.declared.asking.ThreadResult.{ThreadResult}
 
 -- the result for a thread that may have been found; the code says why the query was refused, or is 0
 abbrev pub thread_result : ℕ → Option ℕ → ThreadResult

@@ -88,9 +88,7 @@ fn judged(given: &RegionGiven, size: PageSize, words: &[u32], pages: &[u32]) -> 
 {
     let items = match plan_items(words) {
         Ok(items) => items,
-        Err(fault) => {
-            return verdict_of(message_number(fault), message_detail(fault));
-        }
+        Err(fault) => return verdict_of(message_number(fault), message_detail(fault)),
     };
     match check(&region_of(given), size, items.as_slice(), pages) {
         Ok(Proved) => verdict_of(0, 0),

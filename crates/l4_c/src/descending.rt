@@ -3,7 +3,7 @@ ghost use Rattle.std.specs.Prelude.{◌≡◌, map};
 ghost use Rattle.l4_c.specs.Planned.{placed};
 ghost use Rattle.l4_c.specs.Descended.{place_result, ListsDescendants, TellsDescendants};
 
-use crate::locking::CountResult;
+use crate::locking::{CountResult, counted};
 use l4_c_values::{EMPTY, KernelHandle, NO_MEMORY};
 use l4_ipc::{Kernel, Place};
 use std::alloc::Global;
@@ -40,30 +40,22 @@ fn write_places(places: &[Place], out: &mut [PlaceResult])
     }
 }
 
-/// Writes the pages that descend from a page to the array, up to its length, and returns how many there are.
-///
-/// Returns `NoMemory` if an allocation fails, and then writes nothing.
+/// Writes the pages that descend from a page to the array, up to its length, and returns how many there are. Returns NoMemory if an
+/// allocation fails, and then writes nothing.
 fn list(kernel: &Kernel, space: u64, page: u32, out: &mut [PlaceResult]) -> CountResult
     ensures { ListsDescendants kernel.now space page out.old result out.new }
 {
     match kernel.descendants(space, page) {
         Ok(places) => {
             write_places(places.as_slice(), out);
-            CountResult {
-                refusal: 0,
-                count: places.len() as u64,
-            }
+            counted(0, places.len() as u64)
         }
-        Err(_) => CountResult {
-            refusal: NO_MEMORY,
-            count: 0,
-        },
+        Err(_) => counted(NO_MEMORY, 0),
     }
 }
 
-/// Lists the pages that descend from a page of a space, as `list` does for the kernel in the handle.
-///
-/// Returns these refusals, tested in this order: B1, if the handle is empty; NoMemory.
+/// Writes the pages that descend from a page of a space to the array, up to its length, and returns how many there are. The refusals are B1
+/// and NoMemory, in this order. Nothing is written after a refusal.
 #[unsafe(no_mangle)]
 pub extern "C" fn l4_descendants(
     alloc: Global,
@@ -76,10 +68,7 @@ pub extern "C" fn l4_descendants(
     ensures told { TellsDescendants handle.old.value space page out.old result out.new }
 {
     let Some(kernel) = handle.take(alloc) else {
-        return CountResult {
-            refusal: EMPTY,
-            count: 0,
-        };
+        return counted(EMPTY, 0);
     };
     let told = list(&kernel, space, page, out);
     handle.put(kernel);

@@ -3,17 +3,14 @@
 
 mod asking;
 mod checking;
-mod copying;
 mod descending;
 mod entering;
 mod giving;
-mod listing;
 mod locking;
 mod owning;
 mod paging;
 mod planning;
 mod reading;
-mod replies;
 mod segments;
 mod stepping;
 mod texts;
@@ -21,21 +18,22 @@ mod tracing;
 mod versions;
 mod watching;
 
-pub use asking::{l4_mapping_of, l4_next_page, l4_page_size_of, l4_space_of};
+pub use asking::{
+    ThreadResult, l4_mapping_of, l4_next_page, l4_next_space, l4_next_thread, l4_page_size_of,
+    l4_reply_of, l4_space_of,
+};
 pub use checking::{
     Verdict, l4_check_plan, l4_check_plan_sized, l4_check_too_long, l4_check_too_long_sized,
 };
-pub use copying::l4_copy;
 pub use descending::{PlaceResult, l4_descendants};
 pub use entering::l4_enter;
 pub use giving::{l4_sigma0_answer, l4_sigma0_free, l4_sigma0_new, l4_sigma0_new_sized};
-pub use listing::{ThreadResult, l4_next_space, l4_next_thread};
 pub use locking::{
     CountResult, l4_lock_close, l4_lock_enter, l4_lock_entry, l4_lock_free, l4_lock_give,
     l4_lock_kept_from, l4_lock_length, l4_lock_new, l4_lock_new_sized, l4_lock_receipt,
     l4_lock_seat_of, l4_lock_take,
 };
-pub use owning::{l4_boot, l4_boot_sized, l4_free};
+pub use owning::{l4_boot, l4_boot_sized, l4_copy, l4_free};
 pub use paging::{
     l4_pager_add, l4_pager_answer, l4_pager_find, l4_pager_free, l4_pager_new, l4_pager_new_sized,
 };
@@ -44,7 +42,6 @@ pub use planning::{
     l4_plan_pages_sized, l4_plan_region, l4_plan_region_sized,
 };
 pub use reading::{l4_read_fault, l4_read_request};
-pub use replies::l4_reply_of;
 pub use segments::{
     l4_lock_hand_out, l4_segment_entry, l4_segment_first, l4_segment_free, l4_segment_length,
 };

@@ -3,11 +3,11 @@ ghost use Rattle.std.specs.Prelude.{◌≡◌, None, Some, codes};
 ghost use Rattle.l4_fpage.specs.declared.sizes.PageSize.TheVariants.{Kib4};
 ghost use Rattle.l4_seated_lock.specs.Seated.{seat_at};
 ghost use Rattle.l4_refusals.specs.Texts.{spelled};
-ghost use Rattle.l4_c_values.specs.Recorded.{entry_result, kept_entry_result, seat_result, kept_receipt_result};
+ghost use Rattle.l4_c_values.specs.Recorded.{entry_result, kept_entry_result, kept_receipt_result};
 ghost use Rattle.l4_c_values.specs.InBytes.{InBytes};
 ghost use Rattle.l4_c.specs.Locking.{MakesLock, Gives, GivesSeat, EntersCall, EntersSeat, TakesReply, TakesSeat, TellsLength, TellsKeptFrom, TellsEntry, TellsSeat, TellsReceipt, ClosesLock};
 
-use crate::checking::Verdict;
+use crate::checking::{Verdict, verdict_of};
 use l4_c_values::{
     CallGiven, EMPTY, EntryResult, HANDED_OUT, HELD, LockHandle, NO_MEMORY, NO_SUCH_CALL,
     NO_SUCH_SIZE, ReceiptResult, ReplyResult, SeatResult, SeatedResult, entered_told, entry_told,
@@ -25,6 +25,13 @@ use std::alloc::Global;
 pub struct CountResult {
     pub refusal: u32,
     pub count: u64,
+}
+
+/// Returns a result with this refusal, or with 0 and this number.
+pub(crate) fn counted(refusal: u32, count: u64) -> CountResult
+    ensures { result ≡ record { refusal = refusal; count = count } }
+{
+    CountResult { refusal, count }
 }
 
 /// Boots a locked kernel with pages of this size.
@@ -174,14 +181,11 @@ pub extern "C" fn l4_lock_length(alloc: Global, handle: &mut LockHandle) -> Coun
     ensures told { TellsLength handle.old.value result }
 {
     let Some(lock) = handle.take(alloc) else {
-        return CountResult {
-            refusal: EMPTY,
-            count: 0,
-        };
+        return counted(EMPTY, 0);
     };
     let count = lock.count() as u64;
     handle.put(lock);
-    CountResult { refusal: 0, count }
+    counted(0, count)
 }
 
 /// Returns the number of the first entry that the lock keeps. Refuses an empty handle (B1).
@@ -191,14 +195,11 @@ pub extern "C" fn l4_lock_kept_from(alloc: Global, handle: &mut LockHandle) -> C
     ensures told { TellsKeptFrom handle.old.value result }
 {
     let Some(lock) = handle.take(alloc) else {
-        return CountResult {
-            refusal: EMPTY,
-            count: 0,
-        };
+        return counted(EMPTY, 0);
     };
     let count = lock.kept_from() as u64;
     handle.put(lock);
-    CountResult { refusal: 0, count }
+    counted(0, count)
 }
 
 /// Returns the result for an entry, or the one without an entry.
@@ -240,16 +241,6 @@ pub extern "C" fn l4_lock_entry(
     told
 }
 
-/// Returns how many calls the seat has started, and how many receipts it has.
-fn seat(lock: &SeatedLock, number: u32) -> SeatResult
-    ensures { result ≡ seat_result (seat_at lock.now.books number) }
-{
-    match lock.seat(number) {
-        Some(seat) => seat_told(seat),
-        None => no_seat(0),
-    }
-}
-
 /// Returns how many calls the seat has started, and how many receipts it has. Refuses an empty handle (B1).
 #[unsafe(no_mangle)]
 pub extern "C" fn l4_lock_seat_of(alloc: Global, handle: &mut LockHandle, number: u32) -> SeatResult
@@ -259,7 +250,10 @@ pub extern "C" fn l4_lock_seat_of(alloc: Global, handle: &mut LockHandle, number
     let Some(lock) = handle.take(alloc) else {
         return no_seat(EMPTY);
     };
-    let told = seat(&lock, number);
+    let told = match lock.seat(number) {
+        Some(seat) => seat_told(seat),
+        None => no_seat(0),
+    };
     handle.put(lock);
     told
 }
@@ -307,18 +301,12 @@ pub extern "C" fn l4_lock_close(alloc: Global, handle: &mut LockHandle, numbers:
     ensures { ClosesLock handle.old.value numbers.now result handle.new.value }
 {
     let Some(lock) = handle.take(alloc) else {
-        return Verdict {
-            refusal: EMPTY,
-            detail: 0,
-        };
+        return verdict_of(EMPTY, 0);
     };
     let Some(mismatch) = lock.mismatch(numbers) else {
-        return Verdict {
-            refusal: 0,
-            detail: 0,
-        };
+        return verdict_of(0, 0);
     };
     handle.put(lock);
     let (refusal, detail) = mismatch_told(mismatch);
-    Verdict { refusal, detail }
+    verdict_of(refusal, detail)
 }

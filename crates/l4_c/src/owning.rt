@@ -1,11 +1,12 @@
-//! Boots and frees kernels.
-ghost use Rattle.std.specs.Prelude.{◌≡◌, None, codes};
+//! Boots, copies and frees kernels.
+ghost use Rattle.std.specs.Prelude.{◌≡◌, None, Some, codes};
 ghost use Rattle.l4_fpage.specs.declared.sizes.PageSize.TheVariants.{Kib4};
 ghost use Rattle.l4_refusals.specs.Texts.{spelled};
 ghost use Rattle.l4_c.specs.Exports.{Boots};
+ghost use Rattle.l4_c.specs.Copied.{Copies};
 ghost use Rattle.l4_c_values.specs.InBytes.{InBytes};
 
-use l4_c_values::{HELD, KernelHandle, NO_MEMORY, NO_SUCH_SIZE, kernel_number, size_of};
+use l4_c_values::{EMPTY, HELD, KernelHandle, NO_MEMORY, NO_SUCH_SIZE, kernel_number, size_of};
 use l4_ipc::{Kernel, PageSize};
 use std::alloc::Global;
 
@@ -54,6 +55,42 @@ pub extern "C" fn l4_boot_sized(
         Some(size) => boot(alloc, handle, size, frames),
         None => NO_SUCH_SIZE,
     }
+}
+
+/// Fills an empty handle with a copy of the kernel. Refuses a handle that is not empty (B2), or returns NoMemory.
+fn fill(alloc: Global, copy: &mut KernelHandle, kernel: &Kernel) -> u32
+    ensures { Copies (Some kernel.now) copy.old.value result copy.new.value }
+{
+    if let Some(held) = copy.take(alloc) {
+        copy.put(held);
+        return HELD;
+    }
+    let copied = match kernel.copy() {
+        Ok(copied) => copied,
+        Err(_) => return NO_MEMORY,
+    };
+    match Box::new(alloc, copied) {
+        Ok(copied) => {
+            copy.put(copied);
+            0
+        }
+        Err(_) => NO_MEMORY,
+    }
+}
+
+/// Copies a kernel into a second, empty handle. Refuses an empty first handle (B1) and a second one that is not empty (B2), or returns
+/// NoMemory.
+#[unsafe(no_mangle)]
+pub extern "C" fn l4_copy(alloc: Global, handle: &mut KernelHandle, copy: &mut KernelHandle) -> u32
+    ensures kept { handle.new.value ≡ handle.old.value }
+    ensures copied { Copies handle.old.value copy.old.value result copy.new.value }
+{
+    let Some(original) = handle.take(alloc) else {
+        return EMPTY;
+    };
+    let number = fill(alloc, copy, &original);
+    handle.put(original);
+    number
 }
 
 /// Frees a kernel, and leaves the handle empty.

@@ -182,11 +182,7 @@ fn pages(given: &RegionGiven, size: PageSize, out: &mut [u32]) -> u32
     match plan(&region_of(given), size) {
         Ok(plan) => write_pages(plan.pages(), out),
         Err(PlanRefusal::TooLong(pages)) => write_pages(pages, out),
-        Err(PlanRefusal::Empty) => 0,
-        Err(PlanRefusal::OutOfSpace) => 0,
-        Err(PlanRefusal::NoRights) => 0,
-        Err(PlanRefusal::Several(_)) => 0,
-        Err(PlanRefusal::NoPart(_)) => 0,
+        Err(_) => 0,
     }
 }
 

@@ -2,7 +2,7 @@
 ghost use Rattle.std.specs.Prelude.{◌≡◌, None};
 ghost use Rattle.l4_c.specs.Segmented.{HandsOutTo, HandsOutSegment, TellsFirst, TellsSegmentLength, entry_in, TellsSegmentEntry};
 
-use crate::locking::{CountResult, told};
+use crate::locking::{CountResult, counted, told};
 use l4_c_values::{
     EMPTY, EntryResult, HELD, LockHandle, NO_MEMORY, SegmentHandle, TOO_LONG, no_entry,
 };
@@ -66,14 +66,11 @@ pub extern "C" fn l4_segment_first(alloc: Global, handle: &mut SegmentHandle) ->
     ensures told { TellsFirst handle.old.value result }
 {
     let Some(segment) = handle.take(alloc) else {
-        return CountResult {
-            refusal: EMPTY,
-            count: 0,
-        };
+        return counted(EMPTY, 0);
     };
     let count = segment.first as u64;
     handle.put(segment);
-    CountResult { refusal: 0, count }
+    counted(0, count)
 }
 
 /// Returns the number of entries of the segment. Refuses an empty handle (B1).
@@ -83,14 +80,11 @@ pub extern "C" fn l4_segment_length(alloc: Global, handle: &mut SegmentHandle) -
     ensures told { TellsSegmentLength handle.old.value result }
 {
     let Some(segment) = handle.take(alloc) else {
-        return CountResult {
-            refusal: EMPTY,
-            count: 0,
-        };
+        return counted(EMPTY, 0);
     };
     let count = segment.history.len() as u64;
     handle.put(segment);
-    CountResult { refusal: 0, count }
+    counted(0, count)
 }
 
 /// Returns the entry with this number since boot.
