@@ -177,7 +177,10 @@ fn receipts_and_steps_of_later_calls_continue_their_numbers() {
     let mut root = kernel.seat(2).unwrap();
     root.call(&create(3, ThreadId::NIL)).unwrap();
     let first = kernel.hand_out().unwrap();
-    assert_eq!((first.first(), first.len(), first.is_empty()), (0, 1, false));
+    assert_eq!(
+        (first.first(), first.len(), first.is_empty()),
+        (0, 1, false)
+    );
     assert_eq!(
         (kernel.history().len(), root.receipts().len(), root.starts()),
         (0, 0, 1)
@@ -189,10 +192,7 @@ fn receipts_and_steps_of_later_calls_continue_their_numbers() {
         (1, 1, 1)
     );
     assert_eq!(kernel.provenance(0, 0), Err(Refusal::HandedOut));
-    assert_eq!(
-        kernel.check_provenance(0, 0, &[]),
-        Err(Refusal::HandedOut)
-    );
+    assert_eq!(kernel.check_provenance(0, 0, &[]), Err(Refusal::HandedOut));
     let second = kernel.hand_out().unwrap();
     assert_eq!((second.first(), second.len()), (1, 1));
     assert!(kernel.hand_out().unwrap().is_empty());
