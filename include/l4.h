@@ -810,6 +810,11 @@ l4_chain l4_lock_provenance(l4_lock *lock, uint64_t space, uint32_t page, l4_lin
  * the links are not the provenance. */
 l4_verdict l4_lock_check_provenance(l4_lock *lock, uint64_t space, uint32_t page, const l4_link *links, size_t count);
 
+/* Copies the kernel of a locked kernel into an empty handle, as l4_copy does. So you can query it as any kernel: its mappings, spaces and
+ * threads, their replies and the steps that are enabled. The copy has no history and no seats, and the locked kernel is unchanged. Refusals
+ * in this order: B1 for the locked kernel, B2 for the copy, NoMemory. */
+uint32_t l4_lock_copy(l4_lock *lock, l4_kernel *copy);
+
 /* Takes back the seats of these numbers, and frees the locked kernel with its history if exactly the seats that were given come back, each
  * once. The handle is empty then. Success confirms that the history has as many starts of each seat's thread as the seat counted, and that
  * every receipt that is kept was right about the history. Otherwise nothing has changed. Refusals in this order: B1; X1 with the lowest

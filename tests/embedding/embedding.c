@@ -530,6 +530,7 @@ static void segments(void) {
     static const uint32_t words[3] = {0x80, 0x300a, 0x70c4}, seats[4] = {1, 2, 3, 4};
     l4_lock lock = L4_EMPTY;
     l4_segment first = L4_EMPTY, second = L4_EMPTY;
+    l4_kernel copy = L4_EMPTY;
     EXPECT(l4_lock_hand_out(&lock, &first) == L4_B1 && l4_segment_first(&first).refusal == L4_B1 && l4_segment_length(&first).refusal == L4_B1);
     EXPECT(l4_segment_entry(&first, 0).refusal == L4_B1 && l4_lock_kept_from(&lock).refusal == L4_B1);
     maps(&lock);
@@ -540,7 +541,10 @@ static void segments(void) {
     EXPECT(by_seat(&lock, 4, send(2), words, 3).reply.kind == L4_REPLY_IPC && l4_lock_take(&lock, 2).tag == 0x80);
     EXPECT(l4_lock_entry(&lock, 8).refusal == L4_L8 && l4_lock_entry(&lock, 10).kind == L4_TRANSFER && l4_lock_length(&lock).count == 11);
     EXPECT(l4_lock_receipt(&lock, 2, 2).there == 1 && l4_lock_receipt(&lock, 2, 2).start == 8 && l4_lock_receipt(&lock, 2, 2).end == 10);
+    EXPECT(l4_lock_copy(&lock, &copy) == L4_OK && l4_lock_copy(&lock, &copy) == L4_B2 && l4_mapping_of(&copy, 1, 3).frame == 16);
     EXPECT(l4_lock_close(&lock, seats, 4).refusal == L4_OK && l4_segment_length(&first).count == 8);
+    EXPECT(l4_lock_copy(&lock, &copy) == L4_B1 && l4_space_of(&copy, 4).space == 3);
+    l4_free(&copy);
     l4_segment_free(&first);
     l4_segment_free(&second);
     l4_segment_free(&second);

@@ -391,6 +391,7 @@ FUNCTIONS: Dict[str, Tuple[Any, List[Any]]] = {
     "l4_lock_receipt": (l4_receipt, [LOCK, c_uint32, c_size_t]),
     "l4_lock_provenance": (l4_chain, [LOCK, c_uint64, c_uint32, LINKS, c_size_t]),
     "l4_lock_check_provenance": (l4_verdict, [LOCK, c_uint64, c_uint32, LINKS, c_size_t]),
+    "l4_lock_copy": (c_uint32, [LOCK, KERNEL]),
     "l4_lock_close": (l4_verdict, [LOCK, WORDS, c_size_t]),
 }
 

@@ -298,12 +298,18 @@ class Kernel(Handle):
         >>> kernel.enter(2, Call.receive()).steps[0].step, copy.enabled()
         (Transfer(sender=1, receiver=2), Expire(thread=1))
         """
-        with self._turn:
-            self._told(self._ask(library.l4_page_size_of))
-            copy = Kernel.__new__(Kernel)
-            Handle.__init__(copy, _library.l4_kernel(), lambda made: library.l4_copy(byref(self._handle), made), library.l4_free)
-        copy._frames = self._frames
-        return copy
+        return Kernel._copied(lambda made: self._ask(library.l4_copy, made), self, self._frames)
+
+    @classmethod
+    def _copied(cls, copy: Callable[[Any], int], source: Handle, frames: int) -> Kernel:
+        """Returns the kernel that a function of the library copies from the source. Raises ValueError if the source is closed."""
+        made = cls.__new__(cls)
+        with source._turn:
+            if source.closed:
+                raise ValueError(f"the {source._name} is closed")
+            Handle.__init__(made, _library.l4_kernel(), copy, library.l4_free)
+        made._frames = frames
+        return made
 
     @property
     def frames(self) -> int:

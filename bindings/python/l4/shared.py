@@ -2,16 +2,17 @@
 from __future__ import annotations
 
 import threading
+import time
 from ctypes import byref
 from dataclasses import dataclass
 from itertools import count
-from typing import Any, Callable, Iterable, Iterator, List, Optional, Tuple, Union
+from typing import Any, Callable, Iterable, Iterator, List, Optional, Set, Tuple, Union
 
 from . import _library
 from ._handles import Handle, Unique
 from ._library import Forks, library, number, of_type
 from .calls import Call
-from .kernel import Expire, Outcome, Place, Reply, Transfer, reply_of, step_of
+from .kernel import Expire, Kernel, Outcome, Place, Reply, Transfer, reply_of, step_of
 from .refusals import Refused
 from .words import PAGE_BYTES, Rights
 
@@ -122,6 +123,8 @@ class _Lock(Handle):
     def __init__(self, frames: int, page_bytes: int) -> None:
         super().__init__(_library.l4_lock(), library.l4_lock_new_sized, library.l4_lock_free, frames, page_bytes)
         self._entered = threading.Condition(self._lock)
+        # the seats whose waits are to end
+        self.ended: Set[int] = set()
 
     @property
     def _name(self) -> str:
@@ -202,6 +205,7 @@ class SharedKernel(Unique):
     def __init__(self, frames: int = 256, page_bytes: int = PAGE_BYTES) -> None:
         given = number(frames, "the number of frames"), number(page_bytes, "the number of bytes")
         self._lock = _Lock(*given)
+        self._frames = given[0]
         self._steps = 0
 
     def __enter__(self) -> SharedKernel:
@@ -219,6 +223,13 @@ class SharedKernel(Unique):
         """Gives out the seat of a thread number. Each seat is given once, and the thread need not exist yet. Raises Refused with
         L4 if the seat was given before, and with NoMemory."""
         return Seat(self, number(number_of_thread, "a thread number"))
+
+    def end_wait(self, number_of_thread: int) -> None:
+        """Ends the wait in which the seat of a thread number is, in `Seat.call_for` or `Seat.wait_for`: that method then returns None, and
+        the call goes on. This has no effect on a seat that does not wait in one of them."""
+        with self._lock.entered:
+            self._lock.ended.add(number(number_of_thread, "a thread number"))
+            self._lock.entered.notify_all()
 
     def steps(self) -> int:
         """Returns the number of steps since boot when the last call was entered. It never decreases, and the method never waits."""
@@ -243,6 +254,12 @@ class SharedKernel(Unique):
                 if refused.code == "B1":
                     raise ValueError("the SharedKernel is closed") from None
                 raise
+
+    def copy(self) -> Kernel:
+        """Returns a copy of the kernel, in memory of its own, at one moment between two calls. You can query it as any `Kernel`: its
+        mappings, spaces and threads, and their replies. The copy has no history and no seats. Raises Refused with NoMemory.
+        """
+        return Kernel._copied(lambda made: self._lock._ask(library.l4_lock_copy, made), self._lock, self._frames)
 
     def provenance(self, space: int, page: int) -> Optional[List[Link]]:
         """Finds how a page of a space got to where it is.
@@ -332,23 +349,57 @@ class Seat(Unique):
         Raises Refused, in this order, with L3 (an earlier call has ended, whose reply you must `take` first), L1, NoMemory, K2 if there is
         no such thread, and as `Kernel.start` does.
         """
-        words = of_type(call, Call, "what a thread starts").words
-        given = (byref(call.given()), _library.array(words), len(words))
-        kernel, entered = self._kernel, self._kernel._lock.entered
+        entered = self._kernel._lock.entered
         with entered:
-            told = kernel._lock.answer(library.l4_lock_enter, self._number, *given)
-            if told.refusal:
-                raise Refused(told.refusal, told.detail)
-            kernel._steps = kernel._lock.answer(library.l4_lock_length).count
-            entered.notify_all()
-            reply = reply_of(told.reply)
+            reply = self._enter(call)
             while reply is None:
                 entered.wait()
                 reply = self.take()
             return reply
 
+    def _enter(self, call: Call) -> Optional[Reply]:
+        """Enters a call, and returns its reply if it has ended."""
+        words = of_type(call, Call, "what a thread starts").words
+        kernel, given = self._kernel, (byref(call.given()), _library.array(words), len(words))
+        told = kernel._lock.answer(library.l4_lock_enter, self._number, *given)
+        if told.refusal:
+            raise Refused(told.refusal, told.detail)
+        kernel._steps = kernel._lock.answer(library.l4_lock_length).count
+        kernel._lock.entered.notify_all()
+        return reply_of(told.reply)
+
+    def call_for(self, call: Call, seconds: float) -> Optional[Reply]:
+        """Makes a call as `call` does, and waits at most this many seconds.
+
+        Returns None if the call has not ended by then, or if `SharedKernel.end_wait` ended the wait. The call goes on: get its reply with
+        `wait_for` or `take`. Raises what `call` raises; while an earlier call goes on, Refused with K3.
+
+        >>> from l4 import Call, SharedKernel
+        >>> root = SharedKernel(1).seat(2)
+        >>> root.call_for(Call.receive(), 0.001) is None
+        True
+        """
+        with self._kernel._lock.entered:
+            reply = self._enter(call)
+            return self.wait_for(seconds) if reply is None else reply
+
+    def wait_for(self, seconds: float) -> Optional[Reply]:
+        """Waits at most this many seconds until an earlier call has ended, and takes its reply.
+
+        Returns None if it has not ended by then, if `SharedKernel.end_wait` ended the wait, or if there is no such call.
+        """
+        lock, end = self._kernel._lock, time.monotonic() + seconds
+        with lock.entered:
+            lock.ended.discard(self._number)
+            while True:
+                reply, left = self.take(), end - time.monotonic()
+                if reply is not None or left <= 0 or self._number in lock.ended:
+                    return reply
+                lock.entered.wait(left)
+
     def take(self) -> Optional[Reply]:
-        """Takes the reply of a call whose wait was ended by an exception, such as KeyboardInterrupt.
+        """Takes the reply of a call whose wait has ended before the call: after `call_for` or `wait_for`, or by an exception, such as
+        KeyboardInterrupt.
 
         Returns None if the call still waits, or if there is no such reply. Each reply can be taken once; `receipts` keeps it. This method
         never waits for the end of a call.

@@ -149,6 +149,40 @@ class Shared(unittest.TestCase):
         self.assertEqual(kernel.close([root]), ())
         self.assertEqual(len(list(later)), 1)
 
+    def test_a_call_goes_on_after_its_wait(self):
+        kernel = SharedKernel(1)
+        sigma0, root = kernel.seat(1), kernel.seat(2)
+        self.assertIsNone(root.call_for(Call.receive(), 0.001))
+        with self.assertRaisesRegex(Refused, "^K3: "):
+            root.call(Call.receive())
+        self.assertEqual((root.take(), root.wait_for(0.001)), (None, None))
+        parties = Parties()
+        parties.begin("waits", lambda: root.wait_for(100))
+        while "waits" not in parties.given:
+            kernel.end_wait(2)
+            time.sleep(0.001)
+        self.assertEqual(parties.end(), {"waits": None})
+        sigma0.call(Call.send(ThreadId.ROOT, Message.of(untyped=[5])))
+        with self.assertRaisesRegex(Refused, "^L3: "):
+            root.call_for(Call.receive(), 0.001)
+        self.assertEqual(root.wait_for(0.001).untyped, (5,))
+        self.assertIsNone(root.take())
+        kernel.end_wait(2)
+        self.assertEqual(root.call_for(create(3), 0).kind, ReplyKind.CONTROLLED)
+        self.assertEqual(len(kernel.close([sigma0, root])), 4)
+
+    def test_a_copy_answers_as_the_kernel_does(self):
+        kernel = SharedKernel()
+        sigma0, root, first = map(kernel.seat, (1, 2, 3))
+        root.call(create(3))
+        self.move(sigma0, first, Item.map(Fpage.page(16, Rights.ALL), 32 * PAGE_BYTES))
+        copied = kernel.copy()
+        self.assertEqual([(mapping.place.page, mapping.frame) for mapping in copied.mappings(2)], [(32, 16)])
+        self.assertEqual((copied.threads(), copied.frames), ((1, 2, 3), 256))
+        root.call(Call.delete(ThreadId.of(3)))
+        self.assertEqual((copied.threads(), kernel.copy().threads()), ((1, 2, 3), (1, 2)))
+        self.assertEqual(len(kernel.close([sigma0, root, first])), 5)
+
     def test_a_deleted_thread_is_gone(self):
         kernel = SharedKernel(1)
         root, waiting = kernel.seat(2), kernel.seat(3)
@@ -277,11 +311,14 @@ class Shared(unittest.TestCase):
             (kernel.seat, 3),
             (kernel.history,),
             (kernel.hand_out,),
+            (kernel.copy,),
             (kernel.provenance, 0, 0),
             (kernel.check_provenance, 0, 0, []),
             (kernel.close, [root]),
             (other.close, []),
             (root.call, Call.receive()),
+            (root.call_for, Call.receive(), 0),
+            (root.wait_for, 0),
             (root.take,),
             (getattr, root, "starts"),
             (getattr, root, "receipts"),

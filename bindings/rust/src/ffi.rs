@@ -474,6 +474,7 @@ functions! {
     fn l4_lock_receipt(lock: *mut l4_lock, seat: u32, number: usize) -> l4_receipt;
     fn l4_lock_provenance(lock: *mut l4_lock, space: u64, page: u32, links: *mut l4_link, room: usize) -> l4_chain;
     fn l4_lock_check_provenance(lock: *mut l4_lock, space: u64, page: u32, links: *const l4_link, count: usize) -> l4_verdict;
+    fn l4_lock_copy(lock: *mut l4_lock, copy: *mut l4_kernel) -> u32;
     fn l4_lock_close(lock: *mut l4_lock, seats: *const u32, count: usize) -> l4_verdict;
 }
 
@@ -799,6 +800,12 @@ impl Handle<l4_lock> {
     pub(crate) fn hand_out(&mut self) -> Result<Handle<l4_segment>, u32> {
         // SAFETY: the handle is live and borrowed alone; the one that `made` passes is empty, live and not shared, so it is not this one.
         Handle::made(|segment| unsafe { l4_lock_hand_out(self.cell.get(), segment) })
+    }
+
+    /// Copies the kernel into a handle of its own, or returns the number of the refusal.
+    pub(crate) fn copy(&self) -> Result<Handle<l4_kernel>, u32> {
+        // SAFETY: as in `enabled`; the handle that `made` passes is empty, live and not shared.
+        Handle::made(|copy| unsafe { l4_lock_copy(self.cell.get(), copy) })
     }
 
     pub(crate) fn seat_of(&self, seat: u32) -> l4_seat {

@@ -308,6 +308,11 @@ impl Kernel {
         }
     }
 
+    /// Returns the kernel that owns this handle.
+    pub(crate) fn of(handle: ffi::Handle<ffi::l4_kernel>) -> Kernel {
+        Kernel { handle }
+    }
+
     /// Returns the size of the pages and frames with which the kernel was booted.
     pub fn page_size(&self) -> PageSize {
         PageSize::of_bytes(self.handle.page_size().page_bytes)

@@ -1,10 +1,12 @@
 //! A kernel that threads share, with its history and its seats.
 use crate::ffi::{self, Handle};
-use crate::{Call, Outcome, PageSize, Place, Refusal, Reply, Rights, Step};
+use crate::{Call, Kernel, Outcome, PageSize, Place, Refusal, Reply, Rights, Step};
+use std::collections::HashSet;
 use std::error::Error;
 use std::fmt;
 use std::sync::atomic::{AtomicU64, Ordering};
 use std::sync::{Arc, Condvar, Mutex, MutexGuard, PoisonError};
+use std::time::{Duration, Instant};
 
 /// A step of a history: the start of a call, or a transfer or expiry.
 // Every second or third entry of a history is a start.
@@ -189,11 +191,12 @@ impl fmt::Debug for Segment {
     }
 }
 
-/// What threads share: the locked kernel, the condition variable that wakes waiting threads when a call is entered, and the history's
-/// length.
+/// What threads share: the locked kernel, the condition variable that wakes waiting threads when a call is entered or a wait is ended, the
+/// seats whose waits are to end, and the history's length. The seats are changed only while the kernel is locked.
 struct Shared {
     lock: Mutex<Handle<ffi::l4_lock>>,
     entered: Condvar,
+    ended: Mutex<HashSet<u32>>,
     steps: AtomicU64,
 }
 
@@ -201,6 +204,11 @@ impl Shared {
     /// Locks the kernel. No code panics while it holds the lock, so the kernel is intact even if a thread has panicked.
     fn lock(&self) -> MutexGuard<'_, Handle<ffi::l4_lock>> {
         self.lock.lock().unwrap_or_else(PoisonError::into_inner)
+    }
+
+    /// Returns the seats whose waits are to end.
+    fn ended(&self) -> MutexGuard<'_, HashSet<u32>> {
+        self.ended.lock().unwrap_or_else(PoisonError::into_inner)
     }
 }
 
@@ -242,6 +250,7 @@ impl SharedKernel {
                 shared: Arc::new(Shared {
                     lock: Mutex::new(handle),
                     entered: Condvar::new(),
+                    ended: Mutex::new(HashSet::new()),
                     steps: AtomicU64::new(0),
                 }),
             }),
@@ -262,6 +271,14 @@ impl SharedKernel {
             }),
             refusal => Err(Refusal::of(refusal, 0)),
         }
+    }
+
+    /// Ends the wait in which the seat of this number is, in [`Seat::call_for`] or [`Seat::wait_for`]: that method then returns `None`, and
+    /// the call goes on. This has no effect on a seat that does not wait in one of them.
+    pub fn end_wait(&self, number: u32) {
+        let _lock = self.shared.lock();
+        self.shared.ended().insert(number);
+        self.shared.entered.notify_all();
     }
 
     /// Returns the number of steps since boot when the last call was entered. It never decreases, and the method never waits.
@@ -286,6 +303,19 @@ impl SharedKernel {
     pub fn hand_out(&self) -> Result<Segment, Refusal> {
         match self.shared.lock().hand_out() {
             Ok(handle) => Ok(Segment { handle }),
+            Err(number) => Err(Refusal::of(number, 0)),
+        }
+    }
+
+    /// Returns a copy of the kernel, in memory of its own, at one moment between two calls. You can query it as any kernel: its mappings,
+    /// spaces and threads, and their replies. The copy has no history and no seats.
+    ///
+    /// # Errors
+    ///
+    /// NoMemory.
+    pub fn copy(&self) -> Result<Kernel, Refusal> {
+        match self.shared.lock().copy() {
+            Ok(handle) => Ok(Kernel::of(handle)),
             Err(number) => Err(Refusal::of(number, 0)),
         }
     }
@@ -416,19 +446,11 @@ impl Seat {
     ///
     /// # Errors
     ///
-    /// In this order: L1, NoMemory, K2 if there is no such thread, and those of [`Kernel::start`](crate::Kernel::start).
+    /// In this order: L3 if an earlier call has ended whose reply was not taken, L1, NoMemory, K2 if there is no such thread, and those of
+    /// [`Kernel::start`](crate::Kernel::start).
     pub fn call(&mut self, call: &Call) -> Result<Reply, Refusal> {
-        let (given, words) = call.given();
         let mut lock = self.shared.lock();
-        let told = lock.enter(self.number, given, words);
-        if told.refusal != ffi::L4_OK {
-            return Err(Refusal::of(told.refusal, told.detail));
-        }
-        self.shared
-            .steps
-            .store(lock.length().count, Ordering::SeqCst);
-        self.shared.entered.notify_all();
-        let mut reply = Reply::of(&told.reply);
+        let mut reply = self.enter(&mut lock, call)?;
         loop {
             if let Some(reply) = reply {
                 return Ok(reply);
@@ -439,6 +461,86 @@ impl Seat {
                 .wait(lock)
                 .unwrap_or_else(PoisonError::into_inner);
             reply = Reply::of(&lock.take(self.number));
+        }
+    }
+
+    /// Enters a call, and returns its reply if it has ended.
+    fn enter(
+        &self,
+        lock: &mut Handle<ffi::l4_lock>,
+        call: &Call,
+    ) -> Result<Option<Reply>, Refusal> {
+        let (given, words) = call.given();
+        let told = lock.enter(self.number, given, words);
+        if told.refusal != ffi::L4_OK {
+            return Err(Refusal::of(told.refusal, told.detail));
+        }
+        self.shared
+            .steps
+            .store(lock.length().count, Ordering::SeqCst);
+        self.shared.entered.notify_all();
+        Ok(Reply::of(&told.reply))
+    }
+
+    /// Makes a call as [`call`](Seat::call) does, and waits at most this long. Returns `None` if the call has not ended by then, or if
+    /// [`SharedKernel::end_wait`] ended the wait. The call goes on: get its reply with [`wait_for`](Seat::wait_for) or
+    /// [`take`](Seat::take).
+    ///
+    /// # Errors
+    ///
+    /// Those of `call`. While an earlier call goes on, the refusal is K3.
+    ///
+    /// ```
+    /// use l4::{Call, Fpage, SharedKernel, ThreadId, Timeout};
+    /// use std::time::Duration;
+    /// let kernel = SharedKernel::new(1)?;
+    /// let mut root = kernel.seat(2)?;
+    /// let receive = Call::receive(ThreadId::ANY, Fpage::NIL, Timeout::Never);
+    /// assert_eq!(root.call_for(&receive, Duration::from_millis(1))?, None);
+    /// assert_eq!(root.take(), None);
+    /// # Ok::<(), Box<dyn std::error::Error>>(())
+    /// ```
+    pub fn call_for(&mut self, call: &Call, limit: Duration) -> Result<Option<Reply>, Refusal> {
+        let mut lock = self.shared.lock();
+        match self.enter(&mut lock, call)? {
+            Some(reply) => Ok(Some(reply)),
+            None => Ok(self.wait(lock, limit)),
+        }
+    }
+
+    /// Waits at most this long until an earlier call has ended, and takes its reply. Returns `None` if it has not ended by then, if
+    /// [`SharedKernel::end_wait`] ended the wait, or if there is no such call.
+    pub fn wait_for(&mut self, limit: Duration) -> Option<Reply> {
+        self.wait(self.shared.lock(), limit)
+    }
+
+    /// Takes the reply of an earlier call that has ended since. This method never waits for the end of a call.
+    pub fn take(&mut self) -> Option<Reply> {
+        Reply::of(&self.shared.lock().take(self.number))
+    }
+
+    /// Waits at most this long for a reply, or until the wait is ended.
+    fn wait(
+        &self,
+        mut lock: MutexGuard<'_, Handle<ffi::l4_lock>>,
+        limit: Duration,
+    ) -> Option<Reply> {
+        let begin = Instant::now();
+        self.shared.ended().remove(&self.number);
+        loop {
+            if let Some(reply) = Reply::of(&lock.take(self.number)) {
+                return Some(reply);
+            }
+            let left = limit.saturating_sub(begin.elapsed());
+            if left.is_zero() || self.shared.ended().remove(&self.number) {
+                return None;
+            }
+            lock = self
+                .shared
+                .entered
+                .wait_timeout(lock, left)
+                .unwrap_or_else(PoisonError::into_inner)
+                .0;
         }
     }
 

@@ -4,6 +4,7 @@ use l4::{
     ThreadId, Timeout,
 };
 use std::thread;
+use std::time::Duration;
 
 fn id(number: u32) -> ThreadId {
     ThreadId::new(number, 1).unwrap()
@@ -198,6 +199,53 @@ fn receipts_and_steps_of_later_calls_continue_their_numbers() {
     assert!(kernel.hand_out().unwrap().is_empty());
     assert_eq!(kernel.close(vec![root]).unwrap().len(), 0);
     assert_eq!(second.entries().count(), 1);
+}
+
+#[test]
+fn a_call_goes_on_after_its_wait() {
+    let kernel = SharedKernel::new(1).unwrap();
+    let [mut sigma0, mut root] = [1, 2].map(|number| kernel.seat(number).unwrap());
+    let any = receive(ThreadId::ANY);
+    let short = Duration::from_millis(1);
+    assert_eq!(root.call_for(&any, short), Ok(None));
+    assert_eq!(root.call(&any), Err(Refusal::StillWaiting));
+    assert_eq!((root.take(), root.wait_for(short)), (None, None));
+    thread::scope(|threads| {
+        let waits = threads.spawn(|| root.wait_for(Duration::from_secs(100)));
+        while !waits.is_finished() {
+            kernel.end_wait(2);
+            thread::yield_now();
+        }
+        assert_eq!(waits.join().unwrap(), None);
+    });
+    let message = Message::new(0, &[5], &[]).unwrap();
+    sigma0.call(&send(2, &message)).unwrap();
+    assert_eq!(root.call_for(&any, short), Err(Refusal::ReplyWaiting));
+    let reply = root.wait_for(short).unwrap();
+    assert_eq!(reply.received().unwrap().unwrap().untyped(), [5]);
+    assert_eq!(root.take(), None);
+    kernel.end_wait(2);
+    assert_eq!(
+        root.call_for(&create(3, ThreadId::NIL), short),
+        Ok(Some(Reply::Controlled))
+    );
+    assert_eq!(kernel.close(vec![sigma0, root]).unwrap().len(), 4);
+}
+
+#[test]
+fn a_copy_answers_as_the_kernel_does() {
+    let kernel = SharedKernel::new(256).unwrap();
+    let [mut sigma0, mut root, mut first] = [1, 2, 3].map(|number| kernel.seat(number).unwrap());
+    root.call(&create(3, ThreadId::NIL)).unwrap();
+    let map = Item::map(Fpage::page(16, Rights::ALL).unwrap(), 32 * l4::PAGE_BYTES);
+    moves(&mut sigma0, &mut first, map);
+    let copy = kernel.copy().unwrap();
+    assert_eq!(copy.mapping(2, 32).unwrap().frame, 16);
+    assert_eq!(copy.threads().len(), 3);
+    root.call(&Call::delete(id(3))).unwrap();
+    assert_eq!(copy.threads().len(), 3);
+    assert_eq!(kernel.copy().unwrap().threads().len(), 2);
+    assert!(kernel.close(vec![sigma0, root, first]).is_ok());
 }
 
 #[test]

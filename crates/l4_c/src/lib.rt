@@ -4,18 +4,15 @@
 mod asking;
 mod checking;
 mod descending;
-mod entering;
 mod giving;
 mod locking;
 mod owning;
 mod paging;
 mod planning;
-mod reading;
 mod segments;
 mod stepping;
 mod texts;
 mod tracing;
-mod versions;
 mod watching;
 
 pub use asking::{
@@ -26,27 +23,25 @@ pub use checking::{
     Verdict, l4_check_plan, l4_check_plan_sized, l4_check_too_long, l4_check_too_long_sized,
 };
 pub use descending::{PlaceResult, l4_descendants};
-pub use entering::l4_enter;
 pub use giving::{l4_sigma0_answer, l4_sigma0_free, l4_sigma0_new, l4_sigma0_new_sized};
 pub use locking::{
     CountResult, l4_lock_close, l4_lock_enter, l4_lock_entry, l4_lock_free, l4_lock_give,
     l4_lock_kept_from, l4_lock_length, l4_lock_new, l4_lock_new_sized, l4_lock_receipt,
     l4_lock_seat_of, l4_lock_take,
 };
-pub use owning::{l4_boot, l4_boot_sized, l4_copy, l4_free};
+pub use owning::{l4_boot, l4_boot_sized, l4_copy, l4_free, l4_lock_copy};
 pub use paging::{
     l4_pager_add, l4_pager_answer, l4_pager_find, l4_pager_free, l4_pager_new, l4_pager_new_sized,
+    l4_read_fault, l4_read_request,
 };
 pub use planning::{
     PartResult, PlanResult, l4_plan_message, l4_plan_message_sized, l4_plan_pages,
     l4_plan_pages_sized, l4_plan_region, l4_plan_region_sized,
 };
-pub use reading::{l4_read_fault, l4_read_request};
 pub use segments::{
     l4_lock_hand_out, l4_segment_entry, l4_segment_first, l4_segment_free, l4_segment_length,
 };
-pub use stepping::{l4_enabled, l4_expire, l4_next, l4_start, l4_transfer};
-pub use texts::{l4_refusal_code, l4_refusal_text, l4_reply_text, l4_step_text};
+pub use stepping::{l4_enabled, l4_enter, l4_expire, l4_next, l4_start, l4_transfer};
+pub use texts::{l4_refusal_code, l4_refusal_text, l4_reply_text, l4_step_text, l4_version};
 pub use tracing::{l4_lock_check_provenance, l4_lock_provenance};
-pub use versions::l4_version;
 pub use watching::l4_judge;

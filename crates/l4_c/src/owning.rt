@@ -3,10 +3,12 @@ ghost use Rattle.std.specs.Prelude.{◌≡◌, None, Some, codes};
 ghost use Rattle.l4_fpage.specs.declared.sizes.PageSize.TheVariants.{Kib4};
 ghost use Rattle.l4_refusals.specs.Texts.{spelled};
 ghost use Rattle.l4_c.specs.Exports.{Boots};
-ghost use Rattle.l4_c.specs.Copied.{Copies};
+ghost use Rattle.l4_c.specs.Copied.{Copies, kernel_of};
 ghost use Rattle.l4_c_values.specs.InBytes.{InBytes};
 
-use l4_c_values::{EMPTY, HELD, KernelHandle, NO_MEMORY, NO_SUCH_SIZE, kernel_number, size_of};
+use l4_c_values::{
+    EMPTY, HELD, KernelHandle, LockHandle, NO_MEMORY, NO_SUCH_SIZE, kernel_number, size_of,
+};
 use l4_ipc::{Kernel, PageSize};
 use std::alloc::Global;
 
@@ -90,6 +92,25 @@ pub extern "C" fn l4_copy(alloc: Global, handle: &mut KernelHandle, copy: &mut K
     };
     let number = fill(alloc, copy, &original);
     handle.put(original);
+    number
+}
+
+/// Copies the kernel of a locked kernel into an empty handle. Refuses an empty first handle (B1) and a second one that is not empty (B2), or
+/// returns NoMemory.
+#[unsafe(no_mangle)]
+pub extern "C" fn l4_lock_copy(
+    alloc: Global,
+    handle: &mut LockHandle,
+    copy: &mut KernelHandle,
+) -> u32
+    ensures kept { handle.new.value ≡ handle.old.value }
+    ensures copied { Copies (kernel_of handle.old.value) copy.old.value result copy.new.value }
+{
+    let Some(lock) = handle.take(alloc) else {
+        return EMPTY;
+    };
+    let number = fill(alloc, copy, lock.kernel());
+    handle.put(lock);
     number
 }
 

@@ -1,13 +1,16 @@
-//! Tables of pagers.
+//! Tables of pagers, and the page faults and requests for frames that messages hold.
+
 ghost use Rattle.std.specs.Prelude.{◌≡◌, None, Some, codes};
 ghost use Rattle.l4_fpage.specs.declared.sizes.PageSize.TheVariants.{Kib4};
 ghost use Rattle.l4_refusals.specs.Texts.{spelled};
 ghost use Rattle.l4_c_values.specs.InBytes.{InBytes};
 ghost use Rattle.l4_c.specs.Served.{entry_refusal, MakesTable, Adds, FindsSource, TellsTablesAnswer};
+ghost use Rattle.l4_c.specs.Read.{TellsFault, TellsRequest};
 
 use l4_c_values::{
-    EMPTY, HELD, MessageResult, NO_MEMORY, NO_SUCH_SIZE, PageResult, PagerHandle, RegionGiven,
-    entry_of, message_told, no_message, no_page, page_told, rights, size_of, unread,
+    EMPTY, FaultResult, HELD, MessageResult, NO_MEMORY, NO_SUCH_SIZE, PageResult, PagerHandle,
+    RegionGiven, RequestResult, entry_of, fault_told, message_detail, message_number, message_told,
+    no_fault, no_message, no_page, no_request, page_told, request_told, rights, size_of, unread,
 };
 use l4_ipc::{Message, PageSize};
 use l4_pager::{PagerRefusal, RegionPager};
@@ -139,4 +142,26 @@ pub extern "C" fn l4_pager_answer(
     let told = answer(&table, words);
     handle.put(table);
     told
+}
+
+/// Reads the words of a message as a page fault. The refusals are those of the message.
+#[unsafe(no_mangle)]
+pub extern "C" fn l4_read_fault(words: &[u32]) -> FaultResult
+    ensures { TellsFault words.now result }
+{
+    match Message::read(words) {
+        Ok(message) => fault_told(&message),
+        Err(fault) => no_fault(message_number(fault), message_detail(fault)),
+    }
+}
+
+/// Reads the words of a message as a request for frames. The refusals are those of the message.
+#[unsafe(no_mangle)]
+pub extern "C" fn l4_read_request(words: &[u32]) -> RequestResult
+    ensures { TellsRequest words.now result }
+{
+    match Message::read(words) {
+        Ok(message) => request_told(&message),
+        Err(fault) => no_request(message_number(fault), message_detail(fault)),
+    }
 }

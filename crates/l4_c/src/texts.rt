@@ -1,8 +1,10 @@
-//! Writes refusals, replies and steps as text.
+//! Writes refusals, replies and steps as text, and tells the version.
+
 ghost use Rattle.std.specs.Prelude.{◌≡◌, ◌<◌, ◌≤◌, length};
 ghost use Rattle.l4_refusals.specs.Texts.{texts, text_in};
 ghost use Rattle.l4_c_values.specs.Lines.{reply_given, reply_line, step_line};
 ghost use Rattle.l4_c.specs.Written.{written};
+ghost use Rattle.l4_c.specs.Versions.{version_number};
 
 use l4_c_values::{NextResult, ReplyResult, reply_line, step_line};
 use l4_refusals::text_of;
@@ -65,4 +67,12 @@ pub extern "C" fn l4_step_text(step: &NextResult, out: &mut [u8]) -> usize
     ensures room { length out.new ≡ length out.old }
 {
     write_text(step_line(step).as_slice(), out)
+}
+
+/// Returns the version of the library as one number, which is larger for a later version.
+#[unsafe(no_mangle)]
+pub extern "C" fn l4_version() -> u32
+    ensures { result ≡ version_number 0 1 0 }
+{
+    1_000
 }

@@ -5,7 +5,7 @@ use Rattle.l4_ipc.specs.Machine.{Machine}
 use Rattle.l4_ipc.specs.NextSteps.{step_of, answer_of}
 use Rattle.l4_ipc.specs.Steps.{IsIdle}
 use Rattle.l4_c.proofs.Following.{going_first, going_more}
-use Rattle.l4_c.proofs.entering.follow.Goals as goal
+use Rattle.l4_c.proofs.stepping.follow.Goals as goal
 
 pub loop-step-init : goal.loop-step-init
 loop-step-init c = going_first _ _ c.law_consistent.ensures

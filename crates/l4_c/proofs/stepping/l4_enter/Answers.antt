@@ -1,7 +1,7 @@
 use Rattle.std.proofs.Common.{Option, sym, subst}
 use Rattle.l4_ipc.specs.Machine.{Machine}
 use Rattle.l4_c.specs.Exports.{Goes, Enters}
-use Rattle.l4_c.proofs.entering.l4_enter.Goals as goal
+use Rattle.l4_c.proofs.stepping.l4_enter.Goals as goal
 
 pub returns : goal.returns
 returns c =

@@ -1,5 +1,5 @@
 use Rattle.l4_c.proofs.Starting.{goes_on, goes_nowhere}
-use Rattle.l4_c.proofs.entering.enter.Goals as goal
+use Rattle.l4_c.proofs.stepping.enter.Goals as goal
 
 pub returns-then-entered-eq0 : goal.returns-then-entered-eq0
 returns-then-entered-eq0 c =
