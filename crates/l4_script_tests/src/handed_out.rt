@@ -11,6 +11,7 @@ const SCRIPT: &[u8] =
     b"thread 3 new nil\nrecv 3 any 0x10\nsend 1 3 0x00000080 0x00020008 0x000100c7\nsteps\n";
 
 /// Counts segments and their entries, and fails at a segment.
+#[derive(Drop)]
 struct Counter {
     segments: usize,
     entries: usize,
