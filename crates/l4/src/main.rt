@@ -386,15 +386,11 @@ fn execute<R: AllocGlobal + Files + Input + Print + Eprint>(rt: &R, asked: Optio
             explain,
             number,
             moves,
-            history_to: None,
-        } => run(rt, &script, annotations(strict, explain, number, moves)),
-        Options::Run {
-            script,
-            strict,
-            explain,
-            history_to: Some(name),
-            ..
-        } => run_to(rt, &script, Style { strict, explain }, name.as_str()),
+            history_to,
+        } => match history_to {
+            None => run(rt, &script, annotations(strict, explain, number, moves)),
+            Some(name) => run_to(rt, &script, Style { strict, explain }, name.as_str()),
+        },
         Options::History {
             script,
             strict,
