@@ -226,7 +226,7 @@ class SharedKernel(Unique):
 
     def end_wait(self, number_of_thread: int) -> None:
         """Ends the wait in which the seat of a thread number is, in `Seat.call_for` or `Seat.wait_for`: that method then returns None, and
-        the call goes on. This has no effect on a seat that does not wait in one of them."""
+        the call continues. This has no effect on a seat that does not wait in one of them."""
         with self._lock.entered:
             self._lock.ended.add(number(number_of_thread, "a thread number"))
             self._lock.entered.notify_all()
@@ -371,8 +371,8 @@ class Seat(Unique):
     def call_for(self, call: Call, seconds: float) -> Optional[Reply]:
         """Makes a call as `call` does, and waits at most this many seconds.
 
-        Returns None if the call has not ended by then, or if `SharedKernel.end_wait` ended the wait. The call goes on: get its reply with
-        `wait_for` or `take`. Raises what `call` raises; while an earlier call goes on, Refused with K3.
+        Returns None if the call has not ended by then, or if `SharedKernel.end_wait` ended the wait. The call continues: get its reply with
+        `wait_for` or `take`. Raises what `call` raises; while an earlier call waits, Refused with K3.
 
         >>> from l4 import Call, SharedKernel
         >>> root = SharedKernel(1).seat(2)

@@ -274,7 +274,7 @@ impl SharedKernel {
     }
 
     /// Ends the wait in which the seat of this number is, in [`Seat::call_for`] or [`Seat::wait_for`]: that method then returns `None`, and
-    /// the call goes on. This has no effect on a seat that does not wait in one of them.
+    /// the call continues. This has no effect on a seat that does not wait in one of them.
     pub fn end_wait(&self, number: u32) {
         let _lock = self.shared.lock();
         self.shared.ended().insert(number);
@@ -483,12 +483,12 @@ impl Seat {
     }
 
     /// Makes a call as [`call`](Seat::call) does, and waits at most this long. Returns `None` if the call has not ended by then, or if
-    /// [`SharedKernel::end_wait`] ended the wait. The call goes on: get its reply with [`wait_for`](Seat::wait_for) or
+    /// [`SharedKernel::end_wait`] ended the wait. The call continues: get its reply with [`wait_for`](Seat::wait_for) or
     /// [`take`](Seat::take).
     ///
     /// # Errors
     ///
-    /// Those of `call`. While an earlier call goes on, the refusal is K3.
+    /// Those of `call`. While an earlier call waits, the refusal is K3.
     ///
     /// ```
     /// use l4::{Call, Fpage, SharedKernel, ThreadId, Timeout};
