@@ -1,0 +1,3 @@
+pub mod Covering
+pub mod Noted
+pub mod Counting

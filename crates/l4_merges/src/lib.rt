@@ -1,0 +1,10 @@
+//! Finds every outcome of a system whose threads may take turns in any order, each with an order that produces it.
+#![tactic(auto)]
+
+mod exploring;
+mod found;
+mod machine;
+
+pub use exploring::{Explored, GaveUp, explore};
+pub use found::Found;
+pub use machine::{Failure, Machine};
