@@ -1,5 +1,5 @@
 //! Journals: lists whose items are stored as words, each as a record.
-ghost use Rattle.std.specs.Prelude.{◌≡◌, ◌+◌, ◌<◌, ◌≤◌, ◌++◌, ◌^◌, [], ℕ, List, Option, None, drop, length, nat_eq, slice_get, is_some, IsTrue, MatchOption, OnOk, true, false};
+ghost use Rattle.std.specs.Prelude.{◌≡◌, ◌+◌, ◌<◌, ◌≤◌, ◌++◌, ◌^◌, [], ℕ, List, Option, None, drop, length, nat_eq, slice_get, is_some, IsTrue, IfOk, MatchOption, OnOk, true, false};
 ghost use Rattle.std.specs.Option.{option_to_list};
 ghost use Rattle.l4_journal.specs.ItemLists.{ItemList};
 ghost use Rattle.l4_journal.specs.Inside.ReadRecords.{read_all, AreRead};
@@ -46,6 +46,19 @@ impl<T: FromWords> Journal<T> {
             store: Store::new(alloc),
             kind: PhantomData,
         }
+    }
+
+    /// Returns a copy of the items in memory of its own, or `AllocError` if an allocation fails.
+    pub fn copy(&self, alloc: Global) -> Result<Journal<T>, AllocError>
+        ensures { IfOk result (λ copy. copy.items ≡ self.now.items) }
+    {
+        let Ok(store) = self.store.copy(alloc) else {
+            return Err(AllocError);
+        };
+        Ok(Journal {
+            store,
+            kind: PhantomData,
+        })
     }
 
     /// Returns the number of items.

@@ -1,5 +1,5 @@
 //! Records of words in one list, and a second list with the place at which each record ends.
-ghost use Rattle.std.specs.Prelude.{◌≡◌, ◌+◌, ◌*◌, ◌≤◌, ◌<◌, ◌++◌, ◌∷◌, ◌^◌, [], length, slice_get, slice_index_or, vec_len, vec_capacity, OnOk};
+ghost use Rattle.std.specs.Prelude.{◌≡◌, ◌+◌, ◌*◌, ◌≤◌, ◌<◌, ◌++◌, ◌∷◌, ◌^◌, [], length, slice_get, slice_index_or, vec_len, vec_capacity, IfOk, OnOk};
 ghost use Rattle.l4_journal.specs.Inside.Stored.{AreEnds, RecordList, record_list, start_at};
 
 use crate::words::{RECORD_WORDS, Words};
@@ -82,6 +82,16 @@ impl Store {
             ends: Vec::new(alloc),
             room: 0,
         }
+    }
+
+    /// Returns a copy of the records in memory of its own, without room for more.
+    pub fn copy(&self, alloc: Global) -> Result<Store, AllocError>
+        ensures { IfOk result (λ copy. copy.records ≡ self.now.records) }
+    {
+        let words = Vec::from_slice(alloc, self.words.as_slice())?;
+        let ends = Vec::from_slice(alloc, self.ends.as_slice())?;
+        let room = ends.len();
+        Ok(Store { words, ends, room })
     }
 
     /// Returns the number of records.

@@ -96,8 +96,17 @@ impl Name {
         }
     }
 
+    /// Returns a copy of the name.
+    fn copy(&self) -> Name
+        ensures { result ≡ self.now }
+    {
+        let mut bytes = ArrayVec::new();
+        let _ = bytes.try_extend_from_slice(self.bytes.as_slice());
+        Name { bytes }
+    }
+
     /// Returns the bytes of the name.
-    fn as_slice(&self) -> &[u8]
+    pub fn as_slice(&self) -> &[u8]
         ensures { result.now ≡ self.now }
     {
         self.bytes.as_slice()
@@ -126,6 +135,16 @@ impl Default for NamedThread {
 }
 
 impl NamedThread {
+    /// Returns a copy of both.
+    fn copy(&self) -> NamedThread
+        ensures { result ≡ self.now }
+    {
+        NamedThread {
+            name: self.name.copy(),
+            number: self.number,
+        }
+    }
+
     /// Returns whether this is its name.
     fn is_named(&self, name: &[u8]) -> bool
         ensures { result ≡ is_named name.now self.now }
@@ -160,6 +179,25 @@ impl Names {
         Names {
             entries: ArrayVec::new(),
         }
+    }
+
+    /// Returns a copy of the names.
+    pub fn copy(&self) -> Names
+        ensures { result ≡ self.now }
+    {
+        let all = self.entries.as_slice();
+        let mut entries = ArrayVec::new();
+        for entry in all {
+            let _ = entries.try_push(entry.copy());
+        }
+        Names { entries }
+    }
+
+    /// Returns each name with the number of its thread, in the order in which the names were first given.
+    pub fn entries(&self) -> &[NamedThread]
+        ensures { result.now ≡ self.now }
+    {
+        self.entries.as_slice()
     }
 
     /// Returns the position of a name.

@@ -6,6 +6,7 @@ ghost use Rattle.l4_fpage.specs.declared.sizes.PageSize.TheVariants.{Kib1};
 use arrayvec::ArrayVec;
 use l4_fpage::{Block, Fpage, PageSize, Rights};
 use l4_msg::{Message, PageFault, map_answer};
+use std::alloc::AllocError;
 use std::marker::Model;
 
 /// The greatest number of entries in a pager's table (this profile's own).
@@ -161,6 +162,16 @@ impl Model for RegionPager {
     ghost invariant = { λ p. IsTable (record { size = p.size; entries = p.entries.items }) };
 }
 
+impl Clone for RegionPager {
+    ghost use Rattle.std.specs.Prelude.{◌≡◌};
+
+    ghost is_clone = { λ table copy. copy ≡ table };
+
+    fn clone(&self) -> Result<Self, AllocError> {
+        Ok(self.copy())
+    }
+}
+
 impl RegionPager {
     ghost use Rattle.l4_msg.specs.Messages.{CanBeWritten};
     ghost use Rattle.l4_msg.specs.Protocols.{one_item};
@@ -170,6 +181,32 @@ impl RegionPager {
     ghost use Rattle.l4_pager.specs.Regions.{no_entries, with_entry, AddFails, CanAdd, IsTable, source_of, Answers, AnswersFault};
     ghost use Rattle.l4_pager.specs.declared.regions.PagerRefusal.{PagerRefusal as ARefusal};
     ghost use Rattle.l4_pager.specs.declared.regions.PagerRefusal.TheVariants.{NoRegion};
+
+    /// Returns the size of pages.
+    pub fn page_size(&self) -> PageSize
+        ensures { result ≡ self.now.size }
+    {
+        self.size
+    }
+
+    /// Returns the entries, in the order in which they were added.
+    pub fn entries(&self) -> &[Entry]
+        ensures { result.now ≡ self.now.entries }
+    {
+        self.entries.as_slice()
+    }
+
+    /// Returns a copy of the table.
+    pub fn copy(&self) -> RegionPager
+        ensures { result ≡ self.now }
+    {
+        let mut entries = ArrayVec::new();
+        let _ = entries.try_extend_from_slice(self.entries.as_slice());
+        RegionPager {
+            size: self.size,
+            entries,
+        }
+    }
 
     /// Returns an empty table, for pages of this size.
     pub fn new(size: PageSize) -> RegionPager

@@ -1,5 +1,5 @@
 //! The history as a list of entries.
-ghost use Rattle.std.specs.Prelude.{◌≡◌, ◌+◌, ◌<◌, ◌^◌, ◌≤◌, ◌++◌, ◌∷◌, [], drop, nat_eq, length, slice_get, OnOk, true, false};
+ghost use Rattle.std.specs.Prelude.{◌≡◌, ◌+◌, ◌<◌, ◌^◌, ◌≤◌, ◌++◌, ◌∷◌, [], drop, nat_eq, length, slice_get, IfOk, OnOk, true, false};
 ghost use Rattle.l4_ipc.specs.declared.calls.Call.TheVariants.{Ipc as AnIpc, Fault as AFault};
 ghost use Rattle.l4_ipc.specs.OwnCall.{own_answer};
 ghost use Rattle.l4_record.specs.Lists.{EntryList, entry_list};
@@ -62,6 +62,19 @@ impl History {
             entries: Journal::new(alloc),
             record: Record::new(),
         }
+    }
+
+    /// Returns a copy of the entries in memory of its own, or `AllocError` if an allocation fails.
+    pub fn copy(&self, alloc: Global) -> Result<History, AllocError>
+        ensures { IfOk result (λ copy. copy.entries ≡ self.now.entries) }
+    {
+        let Ok(entries) = self.entries.copy(alloc) else {
+            return Err(AllocError);
+        };
+        Ok(History {
+            entries,
+            record: Record::new(),
+        })
     }
 
     /// Returns the number of entries.

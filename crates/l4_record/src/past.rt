@@ -31,6 +31,13 @@ impl Past {
         Past {}
     }
 
+    /// Returns the same list.
+    pub fn copy(&self) -> Past
+        ensures { result.entries ≡ self.now.entries }
+    {
+        Past {}
+    }
+
     /// Returns the list with the entries of this history at its end.
     pub fn with(_earlier: &Past, _history: &History) -> Past
         ensures { result.entries ≡ _earlier.now.entries ++ _history.now.entries }

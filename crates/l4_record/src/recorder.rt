@@ -15,7 +15,7 @@ use crate::refusals::RecordRefusal;
 use crate::segments::Segment;
 use crate::steps::begin;
 use l4_board::{Board, Publisher, Watch};
-use l4_ipc::{Call, Kernel, PageSize};
+use l4_ipc::{Call, Kernel, NoMemory, PageSize};
 use std::alloc::Global;
 use std::marker::Model;
 use std::mem::replace;
@@ -100,6 +100,47 @@ impl Recorder {
             past: Past::new(),
             kept_from: 0,
             history: History::new(alloc),
+            publisher,
+            alloc,
+        };
+        Ok((recorder, board, watches))
+    }
+
+    /// Returns a copy of the kernel and its history in memory of its own. The copy has its own board, which has the same length, and watches
+    /// of that board. Calls that are entered in one of them do not change the other.
+    ///
+    /// Returns `NoMemory` if an allocation fails.
+    pub fn copy(
+        &self,
+        alloc: Global,
+        watches: usize,
+    ) -> Result<(Recorder, Board, Vec<Watch>), NoMemory>
+        ensures { IfOk result
+            (λ r. (r.0.frames ≡ self.now.frames) × (r.0.kernel ≡ self.now.kernel) × (r.0.history ≡ self.now.history)
+            × (r.0.kept_from ≡ self.now.kept_from) × (r.1 ≡ r.0.board) × (vec_len r.2 ≡ watches) × All (IsNewWatch r.0.board) r.2.items) }
+    {
+        let Ok(kernel) = self.kernel.copy() else {
+            return Err(NoMemory);
+        };
+        let Ok(history) = self.history.copy(alloc) else {
+            return Err(NoMemory);
+        };
+        let Ok(mut publisher) = Publisher::new(alloc) else {
+            return Err(NoMemory);
+        };
+        let Ok(board) = publisher.board() else {
+            return Err(NoMemory);
+        };
+        let Ok(watches) = board.watches(alloc, watches) else {
+            return Err(NoMemory);
+        };
+        publisher.publish(self.count() as u64);
+        let recorder = Recorder {
+            frames: self.frames,
+            kernel,
+            past: self.past.copy(),
+            kept_from: self.kept_from,
+            history,
             publisher,
             alloc,
         };

@@ -56,6 +56,31 @@ impl SeatedKernel {
         })
     }
 
+    /// Returns a copy of the kernel, its history and its seats in memory of its own. The number on its board was not looked at yet.
+    ///
+    /// Returns `NoMemory` if an allocation fails.
+    pub fn copy(&self, alloc: Global) -> Result<SeatedKernel, NoMemory>
+        ensures { IfOk result (λ copy. copy ≡ record self.now { seen = 0 }) }
+    {
+        let (recorder, board, mut watches) = match self.recorder.copy(alloc, 1) {
+            Ok(parts) => parts,
+            Err(refusal) => return Err(refusal),
+        };
+        let Some(watch) = watches.pop() else {
+            unreachable!()
+        };
+        let mut numbers = Vec::new(alloc);
+        if numbers.extend_from_slice(self.numbers.as_slice()).is_err() {
+            return Err(NoMemory);
+        }
+        Ok(SeatedKernel {
+            recorder,
+            numbers,
+            board,
+            watch,
+        })
+    }
+
     /// Returns the kernel.
     pub fn kernel(&self) -> &Kernel
         ensures { result.now ≡ self.now.machine }
@@ -68,6 +93,13 @@ impl SeatedKernel {
         ensures { result.now.entries ≡ kept self.now.kept_from self.now.history }
     {
         self.recorder.history()
+    }
+
+    /// Returns the numbers that have their seats.
+    pub fn seats(&self) -> &[u32]
+        ensures { result.now ≡ self.now.numbers }
+    {
+        self.numbers.as_slice()
     }
 
     /// Returns whether the number has its seat. Seats are mostly given in the order of their numbers, from 1 on, so the entry at that index

@@ -1,12 +1,15 @@
 -- Tables and served threads as they are kept, and as a contract sees them.
-use Rattle.std.proofs.Common.{◌≡◌, ℕ, Bool, true, false, cond, not, ◌&&◌, ◌||◌, List, [], ◌∷◌, ◌++◌, Option, Some, None, refl, sym, ap, ◌∙◌}
+use Rattle.std.proofs.Common.{◌≡◌, ℕ, ◌<◌, ◌≤◌, subst, arith, Bool, true, false, cond, not, ◌&&◌, ◌||◌, List, [], ◌∷◌, ◌++◌, Option, Some, None, refl, sym, ap, ◌∙◌}
 use Rattle.std.specs.Option.{unwrap_or}
 use Rattle.std.specs.Map.{lookup}
-use Rattle.std.specs.BTreeMap.{is_at}
-use Rattle.std.specs.Ordering.{nat_cmp, eq_by_cmp, is_eq}
+use Rattle.std.specs.BTreeMap.{is_at, BTreeMap}
+use Rattle.std.specs.BTreeMap.Range.{IsRangeOf, IsEntryInRange, IsLeBy}
+use Rattle.std.specs.declared.ops.Bound.TheVariants.{Included, Unbounded}
+use Rattle.std.specs.Prelude.{slice_get, IfSome, is_some}
+use Rattle.std.specs.Ordering.{nat_cmp, eq_by_cmp, is_eq, is_gt}
 use Rattle.std.specs.declared.cmp.Ordering.{Ordering}
 use Rattle.std.specs.declared.cmp.Ordering.TheVariants.{Less, Equal, Greater}
-use Rattle.std.specs.Cmp.{nat_cmp_total, eq_by_cmp_equiv}
+use Rattle.std.specs.Cmp.{nat_cmp_total, eq_by_cmp_equiv, ranked}
 use Rattle.std.specs.FinMap as fin
 use Rattle.std.specs.FinMap.{nat_cmp-IsAntisymmetric}
 use Rattle.std.specs.FinSet as set
@@ -15,6 +18,7 @@ use Rattle.l4_sigma0.specs.Owners.{Owners}
 use Rattle.l4_pager.specs.declared.regions.Entry.{Entry}
 use Rattle.l4_servers.specs.Servers.{Servers, servers, regions_of, is_served, with_region, with_served, no_longer_served, without}
 use Rattle.l4_pager.specs.Regions.{Regions, no_entries, with_entry}
+use Rattle.l4_servers.specs.Listed.{NoTableFrom, IsNextTable}
 
 -- KEYS
 
@@ -117,3 +121,43 @@ takes_back s o tables served new n view gone =
 -- who was not served before is so again
 pub as_before : (before : Servers) (n : ℕ) → is_served before n ≡ false → no_longer_served (with_served before n) n ≡ before
 as_before before n none = ap (servers before.owners before.tables) (set_as_before before.served n none)
+
+-- THE TABLES FROM A NUMBER ON
+
+not_above : (a b : ℕ) → a ≤ b → is_gt (nat_cmp a b) ≡ false
+not_above a b le = elim (nat_cmp a b) as (λ r. r ≡ nat_cmp a b → is_gt r ≡ false) [
+  | Less ↦ λ e. refl
+  | Equal ↦ λ e. refl
+  | Greater ↦ λ e. absurd (let lt : b < a = ranked a b Greater e in omega (arith, lt, le))
+] refl
+
+from_above : (a b : ℕ) → is_gt (nat_cmp a b) ≡ false → a ≤ b
+from_above a b under = elim (nat_cmp a b) as (λ r. r ≡ nat_cmp a b → is_gt r ≡ false → a ≤ b) [
+  | Less ↦ λ e h. let lt : a < b = ranked a b Less e in omega (arith, lt)
+  | Equal ↦ λ e h. let same : a ≡ b = ranked a b Equal e in omega (arith, same)
+  | Greater ↦ λ e h. absurd (false≢true (sym h))
+] refl under
+
+abbrev pub IsTail : BTreeMap ℕ Regions → ℕ → Tables → Type 0
+IsTail m start tail = IsRangeOf nat_cmp (Included start) Unbounded m tail
+
+pub no_table_from : (s : Servers) (o : Owners) (m : BTreeMap ℕ Regions) (served : set.FinSet nat_cmp) (start : ℕ) (tail : Tables) → servers o (seen m.entries) served ≡ s
+    → IsTail m start tail → tail ≡ [] → NoTableFrom s start
+no_table_from s o m served start tail view range none other from =
+    sym (ap (λ (x : Servers). fin.get x.tables other) view) ∙ got m.entries other ∙ range.5 none other (not_above start other from, tt)
+
+-- the first table of those from a number on
+pub next_table_from : (s : Servers) (o : Owners) (m : BTreeMap ℕ Regions) (served : set.FinSet nat_cmp) (start next : ℕ) (table : Regions) (tail later : Tables) → servers o (seen m.entries) served ≡ s
+    → IsTail m start tail → tail ≡ (next, table) ∷ later → IsNextTable s start next table
+next_table_from s o m served start next table tail later view range is =
+    let first = subst (λ (l : Tables). IfSome (slice_get l 0) (IsEntryInRange nat_cmp (Included start) Unbounded m)) is range.1 in
+    record {
+      there = here next ∙ first.1;
+      «from» = from_above start next first.0.0;
+      least = λ other from below. here other ∙ elim (at other m.entries) as (λ (r : Option Regions). at other m.entries ≡ r → r ≡ None) [
+        | None ↦ λ e. refl
+        | Some x ↦ λ e. absurd (let le : next ≤ other = from_above next other (subst (λ (l : Tables). IfSome (slice_get l 0) (λ p. IsLeBy nat_cmp p.0 other)) is (range.2 other (not_above start other from, tt) (ap is_some e))) in omega (arith, le, below))
+      ] refl;
+    } where
+      here : (n : ℕ) → fin.get s.tables n ≡ at n m.entries
+      here n = sym (ap (λ (x : Servers). fin.get x.tables n) view) ∙ got m.entries n

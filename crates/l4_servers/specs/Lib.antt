@@ -1,2 +1,3 @@
 pub mod Servers
 pub mod Acting
+pub mod Listed

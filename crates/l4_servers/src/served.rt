@@ -1,5 +1,5 @@
 //! The numbers of the served threads.
-ghost use Rattle.std.specs.Prelude.{◌≡◌, MatchResult, not, false};
+ghost use Rattle.std.specs.Prelude.{◌≡◌, IfOk, MatchResult, not, false};
 ghost use Rattle.std.specs.Ordering.{nat_cmp};
 ghost use Rattle.std.specs.List.Sorted.{IsStrictlySortedBy};
 ghost use Rattle.std.specs.FinSet as set;
@@ -37,6 +37,17 @@ impl ServedThreads {
         ServedThreads {
             numbers: Vec::new(alloc),
         }
+    }
+
+    /// Returns a copy in memory of its own, or `NoMemory` if an allocation failed.
+    pub(crate) fn copy(&self, alloc: Global) -> Result<ServedThreads, NoMemory>
+        ensures { IfOk result (λ copy. copy ≡ self.now) }
+    {
+        let mut numbers = Vec::new(alloc);
+        if numbers.extend_from_slice(self.numbers.as_slice()).is_err() {
+            return Err(NoMemory);
+        }
+        Ok(ServedThreads { numbers })
     }
 
     /// Makes a thread served. Returns whether it was not served before. Returns `NoMemory` if an allocation failed,

@@ -79,6 +79,8 @@ impl Servers {
     ghost use Rattle.l4_servers.specs.Servers.{no_servers, regions_of, is_served, with_region, with_served, no_longer_served, without, RegionFails};
     ghost use Rattle.l4_pager.specs.Regions.{CanAdd};
     ghost use Rattle.std.specs.Prelude.{◌≤◌, false};
+    ghost use Rattle.std.specs.FinSet as set;
+    ghost use Rattle.l4_servers.specs.Listed.{NoTableFrom, IsNextTable};
     ghost use Rattle.l4_servers.specs.Acting.{NoneReady, IsFirstReady, Answers, Follows};
     ghost use Rattle.l4_ipc.specs.Reading.{reply_of};
     ghost use Rattle.l4_servers.specs.Servers.{servers};
@@ -102,8 +104,51 @@ impl Servers {
         }
     }
 
+    /// Returns the numbers of the served threads, in rising order.
+    pub fn served(&self) -> &[u32]
+        ensures { set.from_list result.now ≡ self.now.served }
+    {
+        self.served.as_slice()
+    }
+
+    /// Returns the least number of a thread that has a table and is at least `from`, and its table, or `None`.
+    pub fn next_table(&self, from: u32) -> Option<(u32, &RegionPager)>
+        ensures { MatchOption result (NoTableFrom self.now from)
+            (λ next. IsNextTable self.now from next.0 next.1.now) }
+    {
+        let mut tables = self.tables.range(from..);
+        let Some((thread, table)) = tables.next() else {
+            return None;
+        };
+        Some((*thread, table))
+    }
+
+    /// Returns sigma0's table of owners.
+    pub fn owners(&self) -> &Sigma0
+        ensures { result.now ≡ self.now.owners }
+    {
+        &self.owners
+    }
+
+    /// Returns a copy of the tables and of the served threads in memory of its own, or `NoMemory` if an allocation failed.
+    pub fn copy(&self, alloc: Global) -> Result<Servers, NoMemory>
+        ensures { IfOk result (λ copy. copy ≡ self.now) }
+    {
+        let Ok(tables) = self.tables.clone() else {
+            return Err(NoMemory);
+        };
+        let Ok(served) = self.served.copy(alloc) else {
+            return Err(NoMemory);
+        };
+        Ok(Servers {
+            owners: self.owners.copy(),
+            tables,
+            served,
+            guess: self.guess,
+        })
+    }
+
     /// Adds a region to a thread's table. A refused region changes nothing. Errors: those of the table, in its order,
-    /// and then `NoMemory`, which is possible for a thread's first region only.
     /// and then `NoMemory`, which is possible for a thread's first region only.
     pub fn add_region(&mut self, thread: u32, entry: Entry) -> Result<(), RegionRefusal>
         ensures { MatchResult result

@@ -1,9 +1,9 @@
 -- The map of a table of owners, and what sigma0 answers by it.
-use Rattle.std.proofs.Common.{◌≡◌, ◌≢◌, ℕ, zero, suc, ◌+◌, ◌-◌, ◌*◌, ◌^◌, ◌<◌, ◌≤◌, ◌&&◌, ◌==◌, false, nat_le, nat_lt, cond, if◌then◌else◌, List, [], ◌∷◌, Option, Some, None, MatchOption, get_or, inl, inr, refl, sym, ap, subst, ◌∙◌, arith, eq-eqb}
+use Rattle.std.proofs.Common.{◌≡◌, ◌≢◌, ℕ, zero, suc, ◌+◌, ◌-◌, ◌*◌, ◌^◌, ◌<◌, ◌≤◌, ◌⊎◌, ◌&&◌, ◌==◌, true, false, length, nat_le, nat_lt, cond, if◌then◌else◌, List, [], ◌∷◌, Option, Some, None, MatchOption, get_or, inl, inr, refl, sym, ap, subst, ◌∙◌, arith, eq-eqb}
 use Rattle.std.specs.Ordering.{nat_cmp}
 use Rattle.std.specs.Cmp.{unsigned_tied, nat_cmp_total}
 use Rattle.std.specs.FinMap as fin
-use Rattle.std.proofs.lemmas.Bool.Decides.{eqb_tells}
+use Rattle.std.proofs.lemmas.Bool.Decides.{eqb_tells, nat_tests}
 use Rattle.l4_fpage.specs.Rights.{all_rights}
 use Rattle.l4_fpage.specs.Pages.{InBlock, page_log, page_bytes}
 use Rattle.l4_fpage.specs.Fpages.{bytes_of, rights_of}
@@ -12,7 +12,9 @@ use Rattle.l4_msg.specs.declared.items.Item.TheVariants.{Map}
 use Rattle.l4_msg.specs.declared.messages.Message.{Message}
 use Rattle.l4_msg.specs.Protocols.{nothing, one_item, GivesPages}
 use Rattle.l4_sigma0.specs.Owners.{Owners, owner_of, is_in, Wants, MayHave, MayHaveAll, Gives, Answers}
-use Rattle.l4_sigma0.specs.Inside.Tables.{entries_from, map_of, owner_in, AreFree, IsFilled}
+use Rattle.l4_sigma0.specs.Inside.Tables.{entries_from, map_of, owner_in, AreFree, IsFilled, NoneFrom, IsNextIn}
+use Rattle.l4_sigma0.specs.Listed.{NoneOwnedFrom, IsNextOwned}
+use Rattle.std.proofs.lemmas.List.{get_or_past}
 use Rattle.l4_fpage.specs.declared.sizes.PageSize.{PageSize}
 
 differ : (a b : ℕ) → a ≢ b → (a == b) ≡ false
@@ -80,3 +82,34 @@ given size frames old new space m answer first log end base fpage is at within w
             ∙ ap (λ (o : Option ℕ). if is_in first log frame then Some space else o) (sym (owner_is old frame));
       },
     )
+
+-- THE FRAMES THAT HAVE OWNERS
+
+below_or : (a b : ℕ) → (a < b) ⊎ (b ≤ a)
+below_or a b =
+    elim (nat_lt a b) as (λ v. nat_lt a b ≡ v → (a < b) ⊎ (b ≤ a)) [
+      | true ↦ λ t. inl (let lt : a < b = grind (arith, nat_tests) in lt)
+      | false ↦ λ f. inr (let le : b ≤ a = grind (arith, nat_tests) in le)
+    ] refl
+
+pub none_more : (owners : List (Option ℕ)) (start frame : ℕ) → ((other : ℕ) → start ≤ other → other < frame → owner_in owners other ≡ None) → owner_in owners frame ≡ None → (other : ℕ) → start ≤ other → other < frame + 1 → owner_in owners other ≡ None
+none_more owners start frame before here other from below = elim (below_or other frame) [
+  | inl lt ↦ before other from lt
+  | inr le ↦ subst (λ (k : ℕ). owner_in owners k ≡ None) (omega (arith, le, below)) here
+]
+
+pub none_past : (owners : List (Option ℕ)) (start frame : ℕ) → ((other : ℕ) → start ≤ other → other < frame → owner_in owners other ≡ None) → length owners ≤ frame → NoneFrom owners start
+none_past owners start frame before past other from = elim (below_or other frame) [
+  | inl lt ↦ before other from lt
+  | inr le ↦ get_or_past owners other None (omega (arith, le, past))
+]
+
+pub none_owned : (size : PageSize) (frames : ℕ) (owners : List (Option ℕ)) (start : ℕ) → NoneFrom owners start → NoneOwnedFrom (table size frames owners) start
+none_owned size frames owners start none other from = owner_is owners other ∙ none other from
+
+pub next_owned : (size : PageSize) (frames : ℕ) (owners : List (Option ℕ)) (start next owner : ℕ) → IsNextIn owners start next owner → IsNextOwned (table size frames owners) start next owner
+next_owned size frames owners start next owner is = record {
+  owned = owner_is owners next ∙ is.owned;
+  «from» = is.«from»;
+  least = λ other from below. owner_is owners other ∙ is.least other from below;
+}

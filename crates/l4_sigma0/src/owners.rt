@@ -48,7 +48,7 @@ fn frames_of(request: &FrameRequest, size: PageSize) -> Option<Block>
     request.fpage.pages(size)
 }
 
-ghost use Rattle.l4_sigma0.specs.Inside.Tables.{AreFree, IsFilled};
+ghost use Rattle.l4_sigma0.specs.Inside.Tables.{AreFree, IsFilled, NoneFrom, IsNextIn};
 
 /// Returns whether each of these frames has no owner or is owned by the space.
 fn are_free(owners: &[Option<u64>], space: u64, first: usize, end: usize) -> bool
@@ -63,6 +63,19 @@ fn are_free(owners: &[Option<u64>], space: u64, first: usize, end: usize) -> boo
         }
     }
     true
+}
+
+/// Returns the first of these frames that has an owner and is at least `from`, and its owner.
+fn next_owned(owners: &[Option<u64>], from: usize) -> Option<(usize, u64)>
+    ensures { MatchOption result (NoneFrom owners.now from)
+        (λ next. IsNextIn owners.now from next.0 next.1) }
+{
+    for frame in from..owners.len() {
+        if let Some(owner) = owners[frame] {
+            return Some((frame, owner));
+        }
+    }
+    None
 }
 
 /// Makes the space the owner of these frames.
@@ -85,6 +98,7 @@ impl Sigma0 {
     ghost use Rattle.l4_msg.specs.declared.items.Item.TheVariants.{Map};
     ghost use Rattle.l4_msg.specs.declared.messages.Message.{Message as AMessage};
     ghost use Rattle.l4_sigma0.specs.Owners.{Answers, AsksFor, Wants};
+    ghost use Rattle.l4_sigma0.specs.Listed.{NoneOwnedFrom, IsNextOwned};
 
     /// Returns the table of the frames 0 to `frames` - 1 of this size, without owners. `frames` is at most
     /// `MAX_FRAMES`.
@@ -97,6 +111,35 @@ impl Sigma0 {
             frames,
             owners: [None; MAX_FRAMES],
         }
+    }
+
+    /// Returns a copy of the table.
+    pub fn copy(&self) -> Sigma0
+        ensures { result ≡ self.now }
+    {
+        Sigma0 {
+            size: self.size,
+            frames: self.frames,
+            owners: self.owners,
+        }
+    }
+
+    /// Returns the least frame that has an owner and is at least `from`, and its owner, or `None`.
+    pub fn next_owned(&self, from: u32) -> Option<(u32, u64)>
+        ensures { MatchOption result (NoneOwnedFrom self.now from)
+            (λ next. IsNextOwned self.now from next.0 next.1) }
+    {
+        let Some((frame, owner)) = next_owned(&self.owners, from as usize) else {
+            return None;
+        };
+        Some((frame as u32, owner))
+    }
+
+    /// Returns the number of frames.
+    pub fn frames(&self) -> u32
+        ensures { result ≡ self.now.frames }
+    {
+        self.frames
     }
 
     /// Returns the size of pages and frames.
