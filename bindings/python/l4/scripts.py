@@ -318,6 +318,10 @@ class Script:
         else:
             yield self._told(f"{number} waits" if number in self.calls else f"{number} none")
 
+    def _begin_part(self, tokens: _Tokens) -> Iterator[Event]:
+        tokens.end()
+        return iter(())
+
     def _steps(self, tokens: _Tokens) -> Iterator[Event]:
         tokens.end()
         yield self._told(f"steps {self.steps}")
@@ -429,4 +433,6 @@ _COMMANDS: Dict[str, Callable[[Script, _Tokens], Iterator[Event]]] = {
     "name": Script._name,
     "reply": Script._reply,
     "steps": Script._steps,
+    "unordered": Script._begin_part,
+    "finally": Script._begin_part,
 }

@@ -18,7 +18,7 @@ use Rattle.l4_commands.specs.declared.partners.NewSpace.{NewSpace}
 use Rattle.l4_commands.specs.declared.partners.NewSpace.TheVariants.{New, Of}
 use Rattle.l4_commands.specs.declared.requests.Which.TheVariants.{Only, Message}
 use Rattle.l4_commands.specs.declared.requests.Request.{Request}
-use Rattle.l4_commands.specs.declared.requests.Request.TheVariants.{Enter, CreateThread, EndThread, SendPlan, ListPages, TellParent, AddRegion, ServeThread, GiveName, TellReply, TellSteps}
+use Rattle.l4_commands.specs.declared.requests.Request.TheVariants.{Enter, CreateThread, EndThread, SendPlan, ListPages, TellParent, AddRegion, ServeThread, GiveName, TellReply, TellSteps, BeginUnordered, BeginFinally}
 use Rattle.l4_commands.specs.Calls.{create_call, set_pager_call, receive_call, send_call, ipc_call, unmap_call, fault_call, root}
 use Rattle.l4_commands.specs.declared.commands.ScriptFault.{ScriptFault}
 use Rattle.l4_commands.specs.declared.commands.ScriptFault.TheVariants.{UnknownCommand, BadTokens}
@@ -157,6 +157,10 @@ commands_by new_name size names =
     ∷ (codes "reply", (thread_of names ▹ no_more) TellReply)
     -- how many entries the history has
     ∷ (codes "steps", no_more TellSteps)
+    -- the lines from here on have no order, except that the lines of each thread keep theirs; a run executes them as they are written
+    ∷ (codes "unordered", no_more BeginUnordered)
+    -- the lines from here on are answered when no thread can execute its next line
+    ∷ (codes "finally", no_more BeginFinally)
     ∷ []
 
 -- NEW NAMES

@@ -1,8 +1,9 @@
 -- The request of a line (this profile's own).
 use Rattle.std.specs.Prelude.{ℕ, List, [], Option, Some, None, Result, Ok, Err, if◌then◌else◌}
 use Rattle.l4_fpage.specs.declared.sizes.PageSize.{PageSize}
-use Rattle.l4_names.specs.Names.{Names}
+use Rattle.l4_names.specs.Names.{Names, after_giving}
 use Rattle.l4_commands.specs.declared.requests.Request.{Request}
+use Rattle.l4_commands.specs.declared.requests.Request.TheVariants.{GiveName}
 use Rattle.l4_commands.specs.declared.commands.ScriptFault.{ScriptFault}
 use Rattle.l4_commands.specs.declared.commands.ScriptFault.TheVariants.{LineTooLong, CutLine}
 use Rattle.l4_text.specs.declared.lines.Ending.{Ending}
@@ -30,3 +31,8 @@ asked_at size names Whole bytes = if is_silent bytes then Ok None else some_requ
 
 abbrev pub asked_of : PageSize → Names → TextLine → Result (Option Request) Unread
 asked_of size names line = asked_at size names (ending_of line) line.bytes
+
+-- the names after a line that requests this
+abbrev pub names_after : Names → Request → Names
+names_after names (GiveName name number) = after_giving names name number
+names_after names request = names

@@ -4,7 +4,7 @@ ghost use Rattle.l4_fpage.specs.declared.sizes.PageSize.{PageSize as APageSize};
 ghost use Rattle.l4_names.specs.Names.{Names as AllNames};
 ghost use Rattle.l4_text.specs.Tokens.{tokens_of};
 ghost use Rattle.l4_commands.specs.Commands.{asked, command_in, command_of};
-ghost use Rattle.l4_commands.specs.Inside.Asking.{pager_commands};
+ghost use Rattle.l4_commands.specs.Inside.Asking.{pager_commands, part_commands};
 
 use crate::calls::{read_fault, read_ipc, read_receive, read_send};
 use crate::naming::next_new_name;
@@ -66,10 +66,14 @@ const REPLY: &[u8] = b"reply";
 
 const STEPS: &[u8] = b"steps";
 
+const UNORDERED: &[u8] = b"unordered";
+
+const FINALLY: &[u8] = b"finally";
+
 /// The names of all commands.
 pub(crate) const COMMAND_NAMES: &[&[u8]] = &[
     THREAD, SETPAGER, DELETE, RECV, SEND, IPC, DELEGATE, PART, UNMAP, SHOW, PARENT, FAULT, REGION,
-    SERVE, NAME, REPLY, STEPS,
+    SERVE, NAME, REPLY, STEPS, UNORDERED, FINALLY,
 ];
 
 /// `N SPACE PAGER`
@@ -291,6 +295,44 @@ fn steps(line: &[u8]) -> Option<Request<'static>>
     }
 }
 
+/// No tokens.
+#[inline(never)]
+fn unordered(line: &[u8]) -> Option<Request<'static>>
+    ensures { (size : APageSize) (names : AllNames) → result
+        ≡ asked size names (codes "unordered") (tokens_of line.now) }
+{
+    match next_token(line) {
+        None => Some(Request::BeginUnordered),
+        Some(_) => None,
+    }
+}
+
+/// No tokens.
+#[inline(never)]
+fn begin_finally(line: &[u8]) -> Option<Request<'static>>
+    ensures { (size : APageSize) (names : AllNames) → result
+        ≡ asked size names (codes "finally") (tokens_of line.now) }
+{
+    match next_token(line) {
+        None => Some(Request::BeginFinally),
+        Some(_) => None,
+    }
+}
+
+/// Reads a command that begins a part of a plan, from its name and its tokens.
+fn part_command(name: &[u8], rest: &[u8]) -> Result<Request<'static>, ScriptFault>
+    ensures { (size : APageSize) (names : AllNames) → result
+        ≡ command_in (part_commands size names) name.now (tokens_of rest.now) }
+{
+    if name == UNORDERED {
+        return unordered(rest).ok_or(ScriptFault::BadTokens);
+    }
+    if name == FINALLY {
+        return begin_finally(rest).ok_or(ScriptFault::BadTokens);
+    }
+    Err(ScriptFault::UnknownCommand)
+}
+
 /// Reads a command of page faults, pagers, names, replies or the history, from its name and its tokens. If it enters a call, writes the
 /// call into the buffer.
 fn pager_command<'a>(
@@ -320,7 +362,7 @@ fn pager_command<'a>(
     if name == STEPS {
         return steps(rest).ok_or(ScriptFault::BadTokens);
     }
-    Err(ScriptFault::UnknownCommand)
+    part_command(name, rest)
 }
 
 /// Reads the request of a line from its first token and the rest. If the line enters a call, writes the call into the buffer.

@@ -85,6 +85,10 @@ pub enum Request<'a> {
     TellReply(u32),
     /// Prints the number of entries of the history.
     TellSteps,
+    /// Begins the lines without an order. Prints nothing.
+    BeginUnordered,
+    /// Begins the lines that are answered at the end of an order. Prints nothing.
+    BeginFinally,
 }
 
 /// Returns the id of a script's thread: its number, and version 1.

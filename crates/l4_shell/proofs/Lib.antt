@@ -10,3 +10,6 @@ pub mod OneAnswer
 pub mod Lengthened
 pub mod HandingOut
 pub mod Room
+pub mod Quiet
+pub mod OneCall
+pub mod OneState

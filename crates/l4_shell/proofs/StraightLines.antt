@@ -12,8 +12,8 @@ use Rattle.l4_commands.specs.declared.commands.ScriptFault.{ScriptFault}
 use Rattle.l4_commands.specs.declared.commands.ScriptFault.TheVariants.{BadTokens}
 use Rattle.l4_commands.specs.declared.requests.Request.{Request}
 use Rattle.l4_commands.specs.declared.requests.Request.TheVariants.{Enter}
-use Rattle.l4_commands.specs.Requests.{Unread, some_request}
-use Rattle.l4_shell.specs.Sessions.{Session, State, Enters, CarriesOut, names_after, AnswersLine}
+use Rattle.l4_commands.specs.Requests.{Unread, some_request, names_after}
+use Rattle.l4_shell.specs.Sessions.{Session, State, Enters, CarriesOut, AnswersLine}
 
 -- a line is refused
 pub refuses_line : {T : Type 0} (has_told : T → T → List Report → Type 0) (m : State) (line : ℕ) (bytes : List ℕ) (fault : ScriptFault) (q : Result (Option Request) Unread) (code : Refusal) (size : PageSize) (before t : T)

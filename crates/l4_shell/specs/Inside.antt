@@ -1,3 +1,4 @@
+pub mod Alike
 pub mod Scripts
 pub mod Telling
 pub mod Entering

@@ -1,6 +1,7 @@
 pub mod ByLines
 pub mod Delegations
 pub mod Histories
+pub mod Lacking
 pub mod Refusals
 pub mod Room
 pub mod Scripts

@@ -23,13 +23,13 @@ use Rattle.l4_record.specs.Segments.{kept_count}
 use Rattle.l4_record.specs.Sizes.{max_steps}
 use Rattle.l4_record.specs.Seated.{Seated, is_among, with_number, CanEnter, MayEnter, Refuses as RefusesCall}
 use Rattle.l4_commands.specs.declared.requests.Request.{Request}
-use Rattle.l4_commands.specs.declared.requests.Request.TheVariants.{Enter, CreateThread, EndThread, SendPlan, ListPages, TellParent, AddRegion, ServeThread, GiveName, TellReply, TellSteps}
+use Rattle.l4_commands.specs.declared.requests.Request.TheVariants.{Enter, CreateThread, EndThread, SendPlan, ListPages, TellParent, AddRegion, ServeThread, GiveName, TellReply, TellSteps, BeginUnordered, BeginFinally}
 use Rattle.l4_answers.specs.Reports.{Report, RefusedLine, UnreadLine, RefusedAct, Transferred, TimedOut, Waits, Ended, NoneEnded, Page, Shown, Parent, AddedRegion, Named, StepCount, AddsAll}
 use Rattle.l4_answers.specs.Refusals.{Refusal, kernel_refusal}
 use Rattle.l4_shell.specs.Refusals.{script_refusal, plan_refusal, too_many_names, lacks_memory, call_refusal, region_refusal}
-use Rattle.l4_names.specs.Names.{Names, given, after_giving}
+use Rattle.l4_names.specs.Names.{Names, given}
 use Rattle.l4_text.specs.Grammar.{TextLine}
-use Rattle.l4_commands.specs.Requests.{Unread, asked_of}
+use Rattle.l4_commands.specs.Requests.{Unread, asked_of, names_after}
 use Rattle.l4_commands.specs.Calls.{root, send_call, delete_call}
 use Rattle.l4_shell.specs.Delegations.{ArePlanWords, HasNoPlan}
 use Rattle.l4_commands.specs.declared.requests.Which.{Which}
@@ -286,11 +286,6 @@ TellsCount old told new = (count : ℕ) × (old.seen ≤ count) × (count < 2 ^ 
 abbrev pub naming_report : Names → ℕ → List ℕ → ℕ → Report
 naming_report names line name number = if is_some (given names name number) then Named number else RefusedLine line too_many_names
 
--- the names after a line that requests this
-abbrev pub names_after : Names → Request → Names
-names_after names (GiveName name number) = after_giving names name number
-names_after names request = names
-
 -- LINES
 
 -- the request of a line was executed where threads have these names, with these reports
@@ -306,6 +301,8 @@ CarriesOut names old line (ServeThread thread) told new = ServesThread old line 
 CarriesOut names old line (GiveName name thread) told new = (told ≡ naming_report names line name thread ∷ []) × (new ≡ old)
 CarriesOut names old line (TellReply thread) told new = (told ≡ reply_answer old.machine line thread ∷ []) × (new ≡ old)
 CarriesOut names old line TellSteps told new = TellsCount old told new
+CarriesOut names old line BeginUnordered told new = (told ≡ []) × (new ≡ old)
+CarriesOut names old line BeginFinally told new = (told ≡ []) × (new ≡ old)
 
 -- the state of a script between two lines: its session, and the names of its threads
 pub record State : Type 0 where

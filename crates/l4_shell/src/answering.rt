@@ -1,5 +1,5 @@
 //! Answers lines. Most lines are `recv`, `send`, `ipc` and `fault`, whose tokens are read directly into their call.
-ghost use Rattle.std.specs.Prelude.{◌≡◌, ◌∷◌, List, [], Option, ok_or, option_map};
+ghost use Rattle.std.specs.Prelude.{◌≡◌, ◌∷◌, List, [], Option, IfOk, ok_or, option_map};
 ghost use Rattle.l4_answers.specs.Reports.{Report, AddsAll};
 ghost use Rattle.l4_text.specs.Tokens.{tokens_of};
 ghost use Rattle.l4_text.specs.declared.lines.Ending.TheVariants.{Whole};
@@ -7,7 +7,6 @@ ghost use Rattle.l4_commands.specs.declared.commands.ScriptFault.TheVariants.{Ba
 ghost use Rattle.l4_commands.specs.declared.requests.Request.TheVariants.{Enter};
 ghost use Rattle.l4_commands.specs.declared.requests.Request.{Request};
 ghost use Rattle.l4_commands.specs.Commands.{command_of};
-ghost use Rattle.l4_text.specs.Grammar.{is_comment};
 ghost use Rattle.l4_commands.specs.Requests.{some_request, asked_at};
 ghost use Rattle.l4_record.specs.Segments.{kept};
 ghost use Rattle.l4_shell.specs.Sessions.{state, AnswersLine};
@@ -16,22 +15,16 @@ use crate::refusals::script_code;
 use crate::session::Session;
 use l4_answers::Sink;
 use l4_commands::{
-    CallPlaces, ScriptFault, command_name, is_fault, is_ipc, is_recv, is_send, read_fault,
-    read_ipc, read_receive, read_send, request,
+    CallPlaces, ScriptFault, command_name, is_comment, is_fault, is_ipc, is_recv, is_send,
+    read_fault, read_ipc, read_receive, read_send, request,
 };
 use l4_fpage::PageSize;
-use l4_ipc::Call;
+use l4_ipc::{Call, NoMemory};
 use l4_names::Names;
 use l4_record::{History, SeatedKernel};
 use l4_servers::Servers;
 use l4_text::Ending;
-
-/// Returns whether a line's first byte is `#`.
-fn is_comment(line: &[u8]) -> bool
-    ensures { result ≡ is_comment line.now }
-{
-    !line.is_empty() && line[0] == b'#'
-}
+use std::alloc::Global;
 
 impl Session {
     /// Answers a line whose call was read: enters the call of the thread. If no thread was read, refuses the line.
@@ -83,6 +76,21 @@ impl Script {
             calls: CallPlaces::new(),
             names: Names::new(),
         }
+    }
+
+    /// Returns a copy in memory of its own, or `NoMemory` if an allocation fails.
+    pub(crate) fn copy(&self, alloc: Global) -> Result<Script, NoMemory>
+        ensures { IfOk result (λ copy. (copy.session.kernel ≡ record self.now.session.kernel { seen = 0 })
+            × (copy.session.servers ≡ self.now.session.servers) × (copy.names ≡ self.now.names)) }
+    {
+        let Ok(session) = self.session.copy(alloc) else {
+            return Err(NoMemory);
+        };
+        Ok(Script {
+            session,
+            calls: CallPlaces::new(),
+            names: self.names.copy(),
+        })
     }
 
     /// Returns the entries of the history that are kept.

@@ -1,8 +1,8 @@
 //! Answers the lines of scripts whose caller reads them.
-ghost use Rattle.std.specs.Prelude.{◌≡◌, ◌≤◌, List, IfSome};
+ghost use Rattle.std.specs.Prelude.{◌≡◌, ◌≤◌, List, IfOk, IfSome};
 ghost use Rattle.l4_answers.specs.Reports.{Report, AddsAll};
 ghost use Rattle.l4_fpage.specs.Pages.{max_frames};
-ghost use Rattle.l4_shell.specs.ByLines.{state_of, IsFirst};
+ghost use Rattle.l4_shell.specs.ByLines.{state_of, unread, IsFirst};
 ghost use Rattle.l4_commands.specs.Requests.{asked_at};
 ghost use Rattle.l4_shell.specs.Sessions.{AnswersLine};
 
@@ -10,7 +10,8 @@ use crate::answering::Script;
 use crate::by_lines::ScriptRun;
 use crate::running::booted;
 use l4_answers::Sink;
-use l4_ipc::PageSize;
+use l4_ipc::{Kernel, NoMemory, PageSize};
+use l4_names::Names;
 use l4_record::History;
 use l4_servers::Servers;
 use l4_text::Ending;
@@ -29,6 +30,44 @@ impl ScriptRun {
         Some(ScriptRun {
             script: Script::new(kernel, Servers::new(alloc, frames, size)),
         })
+    }
+
+    /// Returns a copy between the same lines, in memory of its own, or `NoMemory` if an allocation fails.
+    pub fn copy(&self, alloc: Global) -> Result<ScriptRun, NoMemory>
+        ensures { IfOk result (λ copy. state_of copy ≡ unread (state_of self.now)) }
+    {
+        let Ok(script) = self.script.copy(alloc) else {
+            return Err(NoMemory);
+        };
+        Ok(ScriptRun { script })
+    }
+
+    /// Returns the kernel.
+    pub fn kernel(&self) -> &Kernel
+        ensures { result.now ≡ (state_of self.now).session.machine }
+    {
+        self.script.session.kernel.kernel()
+    }
+
+    /// Returns the served threads and their tables.
+    pub fn servers(&self) -> &Servers
+        ensures { result.now ≡ (state_of self.now).session.servers }
+    {
+        &self.script.session.servers
+    }
+
+    /// Returns the numbers that have their seats.
+    pub fn seats(&self) -> &[u32]
+        ensures { result.now ≡ (state_of self.now).session.numbers }
+    {
+        self.script.session.kernel.seats()
+    }
+
+    /// Returns the names of threads.
+    pub fn names(&self) -> &Names
+        ensures { result.now ≡ (state_of self.now).names }
+    {
+        &self.script.names
     }
 
     /// Returns the history of the lines that were answered.

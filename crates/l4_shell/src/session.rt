@@ -1,13 +1,14 @@
 //! A script's kernel and its servers, and the execution of a line's request on them.
-ghost use Rattle.std.specs.Prelude.{◌≡◌, ◌⊎◌, ◌∷◌, List, [], false, MatchOption};
+ghost use Rattle.std.specs.Prelude.{◌≡◌, ◌⊎◌, ◌∷◌, List, [], false, IfOk, MatchOption};
 ghost use Rattle.l4_answers.specs.Reports.{Report, AddsAll};
-ghost use Rattle.l4_shell.specs.Sessions.{session, Enters, Creates, ServesThread, AddsRegion, place_reports, ListsBelow, Shows, parent_answer, reply_answer, Delegates, TellsCount, CarriesOut, naming_report, names_after, Refuses, LacksRoom};
+ghost use Rattle.l4_shell.specs.Sessions.{session, Enters, Creates, ServesThread, AddsRegion, place_reports, ListsBelow, Shows, parent_answer, reply_answer, Delegates, TellsCount, CarriesOut, naming_report, Refuses, LacksRoom};
 ghost use Rattle.l4_record.specs.Segments.{kept};
 ghost use Rattle.l4_shell.specs.Inside.Telling.{TellsCall, TellsRefusal};
 ghost use Rattle.l4_pager.specs.Serving.{waiting};
 ghost use Rattle.l4_servers.specs.Servers.{Servers as AllServers, is_served, without};
 ghost use Rattle.l4_names.specs.Names.{after_giving};
 ghost use Rattle.l4_commands.specs.Calls.{root, delete_call};
+ghost use Rattle.l4_commands.specs.Requests.{names_after};
 
 use crate::delegations::plan_words;
 use crate::refusals::{call_code, memory_code, plan_code, region_code, too_many_names_code};
@@ -15,12 +16,13 @@ use crate::serving::tell_appended;
 use l4_answers::Sink;
 use l4_commands::{Partner, ROOT, Request, Which, delete_call, send_call};
 use l4_fpage::PageSize;
-use l4_ipc::{Call, Kernel};
+use l4_ipc::{Call, Kernel, NoMemory};
 use l4_msg::Region;
 use l4_names::{Name, Names};
 use l4_pager::{Entry, wait};
 use l4_record::{Appended, History, SeatedKernel};
 use l4_servers::Servers;
+use std::alloc::Global;
 
 /// The session of a script: the kernel, the served threads, the buffer for the calls of served threads, and the buffer for what a call
 /// appended to the history. Lines reuse both buffers.
@@ -145,6 +147,20 @@ impl Session {
             act: wait(),
             appended: Appended::new(),
         }
+    }
+
+    /// Returns a copy in memory of its own, or `NoMemory` if an allocation fails.
+    pub(crate) fn copy(&self, alloc: Global) -> Result<Session, NoMemory>
+        ensures { IfOk result (λ copy. (copy.kernel ≡ record self.now.kernel { seen = 0 })
+            × (copy.servers ≡ self.now.servers)) }
+    {
+        let Ok(kernel) = self.kernel.copy(alloc) else {
+            return Err(NoMemory);
+        };
+        let Ok(servers) = self.servers.copy(alloc) else {
+            return Err(NoMemory);
+        };
+        Ok(Session::new(kernel, servers))
     }
 
     /// Returns the kernel's page size.
@@ -364,6 +380,8 @@ impl Session {
             Request::GiveName(name, number) => give_name(line, name, number, names, sink),
             Request::TellReply(thread) => tell_reply(self.kernel.kernel(), line, thread, sink),
             Request::TellSteps => tell_count(&mut self.kernel, sink),
+            Request::BeginUnordered => {}
+            Request::BeginFinally => {}
         }
     }
 }

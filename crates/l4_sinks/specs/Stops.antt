@@ -46,7 +46,9 @@ pager_shape_of name =
     else (if is_word (codes "name") name then just (NewName ∷ ThreadNumber ∷ [])
     else (if is_word (codes "reply") name then just (ThreadNumber ∷ [])
     else (if is_word (codes "steps") name then just []
-    else None)))))
+    else (if is_word (codes "unordered") name then just []
+    else (if is_word (codes "finally") name then just []
+    else None)))))))
 
 -- by the command's name; None where there is no such command
 abbrev pub shape_of : List ℕ → Option Shape

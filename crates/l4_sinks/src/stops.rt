@@ -166,6 +166,12 @@ fn pager_form(name: &[u8]) -> Option<Form>
     if is(name, b"steps") {
         return of_kinds(&[], Rest::Nothing);
     }
+    if is(name, b"unordered") {
+        return of_kinds(&[], Rest::Nothing);
+    }
+    if is(name, b"finally") {
+        return of_kinds(&[], Rest::Nothing);
+    }
     None
 }
 

@@ -356,6 +356,12 @@ class Shell:
         else:
             self.out.append(f"{number} {reply_text(thread.reply)}")
 
+    def do_unordered(self, tokens):
+        tokens.end()
+
+    def do_finally(self, tokens):
+        tokens.end()
+
     def do_steps(self, tokens):
         tokens.end()
         self.out.append(f"steps {self.steps}")

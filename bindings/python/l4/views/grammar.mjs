@@ -4,7 +4,7 @@ const COMMANDS = {
   thread: "thread new|thread pager", setpager: "thread pager", delete: "thread", recv: "thread partner window", send: "thread partner message",
   ipc: "thread partner partner timeouts window message", delegate: "thread partner number number number rights", part: "thread partner number number number number rights",
   unmap: "thread number fpages", fault: "thread number number rights", region: "thread number number number rights", serve: "thread",
-  show: "thread number number", parent: "thread number", name: "name thread", reply: "thread", steps: "",
+  show: "thread number number", parent: "thread number", name: "name thread", reply: "thread", steps: "", unordered: "", finally: "",
 };
 const MOST_WORDS = 64, MOST_THREADS = 1 << 18, MOST_LABELS = 1 << 16;
 const WORDS = ["nil", "any", "new", "all", "none", "never", "zero", "tag", "map", "grant"];

@@ -8,3 +8,7 @@ use Rattle.l4_commands.specs.declared.requests.Request.{Request}
 -- the rows of page faults, of pagers, of names, of replies and of the history
 abbrev pub pager_commands : PageSize → Names → List (List ℕ × (List (List ℕ) → Option Request))
 pager_commands size names = drop 11 (commands size names)
+
+-- the rows that begin a part of a plan
+abbrev pub part_commands : PageSize → Names → List (List ℕ × (List (List ℕ) → Option Request))
+part_commands size names = drop 17 (commands size names)

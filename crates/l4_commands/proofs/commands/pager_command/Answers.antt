@@ -18,3 +18,6 @@ returns-then-eq-3 c = λ size. let e = c.reply.ensures size in search rules
 
 pub returns-then-eq-4 : goal.returns-then-eq-4
 returns-then-eq-4 c = λ size. let e = c.steps.ensures size c.args.names.now in search rules
+
+pub returns : goal.returns
+returns c = λ size. let e = c.part_command.ensures size c.args.names.now in search rules
