@@ -1,0 +1,5 @@
+pub mod Prefixes
+pub mod Ends
+pub mod Listing
+pub mod Same
+pub mod Writing

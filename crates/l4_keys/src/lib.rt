@@ -1,0 +1,12 @@
+//! The words by which a state of a kernel, of its servers and of names is recognized: two states with the same words are equal.
+#![tactic(auto)]
+
+mod kernels;
+mod names;
+mod parts;
+mod servers;
+
+pub use kernels::put_kernel;
+pub use names::put_names;
+pub use parts::{put_counted, put_counts};
+pub use servers::put_servers;
