@@ -9,4 +9,4 @@ mod testing;
 
 pub use copying::{Copied, copy_script};
 pub use outcomes::{Difference, Failure, Fault, Passed};
-pub use testing::test_script;
+pub use testing::{answered, test_script};

@@ -86,12 +86,7 @@ fn close(alloc: Global, due: Option<&Due>) -> Result<(), Failure>
 }
 
 /// The text of the answers to a line. None if there is not enough memory.
-pub(crate) fn answered(
-    alloc: Global,
-    run: &mut ScriptRun,
-    number: u64,
-    line: &[u8],
-) -> Option<Vec<u8>>
+pub fn answered(alloc: Global, run: &mut ScriptRun, number: u64, line: &[u8]) -> Option<Vec<u8>>
     ensures { IfSome result
         (λ text. HasAnswers (state_of run.old) number line.now text.items (state_of run.new)) }
 {

@@ -1,0 +1,11 @@
+pub mod Leaving
+pub mod Noting
+pub mod Finding
+pub mod Grouping
+pub mod PlanLines
+pub mod Filing
+pub mod Turning
+pub mod InTurn
+pub mod Stepping
+pub mod Sticking
+pub mod Adding

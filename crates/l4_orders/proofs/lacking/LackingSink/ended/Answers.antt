@@ -1,0 +1,9 @@
+use Rattle.std.proofs.Common.{refl, ap, ◌∙◌}
+use Rattle.std.specs.Option.{option_copied}
+use Rattle.l4_answers.specs.Reports.{Ended}
+use Rattle.l4_orders.specs.Inside.Lacking.{then_lack}
+use Rattle.l4_orders.proofs.Noting.{noted_more, noted_other}
+use Rattle.l4_orders.proofs.lacking.LackingSink.ended.Goals as goal
+
+pub returns : goal.returns
+returns c = λ first told h. noted_other first c.args.self.now told (Ended c.args.number (option_copied c.args.reply)) refl h

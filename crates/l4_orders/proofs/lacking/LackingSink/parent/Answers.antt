@@ -1,0 +1,8 @@
+use Rattle.std.proofs.Common.{refl, ap, ◌∙◌}
+use Rattle.l4_answers.specs.Reports.{Parent}
+use Rattle.l4_orders.specs.Inside.Lacking.{then_lack}
+use Rattle.l4_orders.proofs.Noting.{noted_more, noted_other}
+use Rattle.l4_orders.proofs.lacking.LackingSink.parent.Goals as goal
+
+pub returns : goal.returns
+returns c = λ first told h. noted_other first c.args.self.now told (Parent c.args.mapping) refl h

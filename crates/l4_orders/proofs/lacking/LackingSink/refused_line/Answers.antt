@@ -1,0 +1,9 @@
+use Rattle.std.proofs.Common.{refl, ap, ◌∙◌}
+use Rattle.l4_answers.specs.Reports.{RefusedLine}
+use Rattle.l4_orders.specs.Inside.Lacking.{lack_of_code, then_lack}
+use Rattle.l4_orders.proofs.Noting.{noted_more, noted_other}
+use Rattle.l4_orders.proofs.lacking.LackingSink.refused_line.Goals as goal
+
+pub returns : goal.returns
+returns c = λ first told h.
+    noted_more first c.args.self.now _ told (RefusedLine c.args.line c.args.code.now) h (c.note.ensures ∙ ap (then_lack c.args.self.now.lack) (c.lack_of_code.ensures ∙ ap lack_of_code c.name.ensures))

@@ -1,0 +1,45 @@
+-- The outcomes of all orders of a plan (this profile's own).
+use Rattle.std.specs.Prelude.{◌≡◌, ℕ, length, min, OnOk, List}
+use Rattle.std.specs.List.{All}
+use Rattle.l4_fpage.specs.declared.sizes.PageSize.{PageSize}
+use Rattle.l4_ipc.specs.Machine.{Machine, IsBoot}
+use Rattle.l4_answers.specs.Reports.{Report}
+use Rattle.l4_shell.specs.Lacking.{LacksNothing}
+use Rattle.l4_shell.specs.Sessions.{State, first_state}
+use Rattle.l4_merges.specs.declared.exploring.Explored.{Explored}
+use Rattle.l4_merges.specs.Orders.{IsOrder, IsSound, AreDistinct, AreOrders, FindsEnd, most_orders}
+use Rattle.l4_orders.specs.declared.plans.Plan.{Plan}
+use Rattle.l4_orders.specs.Plans.{none_gone}
+use Rattle.l4_orders.specs.Witnesses.{IsWitness}
+use Rattle.l4_orders.specs.Turns.{PlanPoint, point, AnswersInTurn, may_turn, Turns, HasOutcome}
+
+-- the lines before `unordered` were answered in their order over a machine at boot, and no thread has executed any of its lines
+pub record IsStart (frames : ℕ) (size : PageSize) (plan : Plan) (start : PlanPoint) : Type 0 where
+  pub boot : Machine
+  pub boots : IsBoot frames boot
+  pub sized : boot.size ≡ size
+  pub told : List Report
+  pub after : State
+  pub answers : AnswersInTurn (first_state frames boot) 1 plan.first.items told after
+  pub well : LacksNothing told
+  pub is : start ≡ point plan after (none_gone plan)
+
+-- the outcome of every order was found
+abbrev pub FindsAll : PlanPoint → Explored → Type 0
+FindsAll start explored = (order : List ℕ) (end : PlanPoint) → IsOrder may_turn Turns start order end → FindsEnd HasOutcome end explored.found.items
+
+-- this is the number of all orders, or the greatest number that is counted if there are more
+abbrev pub CountsAll : PlanPoint → Explored → Type 0
+CountsAll start explored =
+    (orders : List (List ℕ)) × AreOrders may_turn Turns start orders × (explored.orders ≡ min (length orders) most_orders)
+
+-- Each outcome has an order that produces it, whose script is a run with this outcome, and none was found twice. If the search ended by itself, the outcome of every order was found,
+-- and the orders were counted.
+pub record FindsOrders (frames : ℕ) (size : PageSize) (plan : Plan) (explored : Explored) : Type 0 where
+  pub start : PlanPoint
+  pub starts : IsStart frames size plan start
+  pub witnesses : All (IsWitness frames size plan) explored.found.items
+  pub sound : IsSound may_turn Turns HasOutcome start explored.found.items
+  pub distinct : AreDistinct explored.found.items
+  pub complete : OnOk explored.ended (FindsAll start explored)
+  pub counted : OnOk explored.ended (CountsAll start explored)
