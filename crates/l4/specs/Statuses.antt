@@ -3,6 +3,8 @@ use Rattle.std.specs.Prelude.{ℕ, Bool, Result, Ok, Err, is_some, if◌then◌e
 use Rattle.l4_expectations.specs.declared.outcomes.Failure.{Failure}
 use Rattle.l4_expectations.specs.declared.outcomes.Failure.TheVariants.{Differs, Malformed, Stopped as StoppedTest}
 use Rattle.l4_expectations.specs.declared.outcomes.Passed.{Passed}
+use Rattle.l4_merges.specs.declared.exploring.GaveUp.{GaveUp}
+use Rattle.l4_merges.specs.declared.exploring.GaveUp.TheVariants.{Bound, Memory, Full}
 use Rattle.l4_programs.specs.Statuses.{run_status}
 use Rattle.l4_plan_lines.specs.Answers.{is_proved}
 use Rattle.l4_plan_lines.specs.declared.answers.Answer.{Answer}
@@ -26,6 +28,13 @@ test_status (Ok passed) = 0
 test_status (Err (Differs difference)) = 1
 test_status (Err (Malformed number fault)) = 2
 test_status (Err (StoppedTest fault)) = run_status fault
+
+-- orders: 1 where not every order was followed, 4 where memory ran out
+abbrev pub orders_status : Result (Unit {0}) GaveUp → ℕ
+orders_status (Ok done) = 0
+orders_status (Err Bound) = 1
+orders_status (Err Full) = 1
+orders_status (Err Memory) = 4
 
 -- judge: 1 where the answers differ, 2 where the list is invalid
 abbrev pub judged_status : Result Bool JudgeFault → ℕ

@@ -6,6 +6,7 @@
 //! opened; 3 if a read or a write failed; 4 if there was no memory.
 #![tactic(auto)]
 
+mod ordered;
 mod recorded;
 mod reports;
 mod tested;
@@ -34,6 +35,7 @@ use l4_sinks::{Ended, Outputs, Style, answer_script};
 use l4_step_lines::{Fault, JudgeFault, judge};
 use l4_symbols::write_words;
 use l4_text::{RunFault, ScriptReader};
+use ordered::{Wanted, print_orders};
 use recorded::run_to;
 use reports::{report_no_plan, report_no_thread, report_refused, report_unproved};
 use std::io::{Read, Write};
@@ -51,7 +53,7 @@ const REFUSED: u8 = 1;
 const DIFFERS: u8 = 1;
 
 /// Opens the file, or standard input if no file is named. If the file cannot be opened, reports this and returns the exit status.
-fn opened<R: Files + Input + Eprint>(
+pub(crate) fn opened<R: Files + Input + Eprint>(
     rt: &R,
     file: Option<&str>,
 ) -> Result<WatchedReader<ScriptReader<R::Reader, R::File>>, u8>
@@ -417,6 +419,12 @@ fn execute<R: AllocGlobal + Files + Input + Print + Eprint>(rt: &R, asked: Optio
                 test_files(rt, files.as_slice(), tap)
             }
         }
+        Options::Orders {
+            plan,
+            most,
+            witness,
+            brief,
+        } => print_orders(rt, &plan, most, Wanted { witness, brief }),
         Options::Encode(words) => print_words(rt, words.as_slice()),
         Options::Show(text) => show(rt, text.as_str()),
     }

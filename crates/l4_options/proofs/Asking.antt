@@ -26,7 +26,7 @@ use Rattle.l4_options.specs.Ranges.{AreStepsInRange, IsFrameCount, IsInRange}
 use Rattle.l4_options.specs.Spelled.{AreFramesIn, decimal_of, frame_count_of, spelled_or}
 use Rattle.l4_options.specs.declared.requests.OptionFault.{OptionFault}
 use Rattle.l4_options.specs.declared.requests.Options.{Options}
-use Rattle.l4_options.specs.declared.requests.Options.TheVariants.{Run, History, Judge, Why, Plan, Check, Decode, Encode, Test, Show}
+use Rattle.l4_options.specs.declared.requests.Options.TheVariants.{Run, History, Judge, Why, Plan, Check, Decode, Encode, Test, Orders, Show}
 use Rattle.l4_options.specs.declared.requests.StepOptions.{StepOptions}
 use Rattle.l4_options.specs.declared.requests.StepOptions.TheVariants.{Run as RunSteps, Show as ShowText}
 
@@ -133,6 +133,7 @@ asks_in_range name found (Check region size) asks = tt
 asks_in_range name found (Decode words reading size) asks = tt
 asks_in_range name found (Encode words) asks = tt
 asks_in_range name found (Test files tap write) asks = tt
+asks_in_range name found (Orders plan most witness brief) asks = frames_fit found plan.frames asks.1.frames
 asks_in_range name found (Show text) asks = tt
 
 text_in_range : (o : Options) → IsText o → IsInRange o
@@ -145,6 +146,7 @@ text_in_range (Check region size) text = tt
 text_in_range (Decode words reading size) text = tt
 text_in_range (Encode words) text = tt
 text_in_range (Test files tap write) text = tt
+text_in_range (Orders plan most witness brief) text = absurd text
 text_in_range (Show text) is = tt
 
 one_in_range : (words : List Text) (o : Options) → IsAsked words o → IsInRange o

@@ -8,9 +8,9 @@ use Rattle.clap.specs.Simple.{App, Shape, new_rule, new_shape, matches_of, subco
 use Rattle.clap.specs.Walk.{Row, Rule, Text, first_of}
 use Rattle.clap.specs.declared.builder.action.ArgAction.TheVariants.{Set, Append, SetTrue}
 use Rattle.clap.specs.declared.error.kind.ErrorKind.TheVariants.{DisplayHelp, DisplayVersion}
-use Rattle.l4_options.specs.Spelled.{AreEncodedIn, AreFilesIn, AreFramesIn, AreNumbersIn, IsNumberAt, IsReadingIn, IsRegionIn, IsScriptIn, IsSizeIn, is_on}
+use Rattle.l4_options.specs.Spelled.{AreEncodedIn, AreFilesIn, AreFramesIn, AreNumbersIn, IsChosenAt, IsCountAt, IsNumberAt, IsReadingIn, IsRegionIn, IsScriptIn, IsSizeIn, is_on}
 use Rattle.l4_options.specs.declared.requests.Options.{Options}
-use Rattle.l4_options.specs.declared.requests.Options.TheVariants.{Run, History, Judge, Why, Plan, Check, Decode, Encode, Test, Show}
+use Rattle.l4_options.specs.declared.requests.Options.TheVariants.{Run, History, Judge, Why, Plan, Check, Decode, Encode, Test, Orders, Show}
 use Rattle.l4_options.specs.declared.requests.StepOptions.{StepOptions}
 use Rattle.l4_options.specs.declared.requests.StepOptions.TheVariants.{Run as RunSteps, Show as ShowText}
 
@@ -74,11 +74,14 @@ encode_command = command (codes "encode") (needed_words (codes "tokens") ∷ opt
 abbrev pub test_command : Shape
 test_command = command (codes "test") (needed_words (codes "files") ∷ switch (codes "tap") ∷ switch (codes "write") ∷ [])
 
+abbrev pub orders_command : Shape
+orders_command = command (codes "orders") (script_rules (option (codes "most") ∷ option (codes "witness") ∷ switch (codes "outcomes") ∷ []))
+
 -- the commands of l4
 abbrev pub l4_commands : List Shape
 l4_commands =
     run_command ∷ history_command ∷ judge_command ∷ why_command ∷ region_command (codes "plan") ∷ region_command (codes "check")
-    ∷ decode_command ∷ encode_command ∷ test_command ∷ []
+    ∷ decode_command ∷ encode_command ∷ test_command ∷ orders_command ∷ []
 
 -- the program l4, which takes one of its commands
 abbrev pub l4_program : App
@@ -114,6 +117,9 @@ Asks name found (Encode words) = (name ≡ codes "encode") × AreEncodedIn found
 Asks name found (Test files tap write) =
     (name ≡ codes "test") × AreFilesIn found (map string_bytes files.items) × (tap ≡ is_on found (codes "tap")) × (write ≡ is_on found (codes "write"))
     × (tap && write ≡ false)
+Asks name found (Orders plan most witness brief) =
+    (name ≡ codes "orders") × IsScriptIn found plan × IsCountAt found (codes "most") most × IsChosenAt found (codes "witness") witness
+    × (brief ≡ is_on found (codes "outcomes"))
 Asks name found (Show text) = ⊥
 
 -- the words ask for a text: the usage or the version

@@ -9,6 +9,7 @@ ghost use Rattle.l4_options.specs.Ranges.{IsInRange};
 
 use crate::encoding::{encode_options, of_tokens};
 use crate::help::{ABOUT, CHECK, DECODE, HISTORY, JUDGE, PLAN, SCRIPT, WHY};
+use crate::ordering::{of_orders, orders_options};
 use crate::requests::{OptionFault, Options};
 use crate::testing::{of_files, test_options};
 use crate::values::{
@@ -166,7 +167,8 @@ fn known<'a>(alloc: Global) -> Result<Command<'a>, AllocError>
         )?)?
         .subcommand(of_words(alloc)?)?
         .subcommand(of_tokens(alloc)?)?
-        .subcommand(of_files(alloc)?)
+        .subcommand(of_files(alloc)?)?
+        .subcommand(of_orders(alloc)?)
 }
 
 /// The rights among the words of a plan or a check that were taken for an option, as the word and as it can be written.
@@ -351,6 +353,9 @@ fn command_options(
     if is_word(name, "test") {
         return test_options(alloc, matches);
     }
+    if is_word(name, "orders") {
+        return orders_options(alloc, matches);
+    }
     Err(OptionFault::Memory)
 }
 
@@ -373,7 +378,7 @@ fn requested<'a, S: AsStr>(alloc: Global, words: &'a [S]) -> Result<Options, Opt
 
 /// Reads the words of the command line, the program's name first:
 /// `l4 run [FILE] [--frames N] [--strict] [--explain] [--number] [--moves] [--history-to SEGMENTS]`, `l4 history [FILE] [--frames N] [--strict] [--answers]`,
-/// `l4 judge [FILE] [--frames N] [--all]`, `l4 why THREAD PAGE [FILE] [--frames N] [--strict]`, `l4 plan SOURCE TARGET COUNT RIGHTS`, `l4 check` with the same words, `l4 decode [--as READING] WORD..`, `l4 encode [--as KIND] TOKEN..`, `l4 test FILE.. [--tap] [--write]`, each with
+/// `l4 judge [FILE] [--frames N] [--all]`, `l4 why THREAD PAGE [FILE] [--frames N] [--strict]`, `l4 plan SOURCE TARGET COUNT RIGHTS`, `l4 check` with the same words, `l4 decode [--as READING] WORD..`, `l4 encode [--as KIND] TOKEN..`, `l4 test FILE.. [--tap] [--write]`, `l4 orders [FILE] [--frames N] [--most N] [--witness K] [--outcomes]`, each with
 /// `--page-size BYTES` where that is wanted, `--help`, `help` or `--version`. N is 256 and BYTES 4096 where they are left out; READING is
 /// message, fpage, window or id.
 ///

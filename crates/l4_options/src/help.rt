@@ -179,6 +179,37 @@ Exit status: 0 if all scripts pass, or all copies are written, 1 if an answer di
 or a script is invalid or FILE cannot be opened, 3 if a read or a write failed, 4
 if there was not enough memory. With several files, the greatest of their statuses.";
 
+pub(crate) const ORDERS: &str = "\
+Reads a plan from FILE, or from standard input if FILE is omitted: a script with the
+lines 'unordered' and 'finally'. Runs the lines before 'unordered' in their order.
+Then lets the threads run their lines in every possible order, in which the lines of
+each thread keep theirs. At the end of an order, answers the queries after 'finally'.
+Prints every outcome that some order has:
+
+  outcome K                  the answers follow, with the line numbers of the
+                             outcome's script
+  stuck N L                  at the end of the order, thread N waits, or does not
+                             exist, and its next line is line L of the plan
+  order L L ..               an order that produces the outcome: line numbers
+  N outcomes, M orders, S states
+                             every order was followed: there are M orders, with N
+                             different outcomes; S states were visited
+  N outcomes, S states, incomplete: WORD
+                             not every order was followed: S states are the most
+                             (most), memory ran out (memory), or the history of
+                             an order is full (history). The outcomes are correct,
+                             but there may be more
+
+A line belongs to the thread that makes its call: root (2) for thread, setpager and
+delete, and P for region P and serve P. A thread runs its next line, with all steps
+and acts of served threads that follow, unless it waits or does not exist. Only
+show, parent and reply are allowed after 'finally', and none of them before it.
+'l4 run' executes a plan in the order in which it is written.
+
+Exit status: 0 every order was followed; 1 not every order; 2 invalid command line,
+file cannot be opened, or a line cannot be part of a plan; 3 read or write failed;
+4 out of memory.";
+
 pub(crate) const ENCODE: &str = "\
 Prints the words that tokens stand for. Without --as, or with --as message, the
 tokens are a message: the tag, then the untyped words, and then the items. Pages
@@ -285,6 +316,8 @@ lines that begin with #, are skipped.
                          ended
   steps                  prints the number of steps so far: calls that started,
                          transfers and expiries
+  unordered, finally     begin parts of a plan (see l4 orders --help); they do
+                         nothing here
 
 N, like every other thread in a line, is a thread number, below 262144, or a
 name. Thread 1 is sigma0, in whose space page i has frame i. Thread 2 is root.

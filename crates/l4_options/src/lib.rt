@@ -6,6 +6,7 @@ mod commands;
 mod encoding;
 mod help;
 mod misreading;
+mod ordering;
 mod requests;
 mod step_commands;
 mod step_help;

@@ -70,6 +70,14 @@ pub enum Options {
         tap: bool,
         write: bool,
     },
+    /// Prints every outcome that some order of the calls of a plan's threads can have, after visiting at most this many states. Prints only
+    /// the script that produces outcome `witness`, if there is one, and leaves out the orders if `brief`.
+    Orders {
+        plan: ScriptOptions,
+        most: u32,
+        witness: Option<u32>,
+        brief: bool,
+    },
     /// Prints these words.
     Encode(ArrayVec<u32, MAX_WORDS>),
     /// Prints this text: the usage, or the version.

@@ -29,3 +29,6 @@ returns-then-is_word-8 c = of_name c.args.name.now (codes "encode") (found_in c.
 
 pub returns-then-is_word-9 : goal.returns-then-is_word-9
 returns-then-is_word-9 c = of_name c.args.name.now (codes "test") (found_in c.args.matches.now) c.test_options.result c.if-is_word-9.ensures c.test_options.ensures
+
+pub returns-then-is_word-10 : goal.returns-then-is_word-10
+returns-then-is_word-10 c = of_name c.args.name.now (codes "orders") (found_in c.args.matches.now) c.orders_options.result c.if-is_word-10.ensures c.orders_options.ensures

@@ -11,8 +11,9 @@ returns c =
     let help_is : app_of c.after_help.result ≡ on_top (λ s. record s { has_version = true }) (new_app (codes "l4")) = ap app_of_fields c.after_help.ensures ∙ version_is in
     let top_is : app_of c.subcommand_required.result ≡ on_top (λ s. record s { has_version = true; subcommand_required = true }) (new_app (codes "l4")) =
     ap app_of_fields c.subcommand_required.ensures ∙ ap (on_top (λ (s : Shape). record s { subcommand_required = true })) help_is in
-    IfOk-weaker c.subcommand-9.result _ _
+    IfOk-weaker c.subcommand-10.result _ _
     (λ new adds. below _ _ _ _ new
+    (below _ _ _ _ _
     (below _ _ _ _ _
     (below _ _ _ _ _
     (below _ _ _ _ _
@@ -28,4 +29,5 @@ returns c =
     c.in_ok-of_region-2.ensures c.in_ok-subcommand-6.ensures)
     c.in_ok-of_words.ensures c.in_ok-subcommand-7.ensures)
     c.in_ok-of_tokens.ensures c.in_ok-subcommand-8.ensures)
-    c.in_ok-of_files.ensures adds) c.subcommand-9.ensures
+    c.in_ok-of_files.ensures c.in_ok-subcommand-9.ensures)
+    c.in_ok-of_orders.ensures adds) c.subcommand-10.ensures

@@ -1,0 +1,104 @@
+//! The command line of `l4 orders`.
+ghost use Rattle.std.specs.Prelude.{◌≡◌, IfOk, codes};
+ghost use Rattle.l4_options.specs.Spelled.{IsCountAt, IsChosenAt};
+ghost use Rattle.l4_options.specs.Commands.{option, switch, orders_command, Asks};
+ghost use Rattle.l4_options.specs.Inside.Lines.{IsCommand, IsRule, found_in};
+
+use crate::help::ORDERS;
+use crate::requests::{OptionFault, Options};
+use crate::values::{
+    file_argument, frames_option, is_on, number_of, script_of, size_option, text_of,
+};
+use clap::{Arg, ArgAction, ArgMatches, Command};
+use std::alloc::{AllocError, Global};
+
+/// The number of states that are visited if `--most` is left out.
+const DEFAULT_MOST: u32 = 1_000_000;
+
+/// The option `--most`.
+fn most_option<'a>(alloc: Global) -> Arg<'a>
+    ensures { IsRule (option (codes "most")) result }
+{
+    Arg::new(alloc, "most")
+        .long("most")
+        .value_name("N")
+        .help("The number of states to visit at most [default: 1000000]")
+        .action(ArgAction::Set)
+}
+
+/// The option `--witness`.
+fn witness_option<'a>(alloc: Global) -> Arg<'a>
+    ensures { IsRule (option (codes "witness")) result }
+{
+    Arg::new(alloc, "witness")
+        .long("witness")
+        .value_name("K")
+        .help("Print a script that produces outcome K, instead of the outcomes")
+        .action(ArgAction::Set)
+}
+
+/// The option `--outcomes`.
+fn outcomes_option<'a>(alloc: Global) -> Arg<'a>
+    ensures { IsRule (switch (codes "outcomes")) result }
+{
+    Arg::new(alloc, "outcomes")
+        .long("outcomes")
+        .help("Print the outcomes without their orders")
+        .action(ArgAction::SetTrue)
+}
+
+/// The command `orders`.
+pub(crate) fn of_orders<'a>(alloc: Global) -> Result<Command<'a>, AllocError>
+    ensures { IfOk result (IsCommand orders_command) }
+{
+    Command::new(alloc, "orders")
+        .about("Prints every outcome that some order of the threads' calls can have")
+        .after_help(ORDERS)
+        .arg(file_argument(alloc, "The plan [default: standard input]"))?
+        .arg(frames_option(alloc))?
+        .arg(size_option(alloc))?
+        .arg(most_option(alloc))?
+        .arg(witness_option(alloc))?
+        .arg(outcomes_option(alloc))
+}
+
+/// The number of states to visit at most.
+fn most_of(alloc: Global, matches: &ArgMatches<'_>) -> Result<u32, OptionFault>
+    ensures { IfOk result (IsCountAt (found_in matches.now) (codes "most")) }
+{
+    if text_of(matches, "most").is_none() {
+        return Ok(DEFAULT_MOST);
+    }
+    number_of(alloc, matches, "most", "N")
+}
+
+/// The outcome whose script is printed, if one is chosen.
+fn witness_of(alloc: Global, matches: &ArgMatches<'_>) -> Result<Option<u32>, OptionFault>
+    ensures { IfOk result (IsChosenAt (found_in matches.now) (codes "witness")) }
+{
+    if text_of(matches, "witness").is_none() {
+        return Ok(None);
+    }
+    match number_of(alloc, matches, "witness", "K") {
+        Ok(number) => Ok(Some(number)),
+        Err(fault) => Err(fault),
+    }
+}
+
+/// What the matches of `orders` ask for.
+pub(crate) fn orders_options(
+    alloc: Global,
+    matches: &ArgMatches<'_>,
+) -> Result<Options, OptionFault>
+    ensures { IfOk result (Asks (codes "orders") (found_in matches.now)) }
+{
+    match script_of(alloc, matches) {
+        Ok(plan) => Ok(Options::Orders {
+            plan,
+            most: most_of(alloc, matches)?,
+            witness: witness_of(alloc, matches)?,
+            brief: is_on(matches, "outcomes"),
+        }),
+        Err(fault) => Err(fault),
+    }
+}
