@@ -70,9 +70,10 @@ impl<'a> Joined<'a> {
         self.first
     }
 
-    /// Returns the segments, whose entries are all entries in their order.
+    /// Returns the segments, whose entries are all entries in their order. Each begins where the one before it ended.
     pub fn segments(&self) -> &[SavedSegment]
-        ensures { all_entries result.now ≡ self.now.entries }
+        ensures entries { all_entries result.now ≡ self.now.entries }
+        ensures fit { Fit self.now.frames self.now.size self.now.first result.now }
     {
         self.segments
     }
