@@ -9,4 +9,4 @@ mod writing;
 pub use finding::provenance;
 pub use l4_record::{ChainLink, ReplayFault};
 pub use moves::{MovedPage, next_move};
-pub use replaying::replay;
+pub use replaying::{repeat_entry, replay};

@@ -1,7 +1,7 @@
 //! Replays a history on a second kernel, and finds what was moved to a place.
-ghost use Rattle.std.specs.Prelude.{◌≡◌, ◌≤◌, ◌↔◌, Err, IsTrue, length, IfOk, IfErr};
+ghost use Rattle.std.specs.Prelude.{◌≡◌, ◌≤◌, ◌↔◌, Ok, Err, IsTrue, length, IfOk, IfErr};
 ghost use Rattle.l4_record.specs.Replays.{RanOut, FailsAt, StopsIn};
-ghost use Rattle.l4_record.specs.Inside.Walking.{Does};
+ghost use Rattle.l4_ipc.specs.Steps.{Steps};
 ghost use Rattle.l4_ipc.specs.Runs.{Run};
 ghost use Rattle.l4_record.specs.History.{steps_of, answers_of};
 ghost use Rattle.l4_provenance.specs.Inside.Arrivals.{Brought, newer, Arrived};
@@ -35,8 +35,12 @@ fn ran_out(refused: Refused) -> bool
 }
 
 /// Executes the step of the entry with this number again.
-fn again(kernel: &mut Kernel, number: usize, entry: &Entry) -> Result<(), ReplayFault>
-    ensures ok { IfOk result (λ _. Does kernel.old entry.now kernel.new) }
+///
+/// Errors: `NoMemory` if memory runs out in the step, and not in the history's; `OtherAnswer` if the step gets any other answer than the
+/// history says. The step has been executed then, with its own answer.
+pub fn repeat_entry(kernel: &mut Kernel, number: usize, entry: &Entry) -> Result<(), ReplayFault>
+    ensures ok { IfOk result
+        (λ _. Steps kernel.old entry.now.step (Ok entry.now.answer) kernel.new) }
     ensures err { IfErr result (FailsAt number kernel.old entry.now kernel.new) }
 {
     match kernel.step(&entry.step) {
@@ -97,7 +101,7 @@ pub fn last_arrival(
             unreachable!()
         };
         let link = delivered_link(kernel, number, &entry, place);
-        if let Err(fault) = again(kernel, number, &entry) {
+        if let Err(fault) = repeat_entry(kernel, number, &entry) {
             return Err(fault);
         }
         kernel.law_forest();
@@ -128,7 +132,7 @@ pub fn replay(kernel: &mut Kernel, history: &History) -> Result<(), ReplayFault>
         let Some(entry) = history.get(number) else {
             unreachable!()
         };
-        if let Err(fault) = again(kernel, number, &entry) {
+        if let Err(fault) = repeat_entry(kernel, number, &entry) {
             return Err(fault);
         }
         kernel.law_forest();

@@ -7,11 +7,11 @@ loop-number-init c = done_first c.args.kernel.now c.args.history.now.entries c.l
 
 pub returns-in-Err-clause-err : goal.returns-in-Err-clause-err
 returns-in-Err-clause-err c =
-    done_fails c.args.kernel.now c.args.history.now.entries c.loop-number.number c.loop-number.kernel c.again.new.kernel c.in-Some.entry (sym c.get.ensures ∙ c.in-Some.is) c.loop-number.invariant c.in-Err.fault c.in-Err.ensures.err
+    done_fails c.args.kernel.now c.args.history.now.entries c.loop-number.number c.loop-number.kernel c.repeat_entry.new.kernel c.in-Some.entry (sym c.get.ensures ∙ c.in-Some.is) c.loop-number.invariant c.in-Err.fault c.in-Err.ensures.err
 
 pub loop-number-preserved : goal.loop-number-preserved
 loop-number-preserved c =
-    done_next c.args.kernel.now c.args.history.now.entries c.loop-number.number c.loop-number.kernel c.again.new.kernel c.in-Some.entry (sym c.get.ensures ∙ c.in-Some.is) c.in_default-again.ensures.ok
+    done_next c.args.kernel.now c.args.history.now.entries c.loop-number.number c.loop-number.kernel c.repeat_entry.new.kernel c.in-Some.entry (sym c.get.ensures ∙ c.in-Some.is) c.in_default-repeat_entry.ensures.ok
     c.loop-number.invariant c.law_forest-in-loop-number.ensures
 
 pub returns-clause-ok : goal.returns-clause-ok

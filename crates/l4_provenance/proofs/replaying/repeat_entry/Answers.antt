@@ -3,7 +3,7 @@ use Rattle.l4_ipc.specs.declared.steps.Answer.{Answer}
 use Rattle.l4_ipc.specs.Steps.{Steps}
 use Rattle.l4_record.proofs.Replayed.{other_answer}
 use Rattle.l4_record.proofs.Same.{same_answer}
-use Rattle.l4_provenance.proofs.replaying.again.Goals as goal
+use Rattle.l4_provenance.proofs.replaying.repeat_entry.Goals as goal
 
 pub returns-then-eq-clause-ok : goal.returns-then-eq-clause-ok
 returns-then-eq-clause-ok c =
