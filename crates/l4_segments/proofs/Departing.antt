@@ -15,7 +15,7 @@ use Rattle.l4_segments.specs.declared.faults.FileFault.{FileFault}
 use Rattle.l4_segments.specs.declared.files.Heading.{Heading}
 use Rattle.l4_segments.specs.Entries.{entry_code, entry_at, IsWritable}
 use Rattle.l4_segments.specs.Files.{bytes_of, heading_code, entries_code, body_of, file_of, IsHeading, IsSegment}
-use Rattle.l4_segments.specs.Faults.{IsNoFile, FieldFails, HeadingFails, HasBegun, HasNoEntry, EntryFails, IsWrongSum, IsWrongEnd, EndFails, Departs}
+use Rattle.l4_segments.specs.Faults.{IsNoFile, IsNotExtra, BeginsNoFile, FieldFails, HeadingFails, HasBegun, HasNoEntry, EntryFails, IsWrongSum, IsWrongEnd, EndFails, Departs}
 use Rattle.l4_segments.specs.Inside.Reading.{BeginsWith, ReadsEntry}
 use Rattle.l4_segments.proofs.Readers.{length_bytes}
 use Rattle.l4_segments.proofs.Same.{words_same, one_first, entries_split, heading_words, heads_same, opened, begin_same}
@@ -78,15 +78,17 @@ field_fails words Checksum at fails h is = absurd fails
 field_fails words Cut at fails h is = absurd fails
 field_fails words Extra at fails h is = absurd fails
 
-heading_fails : (bytes : List ℕ) (fault : FileFault) → HeadingFails bytes fault → IsNoFile bytes
-heading_fails bytes fault (inl cut) = λ h entries segment e.
-    let long = ap length (e ∙ opened h entries (sha256 (body_of h entries))) in
+heading_front : (bytes : List ℕ) (fault : FileFault) → HeadingFails bytes fault → BeginsNoFile bytes
+heading_front bytes fault (inl cut) = λ h entries r segment e.
+    let sum : List ℕ = sha256 (body_of h entries) in
+    let long = ap length (e ∙ append_assoc (body_of h entries) sum r ∙ opened h entries (sum ++ r)) in
     let short = cut.2 in
-    absurd (omega (arith, long, short, length-append (bytes_of (heading_code h)) (bytes_of (entries_code entries) ++ sha256 (body_of h entries)), length_bytes (heading_code h)))
-heading_fails bytes fault (inr field) = λ h entries segment e.
+    absurd (omega (arith, long, short, length-append (bytes_of (heading_code h)) (bytes_of (entries_code entries) ++ (sum ++ r)), length_bytes (heading_code h)))
+heading_front bytes fault (inr field) = λ h entries r segment e.
     let words : List ℕ = field.0 in
-    let same = words_same words (heading_code h) (drop 32 bytes) (bytes_of (entries_code entries) ++ sha256 (body_of h entries)) field.1 field.2 (heading_words h segment.heading)
-    (sym field.3 ∙ e ∙ opened h entries (sha256 (body_of h entries))) in
+    let sum : List ℕ = sha256 (body_of h entries) in
+    let same = words_same words (heading_code h) (drop 32 bytes) (bytes_of (entries_code entries) ++ (sum ++ r)) field.1 field.2 (heading_words h segment.heading)
+    (sym field.3 ∙ e ∙ append_assoc (body_of h entries) sum r ∙ opened h entries (sum ++ r)) in
     field_fails words fault.kind fault.position field.4 h segment.heading same.0
 
 -- ENTRIES
@@ -97,16 +99,17 @@ first_is bytes at [] r some each is none = omega (arith, some)
 first_is bytes at (e ∷ entries) r some each is none =
     none e (bytes_of (entries_code entries) ++ r) (All-head IsWritable e entries each) (is ∙ one_first e entries r)
 
-entry_fails : (bytes : List ℕ) (fault : FileFault) → EntryFails bytes fault → IsNoFile bytes
-entry_fails bytes fault fails = λ h entries segment e.
+entry_front : (bytes : List ℕ) (fault : FileFault) → EntryFails bytes fault → BeginsNoFile bytes
+entry_front bytes fault fails = λ h entries r segment e.
     let many = fails.more in
     let counted_as = segment.count in
     let sum : List ℕ = sha256 (body_of h entries) in
-    let read : body_of fails.heading fails.earlier ++ drop fault.position bytes ≡ body_of h entries ++ sum = sym fails.begins.bytes_are ∙ e in
-    let heads = heads_same fails.heading h fails.earlier entries (drop fault.position bytes) sum fails.begins.heading segment.heading read in
+    let read : body_of fails.heading fails.earlier ++ drop fault.position bytes ≡ body_of h entries ++ (sum ++ r) = sym fails.begins.bytes_are ∙ e ∙ append_assoc (body_of h entries) sum r in
+    let heads = heads_same fails.heading h fails.earlier entries (drop fault.position bytes) (sum ++ r) fails.begins.heading segment.heading read in
     let count : fails.heading.count ≡ h.count = ap (λ (x : Heading). x.count) heads in
-    let same = begin_same fails.heading h fails.earlier entries (drop fault.position bytes) sum fails.begins.heading segment.heading fails.begins.each segment.each (omega (arith, many, counted_as, count)) read in
-    first_is bytes fault.position (drop (length fails.earlier) entries) sum (omega (arith, many, counted_as, count, length-drop (length fails.earlier) entries))
+    let same = begin_same fails.heading h fails.earlier entries (drop fault.position bytes) (sum ++ r) fails.begins.heading segment.heading fails.begins.each segment.each
+    (omega (arith, many, counted_as, count)) read in
+    first_is bytes fault.position (drop (length fails.earlier) entries) (sum ++ r) (omega (arith, many, counted_as, count, length-drop (length fails.earlier) entries))
     (All-drop IsWritable (length fails.earlier) entries segment.each) same.2 fails.none
 
 -- THE CHECKSUM
@@ -132,37 +135,55 @@ front bytes h entries at begun =
     let long : length body ≡ at = omega (arith, l, within, length-append body (drop at bytes), length-drop at bytes) in
     ap (take at) begun.bytes_are ∙ ap (λ (k : ℕ). take k (body ++ drop at bytes)) (sym long) ∙ take-append_seam body (drop at bytes)
 
-end_fails : (bytes : List ℕ) (fault : FileFault) → EndFails bytes fault → IsNoFile bytes
-end_fails bytes fault fails = λ h entries segment e.
+-- what follows the entries is the checksum, and what follows the file
+end_rest : (bytes : List ℕ) (fault : FileFault) (fails : EndFails bytes fault) (h : Heading) (entries : List Entry) (r : List ℕ) → IsSegment h entries → bytes ≡ file_of h entries ++ r
+    → drop fails.at bytes ≡ sha256 (take fails.at bytes) ++ r
+end_rest bytes fault fails h entries r segment e =
     let all = fails.all in
     let counted_as = segment.count in
     let sum : List ℕ = sha256 (body_of h entries) in
-    let read : body_of fails.heading fails.entries ++ drop fails.at bytes ≡ body_of h entries ++ sum = sym fails.begins.bytes_are ∙ e in
-    let heads = heads_same fails.heading h fails.entries entries (drop fails.at bytes) sum fails.begins.heading segment.heading read in
+    let read : body_of fails.heading fails.entries ++ drop fails.at bytes ≡ body_of h entries ++ (sum ++ r) = sym fails.begins.bytes_are ∙ e ∙ append_assoc (body_of h entries) sum r in
+    let heads = heads_same fails.heading h fails.entries entries (drop fails.at bytes) (sum ++ r) fails.begins.heading segment.heading read in
     let count : fails.heading.count ≡ h.count = ap (λ (x : Heading). x.count) heads in
     let many : length fails.entries ≡ length entries = all ∙ count ∙ sym counted_as in
-    let same = begin_same fails.heading h fails.entries entries (drop fails.at bytes) sum fails.begins.heading segment.heading fails.begins.each segment.each (omega (arith, many)) read in
+    let same = begin_same fails.heading h fails.entries entries (drop fails.at bytes) (sum ++ r) fails.begins.heading segment.heading fails.begins.each segment.each (omega (arith, many)) read in
     let none : drop (length fails.entries) entries ≡ [] = drop_all (length fails.entries) entries (omega (arith, many)) in
-    let end : drop fails.at bytes ≡ sum = same.2 ∙ ap (λ (l : List Entry). bytes_of (entries_code l) ++ sum) none in
+    let end : drop fails.at bytes ≡ sum ++ r = same.2 ∙ ap (λ (l : List Entry). bytes_of (entries_code l) ++ (sum ++ r)) none in
     let entries_are : fails.entries ≡ entries = same.1 ∙ take_all (length fails.entries) entries (omega (arith, many)) in
     let summed : sum ≡ sha256 (take fails.at bytes) =
     ap sha256 ((λ i. body_of (sym heads i) (sym entries_are i)) ∙ sym (front bytes fails.heading fails.entries fails.at fails.begins)) in
-    wrong_sum bytes fails.at (sha256 (take fails.at bytes)) fault.kind fault.position fails.begins.within fails.wrong (end ∙ summed)
+    end ∙ ap (λ (l : List ℕ). l ++ r) summed
+
+wrong_front : (bytes : List ℕ) (at : ℕ) (sum : List ℕ) (kind : FaultKind) (position : ℕ) (r : List ℕ) → at ≤ length bytes → IsWrongSum bytes at sum kind position → IsNotExtra kind
+    → drop at bytes ≢ sum ++ r
+wrong_front bytes at sum Cut position r within wrong other = λ e. let short = wrong.1 in let long = ap length e in omega (arith, within, short, long, length-drop at bytes, length-append sum r)
+wrong_front bytes at sum Checksum position r within wrong other = λ e. wrong.1 (ap (take (length sum)) e ∙ take-append_seam sum r)
+wrong_front bytes at sum Extra position r within wrong other = absurd other
+wrong_front bytes at sum NoMemory position r within wrong other = absurd wrong
+wrong_front bytes at sum Magic position r within wrong other = absurd wrong
+wrong_front bytes at sum Version position r within wrong other = absurd wrong
+wrong_front bytes at sum Frames position r within wrong other = absurd wrong
+wrong_front bytes at sum Pages position r within wrong other = absurd wrong
+wrong_front bytes at sum Numbers position r within wrong other = absurd wrong
+wrong_front bytes at sum AnEntry position r within wrong other = absurd wrong
+
+-- NO FILE
+
+pub no_front : (bytes : List ℕ) (fault : FileFault) → Departs bytes fault → IsNotExtra fault.kind → BeginsNoFile bytes
+no_front bytes fault (inl heading) other = heading_front bytes fault heading
+no_front bytes fault (inr (inl entry)) other = entry_front bytes fault entry
+no_front bytes fault (inr (inr end)) other = λ h entries r segment e.
+    wrong_front bytes end.at (sha256 (take end.at bytes)) fault.kind fault.position r end.begins.within end.wrong other (end_rest bytes fault end h entries r segment e)
+
+whole_front : (bytes : List ℕ) → BeginsNoFile bytes → IsNoFile bytes
+whole_front bytes none = λ h entries segment e. none h entries [] segment (e ∙ sym (append-nil (file_of h entries)))
 
 pub no_file : (bytes : List ℕ) (fault : FileFault) → Departs bytes fault → IsNoFile bytes
-no_file bytes fault (inl heading) = heading_fails bytes fault heading
-no_file bytes fault (inr (inl entry)) = entry_fails bytes fault entry
-no_file bytes fault (inr (inr end)) = end_fails bytes fault end
+no_file bytes fault (inl heading) = whole_front bytes (heading_front bytes fault heading)
+no_file bytes fault (inr (inl entry)) = whole_front bytes (entry_front bytes fault entry)
+no_file bytes fault (inr (inr end)) = λ h entries segment e.
+    let sum : List ℕ = sha256 (take end.at bytes) in
+    wrong_sum bytes end.at sum fault.kind fault.position end.begins.within end.wrong (end_rest bytes fault end h entries [] segment (e ∙ sym (append-nil (file_of h entries))) ∙ append-nil sum)
 
 pub end_is : (bytes : List ℕ) (h : Heading) (entries : List Entry) (at : ℕ) (fault : FileFault) → HasBegun bytes h entries at → length entries ≡ h.count → IsWrongEnd bytes at fault → EndFails bytes fault
 end_is bytes h entries at fault begun all wrong = record { heading = h; entries = entries; at = at; begins = begun; all = all; wrong = wrong }
-
--- the whole file was read
-pub whole : (bytes : List ℕ) (h g : Heading) (entries others : List Entry) (at : ℕ) → g ≡ h → others ≡ entries → HasBegun bytes h entries at → length entries ≡ h.count
-    → drop at bytes ≡ sha256 (take at bytes) → IsSegment g others × (bytes ≡ file_of g others)
-whole bytes h g entries others at heads same begun all end =
-    let segment : IsSegment h entries = record { heading = begun.heading; count = all; each = begun.each } in
-    let file : bytes ≡ file_of h entries =
-    begun.bytes_are ∙ ap (λ (l : List ℕ). body_of h entries ++ l) (end ∙ ap sha256 (front bytes h entries at begun)) in
-    subst (λ (x : Heading). IsSegment x others × (bytes ≡ file_of x others)) (sym heads)
-    (subst (λ (es : List Entry). IsSegment h es × (bytes ≡ file_of h es)) (sym same) (segment, file))

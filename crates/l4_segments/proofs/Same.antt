@@ -154,3 +154,16 @@ file_same h g entries others is js e =
     let heads = heading_same h g _ _ is.heading js.heading (sym (opened h entries (sha256 (body_of h entries))) ∙ e ∙ opened g others (sha256 (body_of g others))) in
     let many : length entries ≡ length others = is.count ∙ ap (λ (x : Heading). x.count) heads.0 ∙ sym js.count in
     (heads.0, (entries_same entries others _ _ many is.each js.each heads.1).0)
+
+-- a file with which bytes begin
+pub front_same : (h g : Heading) (entries others : List Entry) (r s : List ℕ) → IsSegment h entries → IsSegment g others → file_of h entries ++ r ≡ file_of g others ++ s
+    → (h ≡ g) × (entries ≡ others) × (r ≡ s)
+front_same h g entries others r s is js e =
+    let sum : List ℕ = sha256 (body_of h entries) in
+    let other : List ℕ = sha256 (body_of g others) in
+    let parts : body_of h entries ++ (sum ++ r) ≡ body_of g others ++ (other ++ s) = sym (append_assoc (body_of h entries) sum r) ∙ e ∙ append_assoc (body_of g others) other s in
+    let heads = heading_same h g _ _ is.heading js.heading (sym (opened h entries (sum ++ r)) ∙ parts ∙ opened g others (other ++ s)) in
+    let many : length entries ≡ length others = is.count ∙ ap (λ (x : Heading). x.count) heads.0 ∙ sym js.count in
+    let rest = entries_same entries others (sum ++ r) (other ++ s) many is.each js.each heads.1 in
+    let sums : sum ≡ other = λ i. sha256 (body_of (heads.0 i) (rest.0 i)) in
+    (heads.0, rest.0, sym (drop_at sum r (length sum) refl) ∙ ap (drop (length sum)) (rest.1 ∙ ap (λ (l : List ℕ). l ++ s) (sym sums)) ∙ drop_at sum s (length sum) refl)

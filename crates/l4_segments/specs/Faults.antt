@@ -1,5 +1,5 @@
 -- Why bytes are not the file of a segment, and where they depart from all such files (this profile's own).
-use Rattle.std.specs.Prelude.{◌≡◌, ◌≢◌, ◌≤◌, ◌<◌, ◌+◌, ◌*◌, ◌^◌, ◌⊎◌, ⊤, ℕ, List, ◌++◌, length, take, drop, slice_index}
+use Rattle.std.specs.Prelude.{◌≡◌, ◌≢◌, ◌≤◌, ◌<◌, ◌+◌, ◌*◌, ◌^◌, ◌⊎◌, ⊤, ℕ, List, [], ◌∷◌, ◌++◌, length, take, drop, slice_index}
 use Rattle.std.specs.List.{All}
 use Rattle.std.specs.Int.{w32, to_le_bytes}
 use Rattle.sha2.specs.Sha256.{sha256}
@@ -13,6 +13,7 @@ use Rattle.l4_segments.specs.declared.faults.FaultKind.TheVariants.{NoMemory, Ma
 use Rattle.l4_segments.specs.declared.faults.FileFault.{FileFault}
 use Rattle.l4_segments.specs.declared.files.Heading.{Heading}
 use Rattle.l4_segments.specs.Entries.{entry_code, AreWords, IsWritable}
+use Rattle.l4_segments.specs.Saved.{Saved, saved_files, AreSegments}
 use Rattle.l4_segments.specs.Files.{bytes_of, body_of, file_of, IsHeading, IsSegment}
 
 -- they are the file of no segment
@@ -107,3 +108,38 @@ pub record EndFails (bytes : List ℕ) (fault : FileFault) : Type 0 where
 -- where the bytes depart from all files of segments: in the heading, in an entry, or after the entries
 abbrev pub Departs : List ℕ → FileFault → Type 0
 Departs bytes fault = HeadingFails bytes fault ⊎ EntryFails bytes fault ⊎ EndFails bytes fault
+
+-- the fault is not that bytes follow
+abbrev pub IsNotExtra : FaultKind → Type 0
+IsNotExtra Extra = ⊥
+IsNotExtra Magic = ⊤
+IsNotExtra Version = ⊤
+IsNotExtra Frames = ⊤
+IsNotExtra Pages = ⊤
+IsNotExtra Numbers = ⊤
+IsNotExtra AnEntry = ⊤
+IsNotExtra Checksum = ⊤
+IsNotExtra Cut = ⊤
+IsNotExtra NoMemory = ⊤
+
+-- no file of a segment is at the beginning of the bytes
+abbrev pub BeginsNoFile : List ℕ → Type 0
+BeginsNoFile bytes = (h : Heading) (entries : List Entry) (rest : List ℕ) → IsSegment h entries → bytes ≢ file_of h entries ++ rest
+
+-- they are not the files of one or more segments
+abbrev pub AreNoFiles : List ℕ → Type 0
+AreNoFiles bytes = (first : Saved) (others : List Saved) → AreSegments (first ∷ others) → bytes ≢ saved_files (first ∷ others)
+
+-- The bytes begin with the files of some segments. Those that follow depart from all files of segments, and are some bytes, unless the files
+-- are none.
+pub record DepartsAfter (bytes : List ℕ) (fault : FileFault) : Type 0 where
+  pub earlier : List Saved
+  pub each : AreSegments earlier
+  pub left : List ℕ
+  pub some : (earlier ≡ []) ⊎ (0 < length left)
+  pub bytes_are : bytes ≡ saved_files earlier ++ left
+  pub rest : FileFault
+  pub departs : Departs left rest
+  pub kind_is : fault.kind ≡ rest.kind
+  pub position_is : fault.position ≡ length (saved_files earlier) + rest.position
+  pub not_extra : IsNotExtra fault.kind

@@ -18,6 +18,6 @@ pub use files::{Heading, write_segment};
 pub use joining::{Joined, Misfit, MisfitKind, join};
 pub use l4_record::{Entry, History, Segment};
 pub use laws::{files_determine_segments, written_entries_read_back};
-pub use reading::read_segment;
+pub use reading::{read_segment, read_segments};
 pub use saved::SavedSegment;
 pub use writing::{KeepFault, SegmentWriter};

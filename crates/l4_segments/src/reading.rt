@@ -3,8 +3,9 @@ ghost use Rattle.std.specs.Prelude.{◌≡◌, ◌≤◌, ◌⊎◌, [], take, d
 ghost use Rattle.sha2.specs.Sha256.{sha256};
 ghost use Rattle.l4_segments.specs.declared.faults.FaultKind.TheVariants.{NoMemory as LacksMemory};
 ghost use Rattle.l4_segments.specs.Files.{IsHeading, IsSegment, file_of};
-ghost use Rattle.l4_segments.specs.Faults.{HasBegun, HasNoEntry, EntryKind, EntryFails, IsWrongEnd, Departs, IsNoFile};
-ghost use Rattle.l4_segments.specs.Inside.Reading.{BeginsWith, ReadsEntry};
+ghost use Rattle.l4_segments.specs.Faults.{HasBegun, HasNoEntry, EntryKind, EntryFails, IsWrongEnd, Departs, IsNoFile, IsNotExtra, DepartsAfter, AreNoFiles};
+ghost use Rattle.l4_segments.specs.Saved.{saved_files, AreSegments};
+ghost use Rattle.l4_segments.specs.Inside.Reading.{BeginsWith, ReadsEntry, EndsWithSum, ReadsFront};
 
 use crate::entries::{put_entry, read_entry};
 use crate::faults::{FaultKind, FileFault};
@@ -65,6 +66,7 @@ fn read_entries(
         (λ at. HasBegun bytes.now heading.now entries.new.items at
         × (length entries.new.items ≡ heading.now.count)) }
     ensures err { IfErr result (λ f. (f.kind ≡ LacksMemory) ⊎ EntryFails bytes.now f) }
+    ensures within { IfErr result (λ f. f.position ≤ length bytes.now) }
 {
     let mut words = Record::new();
     let mut again = Record::new();
@@ -88,11 +90,12 @@ fn read_entries(
     Ok(at)
 }
 
-/// Checks that the checksum is at a position, and that no byte follows it.
-fn check_end(bytes: &[u8], at: usize) -> Result<(), FileFault>
+/// Checks that the checksum is at a position. Returns the position after it.
+fn check_sum(bytes: &[u8], at: usize) -> Result<usize, FileFault>
     requires { at ≤ length bytes.now }
-    ensures ok { IfOk result (λ _. drop at bytes.now ≡ sha256 (take at bytes.now)) }
+    ensures ok { IfOk result (EndsWithSum bytes.now at) }
     ensures err { IfErr result (IsWrongEnd bytes.now at) }
+    ensures place { IfErr result (λ f. (f.position ≡ at) × IsNotExtra f.kind) }
 {
     let digest = Sha256::digest(&bytes[..at]);
     let left = bytes.len() - at;
@@ -108,13 +111,29 @@ fn check_end(bytes: &[u8], at: usize) -> Result<(), FileFault>
             kind: FaultKind::Checksum,
         });
     }
-    if left > DIGEST_BYTES {
-        return Err(FileFault {
-            position: at + DIGEST_BYTES,
-            kind: FaultKind::Extra,
-        });
+    Ok(at + DIGEST_BYTES)
+}
+
+/// Reads the segment whose file the bytes begin with. Returns it, and the number of bytes of its file.
+fn read_front(alloc: Global, bytes: &[u8]) -> Result<(SavedSegment, usize), FileFault>
+    ensures ok { IfOk result (λ r. ReadsFront bytes.now r.0.heading r.0.entries r.1) }
+    ensures err { IfErr result (λ f. (f.kind ≡ LacksMemory)
+        ⊎ (Departs bytes.now f × IsNotExtra f.kind)) }
+    ensures within { IfErr result (λ f. f.position ≤ length bytes.now) }
+{
+    let heading = match read_heading(bytes) {
+        Ok(heading) => heading,
+        Err(fault) => return Err(fault),
+    };
+    let mut entries = Journal::new(alloc);
+    let at = match read_entries(bytes, &heading, &mut entries) {
+        Ok(at) => at,
+        Err(fault) => return Err(fault),
+    };
+    match check_sum(bytes, at) {
+        Ok(end) => Ok((SavedSegment::new(heading, entries), end)),
+        Err(fault) => Err(fault),
     }
-    Ok(())
 }
 
 /// Reads the file of a segment. The bytes are exactly the file of the segment that is returned.
@@ -127,17 +146,48 @@ pub fn read_segment(alloc: Global, bytes: &[u8]) -> Result<SavedSegment, FileFau
     ensures departs { IfErr result (λ f. (f.kind ≡ LacksMemory) ⊎ Departs bytes.now f) }
     ensures none { IfErr result (λ f. (f.kind ≡ LacksMemory) ⊎ IsNoFile bytes.now) }
 {
-    let heading = match read_heading(bytes) {
-        Ok(heading) => heading,
+    let (segment, end) = match read_front(alloc, bytes) {
+        Ok(read) => read,
         Err(fault) => return Err(fault),
     };
-    let mut entries = Journal::new(alloc);
-    let at = match read_entries(bytes, &heading, &mut entries) {
-        Ok(at) => at,
-        Err(fault) => return Err(fault),
-    };
-    if let Err(fault) = check_end(bytes, at) {
-        return Err(fault);
+    if end < bytes.len() {
+        return Err(FileFault {
+            position: end,
+            kind: FaultKind::Extra,
+        });
     }
-    Ok(SavedSegment::new(heading, entries))
+    Ok(segment)
+}
+
+/// Reads the files of one or more segments, one after another. The bytes are exactly the files of the segments that are returned.
+///
+/// If an allocation fails, the fault is `NoMemory`. Every other fault has the position, counted from the first byte, at which the bytes depart
+/// from all files of segments, after the files of some segments. Bytes that follow the last segment are read as one more, so the fault is
+/// never `Extra`.
+pub fn read_segments(alloc: Global, bytes: &[u8]) -> Result<Vec<SavedSegment>, FileFault>
+    ensures ok { IfOk result (λ v. AreSegments v.items × (bytes.now ≡ saved_files v.items)) }
+    ensures departs { IfErr result (λ f. (f.kind ≡ LacksMemory) ⊎ DepartsAfter bytes.now f) }
+    ensures none { IfErr result (λ f. (f.kind ≡ LacksMemory) ⊎ AreNoFiles bytes.now) }
+{
+    let mut segments = Vec::new(alloc);
+    let mut at = 0;
+    loop {
+        let (segment, len) = match read_front(alloc, &bytes[at..]) {
+            Ok(read) => read,
+            Err(fault) => return Err(FileFault {
+                position: at + fault.position,
+                kind: fault.kind,
+            }),
+        };
+        if segments.push(segment).is_err() {
+            return Err(FileFault {
+                position: at,
+                kind: FaultKind::NoMemory,
+            });
+        }
+        at += len;
+        if at >= bytes.len() {
+            return Ok(segments);
+        }
+    }
 }
