@@ -13,6 +13,8 @@ use Rattle.l4_step_lines.specs.declared.judging.JudgeFault.{JudgeFault}
 use Rattle.l4_step_lines.specs.declared.judging.JudgeFault.TheVariants.{List as OfList}
 use Rattle.l4_step_lines.specs.declared.running.Fault.TheVariants.{Stopped}
 use Rattle.l4_text.specs.declared.faults.RunFault.{RunFault}
+use Rattle.l4_saved.specs.declared.following.HistoryFault.{HistoryFault}
+use Rattle.l4_saved.specs.declared.following.HistoryFault.TheVariants.{Memory, Write, NotNext, OtherAnswer}
 use Rattle.l4_history.specs.declared.asking.WhyResult.{WhyResult}
 use Rattle.l4_history.specs.declared.asking.WhyResult.TheVariants.{Told}
 use Rattle.l4_history.specs.declared.asking.Presence.TheVariants.{Present}
@@ -21,6 +23,14 @@ use Rattle.l4_history.specs.declared.asking.Presence.TheVariants.{Present}
 abbrev pub script_status : Result Ended RunFault → ℕ
 script_status (Ok ended) = if is_some ended.refused then 1 else 0
 script_status (Err fault) = run_status fault
+
+-- history --from: 2 where the entries are not a legal history
+abbrev pub history_status : Result (Unit {0}) HistoryFault → ℕ
+history_status (Ok done) = 0
+history_status (Err Memory) = 4
+history_status (Err Write) = 3
+history_status (Err (NotNext number)) = 2
+history_status (Err (OtherAnswer number)) = 2
 
 -- test: 1 where an answer is not the expected one, 2 where a line cannot be part of a test
 abbrev pub test_status : Result Passed Failure → ℕ

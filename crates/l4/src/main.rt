@@ -9,6 +9,7 @@
 mod ordered;
 mod recorded;
 mod reports;
+mod segments;
 mod tested;
 
 ghost use Rattle.std.specs.Prelude.{◌≡◌, IfErr};
@@ -38,6 +39,7 @@ use l4_text::{RunFault, ScriptReader};
 use ordered::{Wanted, print_orders};
 use recorded::run_to;
 use reports::{report_no_plan, report_no_thread, report_refused, report_unproved};
+use segments::tell_segments;
 use std::io::{Read, Write};
 use std::process::ExitCode;
 use std::rt::Files;
@@ -398,6 +400,7 @@ fn execute<R: AllocGlobal + Files + Input + Print + Eprint>(rt: &R, asked: Optio
             strict,
             answers,
         } => tell_history(rt, &script, strict, answers),
+        Options::Segments { files, answers } => tell_segments(rt, files.as_slice(), answers),
         Options::Judge { list, all } => judge_list(rt, &list, all),
         Options::Why {
             script,

@@ -4,6 +4,8 @@ use l4_plan_check::Fault;
 use l4_plan_lines::{Answer, LineFault, WrongLine};
 use l4_reasons::Reason;
 use l4_refusals::{number_of, text_of};
+use l4_saved::HistoryFault;
+use l4_segments::{FaultKind, FileFault, Misfit, MisfitKind};
 
 /// Says what a code means.
 fn report_code(rt: &impl Eprint, code: &[u8]) {
@@ -69,4 +71,56 @@ pub(crate) fn report_unproved(rt: &impl Eprint, answer: &Answer, is_empty: bool)
         Answer::Faulty(fault) => report_fault(rt, *fault),
         Answer::ProvedPlan(_) | Answer::ProvedTooLong => {}
     }
+}
+
+/// Says why bytes are not files of segments.
+fn file_words(kind: FaultKind) -> &'static str {
+    match kind {
+        FaultKind::NoMemory => "out of memory",
+        FaultKind::Magic => "F1: a segment begins with LSG4",
+        FaultKind::Version => "F2: the version of the file must be 1",
+        FaultKind::Frames => "F3: the number of frames must be from 1 to 4,096",
+        FaultKind::Pages => "F4: the page size must be 4,096 or 1,024 bytes",
+        FaultKind::Numbers => "F5: the number of an entry would exceed 2^63",
+        FaultKind::Entry => "F6: the words are not those of an entry",
+        FaultKind::Checksum => "F7: the checksum is not that of the segment",
+        FaultKind::Cut => "F8: the segment is cut off",
+        FaultKind::Extra => "bytes follow the segment",
+    }
+}
+
+/// Reports why a file is not one of segments.
+pub(crate) fn report_file(rt: &impl Eprint, name: &str, fault: FileFault) {
+    let position = fault.position;
+    let words = file_words(fault.kind);
+    let _ = eprintln!(rt; "error: '{name}': byte {position}: {words}");
+}
+
+/// Reports why the segment at this place of a file does not fit those before it.
+pub(crate) fn report_misfit(rt: &impl Eprint, name: &str, place: usize, misfit: Misfit) {
+    let expected = misfit.expected;
+    let _ = match misfit.kind {
+        MisfitKind::Frames => eprintln!(rt;
+            "error: '{name}': segment {place}: J1: the number of frames is not that of the segments before it"
+        ),
+        MisfitKind::Pages => eprintln!(rt;
+            "error: '{name}': segment {place}: J2: the page size is not that of the segments before it"
+        ),
+        MisfitKind::Number => eprintln!(rt;
+            "error: '{name}': segment {place}: J3: the segment must begin with entry {expected}"
+        ),
+    };
+}
+
+/// Reports which entry does not continue a legal history.
+pub(crate) fn report_history(rt: &impl Eprint, fault: HistoryFault) {
+    let _ = match fault {
+        HistoryFault::NotNext(number) => eprintln!(rt;
+            "error: entry {number}: J4: the step is not the next step, nor the start of a call by the thread of its seat"
+        ),
+        HistoryFault::OtherAnswer(number) => eprintln!(rt;
+            "error: entry {number}: J5: the kernel gives this step another answer"
+        ),
+        HistoryFault::Memory | HistoryFault::Write => Ok(()),
+    };
 }

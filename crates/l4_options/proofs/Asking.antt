@@ -26,7 +26,7 @@ use Rattle.l4_options.specs.Ranges.{AreStepsInRange, IsFrameCount, IsInRange}
 use Rattle.l4_options.specs.Spelled.{AreFramesIn, decimal_of, frame_count_of, spelled_or}
 use Rattle.l4_options.specs.declared.requests.OptionFault.{OptionFault}
 use Rattle.l4_options.specs.declared.requests.Options.{Options}
-use Rattle.l4_options.specs.declared.requests.Options.TheVariants.{Run, History, Judge, Why, Plan, Check, Decode, Encode, Test, Orders, Show}
+use Rattle.l4_options.specs.declared.requests.Options.TheVariants.{Run, History, Segments, Judge, Why, Plan, Check, Decode, Encode, Test, Orders, Show}
 use Rattle.l4_options.specs.declared.requests.StepOptions.{StepOptions}
 use Rattle.l4_options.specs.declared.requests.StepOptions.TheVariants.{Run as RunSteps, Show as ShowText}
 
@@ -126,6 +126,7 @@ frames_fit found n e = framed (first_of _ found) n e
 asks_in_range : (name : Text) (found : List Row) (o : Options) → Asks name found o → IsInRange o
 asks_in_range name found (Run script strict explain number moves history_to) asks = frames_fit found script.frames asks.1.frames
 asks_in_range name found (History script strict answers) asks = frames_fit found script.frames asks.1.frames
+asks_in_range name found (Segments files answers) asks = tt
 asks_in_range name found (Judge list all) asks = frames_fit found list.frames asks.1.frames
 asks_in_range name found (Why script strict thread page) asks = frames_fit found script.frames asks.1.frames
 asks_in_range name found (Plan region size) asks = tt
@@ -139,6 +140,7 @@ asks_in_range name found (Show text) asks = tt
 text_in_range : (o : Options) → IsText o → IsInRange o
 text_in_range (Run script strict explain number moves history_to) text = absurd text
 text_in_range (History script strict answers) text = absurd text
+text_in_range (Segments files answers) text = absurd text
 text_in_range (Judge list all) text = absurd text
 text_in_range (Why script strict thread page) text = absurd text
 text_in_range (Plan region size) text = tt

@@ -1,16 +1,16 @@
 -- The commands of the programs, as clap reads them, and what the words of a command line ask for (this profile's own).
-use Rattle.std.specs.Prelude.{◌≡◌, ◌⊎◌, ◌&&◌, List, [], ◌∷◌, length, map, codes, Some, is_some, option_map, true, false}
+use Rattle.std.specs.Prelude.{◌≡◌, ◌⊎◌, ◌&&◌, List, [], ◌∷◌, length, map, codes, Some, None, is_some, option_map, true, false}
 use Rattle.std.specs.String.{string_bytes}
 use Rattle.clap.specs.Faults.{fault_of}
 use Rattle.clap.specs.Kinds.{IsAmong, Kinds}
 use Rattle.clap.specs.Lexer.{usize_max}
 use Rattle.clap.specs.Simple.{App, Shape, new_rule, new_shape, matches_of, subcommand_of}
-use Rattle.clap.specs.Walk.{Row, Rule, Text, first_of}
+use Rattle.clap.specs.Walk.{Row, Rule, Text, all_of, first_of}
 use Rattle.clap.specs.declared.builder.action.ArgAction.TheVariants.{Set, Append, SetTrue}
 use Rattle.clap.specs.declared.error.kind.ErrorKind.TheVariants.{DisplayHelp, DisplayVersion}
 use Rattle.l4_options.specs.Spelled.{AreEncodedIn, AreFilesIn, AreFramesIn, AreNumbersIn, IsChosenAt, IsCountAt, IsNumberAt, IsReadingIn, IsRegionIn, IsScriptIn, IsSizeIn, is_on}
 use Rattle.l4_options.specs.declared.requests.Options.{Options}
-use Rattle.l4_options.specs.declared.requests.Options.TheVariants.{Run, History, Judge, Why, Plan, Check, Decode, Encode, Test, Orders, Show}
+use Rattle.l4_options.specs.declared.requests.Options.TheVariants.{Run, History, Segments, Judge, Why, Plan, Check, Decode, Encode, Test, Orders, Show}
 use Rattle.l4_options.specs.declared.requests.StepOptions.{StepOptions}
 use Rattle.l4_options.specs.declared.requests.StepOptions.TheVariants.{Run as RunSteps, Show as ShowText}
 
@@ -30,6 +30,10 @@ needed_words id = record (new_rule id) { action = Some Append; value_names = 1; 
 -- an option with a word, --ID WORD
 abbrev pub option : Text → Rule
 option id = record (word id) { long = Some id }
+
+-- an option with one or more words, --ID WORD..
+abbrev pub option_words : Text → Rule
+option_words id = record (new_rule id) { long = Some id; action = Some Append; value_names = 1; range = Some (record { start_inclusive = 1; end_inclusive = usize_max }) }
 
 -- a switch, --ID
 abbrev pub switch : Text → Rule
@@ -51,7 +55,8 @@ run_command = command (codes "run") (
     ∷ option (codes "history-to") ∷ []))
 
 abbrev pub history_command : Shape
-history_command = command (codes "history") (script_rules (switch (codes "strict") ∷ switch (codes "answers") ∷ []))
+history_command = command (codes "history") (
+    script_rules (switch (codes "strict") ∷ switch (codes "answers") ∷ option_words (codes "from") ∷ []))
 
 abbrev pub judge_command : Shape
 judge_command = command (codes "judge") (script_rules (switch (codes "all") ∷ []))
@@ -96,6 +101,12 @@ l4_steps_program = record {
 
 -- ---- what a command line asks for
 
+-- nothing that only a script has was found
+abbrev pub HasNoScript : List Row → Type 0
+HasNoScript found =
+    (first_of (codes "file") found ≡ None) × (first_of (codes "frames") found ≡ None) × (first_of (codes "page-size") found ≡ None)
+    × (is_on found (codes "strict") ≡ false)
+
 -- the command of this name asks for this, with what was found behind it
 abbrev pub Asks : Text → List Row → Options → Type 0
 Asks name found (Run script strict explain number moves history_to) =
@@ -105,6 +116,9 @@ Asks name found (Run script strict explain number moves history_to) =
     × (number && is_some history_to ≡ false) × (moves && is_some history_to ≡ false)
 Asks name found (History script strict answers) =
     (name ≡ codes "history") × IsScriptIn found script × (strict ≡ is_on found (codes "strict")) × (answers ≡ is_on found (codes "answers"))
+    × (all_of (codes "from") found ≡ None)
+Asks name found (Segments files answers) =
+    (name ≡ codes "history") × (Some (map string_bytes files.items) ≡ all_of (codes "from") found) × (answers ≡ is_on found (codes "answers")) × HasNoScript found
 Asks name found (Judge list all) = (name ≡ codes "judge") × IsScriptIn found list × (all ≡ is_on found (codes "all"))
 Asks name found (Why script strict thread page) =
     (name ≡ codes "why") × IsScriptIn found script × (strict ≡ is_on found (codes "strict"))

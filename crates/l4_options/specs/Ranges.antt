@@ -2,7 +2,7 @@
 use Rattle.std.specs.Prelude.{ℕ, ◌≤◌}
 use Rattle.l4_fpage.specs.Pages.{max_frames}
 use Rattle.l4_options.specs.declared.requests.Options.{Options}
-use Rattle.l4_options.specs.declared.requests.Options.TheVariants.{Run, History, Judge, Why, Plan, Check, Decode, Test, Orders, Encode, Show}
+use Rattle.l4_options.specs.declared.requests.Options.TheVariants.{Run, History, Segments, Judge, Why, Plan, Check, Decode, Test, Orders, Encode, Show}
 use Rattle.l4_options.specs.declared.requests.StepOptions.{StepOptions}
 use Rattle.l4_options.specs.declared.requests.StepOptions.TheVariants.{Run as RunSteps, Show as ShowText}
 
@@ -14,6 +14,7 @@ IsFrameCount n = (1 ≤ n) × (n ≤ max_frames)
 abbrev pub IsInRange : Options → Type 0
 IsInRange (Run script strict explain number moves history_to) = IsFrameCount script.frames
 IsInRange (History script strict answers) = IsFrameCount script.frames
+IsInRange (Segments files answers) = Unit {0}
 IsInRange (Judge list all) = IsFrameCount list.frames
 IsInRange (Why script strict thread page) = IsFrameCount script.frames
 IsInRange (Plan region size) = Unit {0}

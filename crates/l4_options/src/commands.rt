@@ -2,21 +2,22 @@
 ghost use Rattle.std.specs.Prelude.{◌≡◌, IfOk, IfSome, Some, codes, map};
 ghost use Rattle.clap.specs.Simple.{app_of};
 ghost use Rattle.clap.specs.Values.{kind_of};
-ghost use Rattle.l4_options.specs.Commands.{needed_word, run_command, history_command, judge_command, why_command, region_command, decode_command, l4_program, Asks, IsAsked, IsText};
+ghost use Rattle.l4_options.specs.Commands.{needed_word, run_command, judge_command, why_command, region_command, decode_command, l4_program, Asks, IsAsked, IsText};
 ghost use Rattle.l4_options.specs.Inside.Lines.{IsRule, IsCommand, IsTextKind, found_in};
 ghost use Rattle.l4_options.specs.Inside.Words.{spelled_anew};
 ghost use Rattle.l4_options.specs.Ranges.{IsInRange};
 
 use crate::encoding::{encode_options, of_tokens};
-use crate::help::{ABOUT, CHECK, DECODE, HISTORY, JUDGE, PLAN, SCRIPT, WHY};
+use crate::help::{ABOUT, CHECK, DECODE, JUDGE, PLAN, SCRIPT, WHY};
+use crate::histories::{history_options, of_history};
 use crate::ordering::{of_orders, orders_options};
 use crate::requests::{OptionFault, Options};
 use crate::testing::{of_files, test_options};
 use crate::values::{
-    all_option, answers_option, explain_option, file_argument, frames_option, help_text,
-    history_option, is_on, is_strict, is_word, moves_option, name_of, number_of, number_option,
-    reading_of, reading_option, region_of, script_of, size_of, size_option, strict_option,
-    without_hyphens, words_argument, words_of,
+    all_option, explain_option, file_argument, frames_option, help_text, history_option, is_on,
+    is_strict, is_word, moves_option, name_of, number_of, number_option, reading_of,
+    reading_option, region_of, script_of, size_of, size_option, strict_option, without_hyphens,
+    words_argument, words_of,
 };
 use clap::error::ErrorKind;
 use clap::{Arg, ArgAction, ArgMatches, Command, Error};
@@ -24,7 +25,7 @@ use std::alloc::{AllocError, Global};
 use std::convert::AsStr;
 
 /// What the help says of the file of a script.
-const SCRIPT_FILE: &str = "The script [default: standard input]";
+pub(crate) const SCRIPT_FILE: &str = "The script [default: standard input]";
 
 /// A word that has to be there.
 fn needed_word<'a>(alloc: Global, id: &'a str, name: &'a str, help: &'a str) -> Arg<'a>
@@ -107,20 +108,6 @@ fn of_script<'a>(alloc: Global) -> Result<Command<'a>, AllocError>
         .arg(number_option(alloc))?
         .arg(moves_option(alloc))?
         .arg(history_option(alloc))
-}
-
-/// The command `history`.
-fn of_history<'a>(alloc: Global) -> Result<Command<'a>, AllocError>
-    ensures { IfOk result (IsCommand history_command) }
-{
-    Command::new(alloc, "history")
-        .about("Prints the steps of a script in the form that l4_steps reads")
-        .after_help(HISTORY)
-        .arg(file_argument(alloc, SCRIPT_FILE))?
-        .arg(frames_option(alloc))?
-        .arg(size_option(alloc))?
-        .arg(strict_option(alloc))?
-        .arg(answers_option(alloc))
 }
 
 /// The command `decode`.
@@ -234,20 +221,6 @@ fn run_options(alloc: Global, matches: &ArgMatches<'_>) -> Result<Options, Optio
         moves,
         history_to,
     })
-}
-
-/// What the matches of `history` ask for.
-fn history_options(alloc: Global, matches: &ArgMatches<'_>) -> Result<Options, OptionFault>
-    ensures { IfOk result (Asks (codes "history") (found_in matches.now)) }
-{
-    match script_of(alloc, matches) {
-        Ok(script) => Ok(Options::History {
-            script,
-            strict: is_strict(matches),
-            answers: is_on(matches, "answers"),
-        }),
-        Err(fault) => Err(fault),
-    }
 }
 
 /// What the matches of `judge` ask for.
@@ -377,7 +350,7 @@ fn requested<'a, S: AsStr>(alloc: Global, words: &'a [S]) -> Result<Options, Opt
 }
 
 /// Reads the words of the command line, the program's name first:
-/// `l4 run [FILE] [--frames N] [--strict] [--explain] [--number] [--moves] [--history-to SEGMENTS]`, `l4 history [FILE] [--frames N] [--strict] [--answers]`,
+/// `l4 run [FILE] [--frames N] [--strict] [--explain] [--number] [--moves] [--history-to SEGMENTS]`, `l4 history [FILE] [--frames N] [--strict] [--answers]`, `l4 history --from SEGMENTS.. [--answers]`,
 /// `l4 judge [FILE] [--frames N] [--all]`, `l4 why THREAD PAGE [FILE] [--frames N] [--strict]`, `l4 plan SOURCE TARGET COUNT RIGHTS`, `l4 check` with the same words, `l4 decode [--as READING] WORD..`, `l4 encode [--as KIND] TOKEN..`, `l4 test FILE.. [--tap] [--write]`, `l4 orders [FILE] [--frames N] [--most N] [--witness K] [--outcomes]`, each with
 /// `--page-size BYTES` where that is wanted, `--help`, `help` or `--version`. N is 256 and BYTES 4096 where they are left out; READING is
 /// message, fpage, window or id.

@@ -49,8 +49,34 @@ in the form that l4_steps prints. These lines begin with '# ', so l4_steps skips
 refused line of the script executes no step. It is reported only with --strict: the
 script ends there, and the steps before it are printed.
 
-Exit status: as for 'l4 run'. With --answers, 4 also if a step gets another
-answer when it is executed again, because memory ran out.";
+With --from, no script is run: prints the history in files that 'l4 run
+--history-to' wrote, in the order given. All segments in them must be of one
+kernel, and each must begin where the one before it ended. The steps are
+executed again.
+
+  l4 run --history-to run.seg script
+  l4 history --from run.seg
+
+A file, a segment or an entry that is wrong has one of these codes. The bytes of
+a file, its segments, and the entries count from 0:
+
+  F1    a segment does not begin with LSG4
+  F2    the version of the file is unknown
+  F3    the number of frames is not in 1..=4096
+  F4    the page size is neither 4096 nor 1024
+  F5    the number of an entry would exceed 2^63
+  F6    the words are not those of an entry
+  F7    the checksum is not that of the segment
+  F8    the segment is cut off
+  J1    the number of frames is not that of the segments before it
+  J2    the page size is not that of the segments before it
+  J3    the segment does not begin where the one before it ended
+  J4    the entry is not the next step, nor the start of a call
+  J5    the kernel gives this step another answer
+
+Exit status: as for 'l4 run'. With --from, 2 also for a file, a segment or an
+entry that is wrong. With --answers, 4 also if a step gets another answer when it
+is executed again, because memory ran out.";
 
 pub(crate) const JUDGE: &str = "\
 Reads a step list from FILE, or from standard input if FILE is omitted, in the

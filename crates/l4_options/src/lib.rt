@@ -5,6 +5,7 @@ mod advice;
 mod commands;
 mod encoding;
 mod help;
+mod histories;
 mod misreading;
 mod ordering;
 mod requests;

@@ -29,10 +29,15 @@ pub enum Options {
         moves: bool,
         history_to: Option<String>,
     },
-    /// Writes the history of a script, up to its first refused line if `strict`, with the answers to each step if `answers`.
+    /// Writes the history of a script as a step list, up to its first refused line if `strict`, with the answers to each step if `answers`.
     History {
         script: ScriptOptions,
         strict: bool,
+        answers: bool,
+    },
+    /// Writes the history in these files of segments as a step list, with the answers to each step if `answers`.
+    Segments {
+        files: Vec<String>,
         answers: bool,
     },
     /// Judges a step list with another kernel's answers: up to its first difference, or to its end if `all`.

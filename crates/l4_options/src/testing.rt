@@ -48,7 +48,7 @@ pub(crate) fn of_files<'a>(alloc: Global) -> Result<Command<'a>, AllocError>
 }
 
 /// A copy of these names. None if there is not enough memory.
-fn copied(alloc: Global, names: &[&str]) -> Option<Vec<String>>
+pub(crate) fn copied(alloc: Global, names: &[&str]) -> Option<Vec<String>>
     ensures { IfSome result (λ copy. map string_bytes copy.items ≡ map (λ s. s.now) names.now) }
 {
     let mut copy = Vec::new(alloc);
