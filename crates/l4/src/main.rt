@@ -44,7 +44,7 @@ use std::io::{Read, Write};
 use std::process::ExitCode;
 use std::rt::Files;
 use std::{fs, io};
-use tested::{copy_files, test_files};
+use tested::test;
 
 const NOT_FOUND: u8 = 1;
 
@@ -415,13 +415,7 @@ fn execute<R: AllocGlobal + Files + Input + Print + Eprint>(rt: &R, asked: Optio
             reading,
             size,
         } => tell_words(rt, words.as_slice(), reading, size),
-        Options::Test { files, tap, write } => {
-            if write {
-                copy_files(rt, files.as_slice())
-            } else {
-                test_files(rt, files.as_slice(), tap)
-            }
-        }
+        Options::Test { files, tap, write } => test(rt, files.as_slice(), tap, write),
         Options::Orders {
             plan,
             most,

@@ -271,11 +271,7 @@ fn test_file<R: AllocGlobal + Files + Print + Eprint>(rt: &R, place: &Place<'_>)
 
 /// Tests the scripts in these files. Returns the greatest of their exit statuses.
 #[inline(never)]
-pub(crate) fn test_files<R: AllocGlobal + Files + Print + Eprint>(
-    rt: &R,
-    files: &[String],
-    tap: bool,
-) -> u8 {
+fn test_files<R: AllocGlobal + Files + Print + Eprint>(rt: &R, files: &[String], tap: bool) -> u8 {
     let mut greatest = 0;
     if tap {
         let count = files.len();
@@ -373,7 +369,7 @@ fn copy_file<R: AllocGlobal + Files + Print + Eprint>(rt: &R, place: &Place<'_>)
 
 /// Writes a copy of each script in these files, with the actual answers. Returns the greatest of the exit statuses.
 #[inline(never)]
-pub(crate) fn copy_files<R: AllocGlobal + Files + Print + Eprint>(rt: &R, files: &[String]) -> u8 {
+fn copy_files<R: AllocGlobal + Files + Print + Eprint>(rt: &R, files: &[String]) -> u8 {
     let mut greatest = 0;
     for index in 0..files.len() {
         let place = Place {
@@ -384,4 +380,18 @@ pub(crate) fn copy_files<R: AllocGlobal + Files + Print + Eprint>(rt: &R, files:
         greatest = greatest.max(copy_file(rt, &place));
     }
     greatest
+}
+
+/// Tests the scripts in these files, or writes a copy of each with the actual answers. Returns the greatest of the exit statuses.
+pub(crate) fn test<R: AllocGlobal + Files + Print + Eprint>(
+    rt: &R,
+    files: &[String],
+    tap: bool,
+    write: bool,
+) -> u8 {
+    if write {
+        copy_files(rt, files)
+    } else {
+        test_files(rt, files, tap)
+    }
 }

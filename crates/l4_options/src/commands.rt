@@ -8,7 +8,6 @@ ghost use Rattle.l4_options.specs.Inside.Words.{spelled_anew};
 ghost use Rattle.l4_options.specs.Ranges.{IsInRange};
 
 use crate::encoding::{encode_options, of_tokens};
-use crate::help::{ABOUT, CHECK, DECODE, JUDGE, PLAN, SCRIPT, WHY};
 use crate::histories::{history_options, of_history};
 use crate::ordering::{of_orders, orders_options};
 use crate::requests::{OptionFault, Options};
@@ -21,6 +20,7 @@ use crate::values::{
 };
 use clap::error::ErrorKind;
 use clap::{Arg, ArgAction, ArgMatches, Command, Error};
+use l4_help::commands::{ABOUT, CHECK, DECODE, JUDGE, PLAN, SCRIPT, WHY};
 use std::alloc::{AllocError, Global};
 use std::convert::AsStr;
 

@@ -5,12 +5,12 @@ ghost use Rattle.l4_options.specs.Inside.Lines.{IsCommand, IsRule, found_in};
 ghost use Rattle.l4_options.specs.Spelled.{AreWords, Encodes, IsKindIn, kind_of};
 ghost use Rattle.l4_symbols.specs.Messages.{AddsEach, IsMessageOf};
 
-use crate::help::ENCODE;
 use crate::requests::{OptionFault, Options};
 use crate::values::{is_word, size_of, size_option, text_of, texts_of, words_argument};
 use arrayvec::ArrayVec;
 use clap::{Arg, ArgAction, ArgMatches, Command};
 use l4_fpage::PageSize;
+use l4_help::commands::ENCODE;
 use l4_msg::MAX_WORDS;
 use l4_symbols::{Reason, SymbolicMessage, WordKind, word_of};
 use std::alloc::{AllocError, Global};

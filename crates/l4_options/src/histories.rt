@@ -5,7 +5,6 @@ ghost use Rattle.l4_options.specs.Commands.{history_command, option_words, Asks,
 ghost use Rattle.l4_options.specs.Inside.Lines.{IsCommand, IsRule, found_in};
 
 use crate::commands::SCRIPT_FILE;
-use crate::help::HISTORY;
 use crate::requests::{OptionFault, Options};
 use crate::testing::copied;
 use crate::values::{
@@ -13,6 +12,7 @@ use crate::values::{
     strict_option, text_of, texts_of,
 };
 use clap::{Arg, ArgAction, ArgMatches, Command};
+use l4_help::commands::HISTORY;
 use std::alloc::{AllocError, Global};
 
 /// The option `--from`.

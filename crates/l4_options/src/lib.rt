@@ -4,13 +4,11 @@
 mod advice;
 mod commands;
 mod encoding;
-mod help;
 mod histories;
 mod misreading;
 mod ordering;
 mod requests;
 mod step_commands;
-mod step_help;
 mod testing;
 mod values;
 

@@ -4,12 +4,12 @@ ghost use Rattle.l4_options.specs.Spelled.{IsCountAt, IsChosenAt};
 ghost use Rattle.l4_options.specs.Commands.{option, switch, orders_command, Asks};
 ghost use Rattle.l4_options.specs.Inside.Lines.{IsCommand, IsRule, found_in};
 
-use crate::help::ORDERS;
 use crate::requests::{OptionFault, Options};
 use crate::values::{
     file_argument, frames_option, is_on, number_of, script_of, size_option, text_of,
 };
 use clap::{Arg, ArgAction, ArgMatches, Command};
+use l4_help::commands::ORDERS;
 use std::alloc::{AllocError, Global};
 
 /// The number of states that are visited if `--most` is left out.

@@ -7,9 +7,9 @@ ghost use Rattle.l4_options.specs.Inside.Lines.{IsTextKind, found_in};
 ghost use Rattle.l4_options.specs.Ranges.{AreStepsInRange};
 
 use crate::requests::{OptionFault, StepOptions};
-use crate::step_help::{ABOUT, LANGUAGE};
 use crate::values::{frames_of, frames_option, help_text, size_of, size_option};
 use clap::{ArgMatches, Command, Error};
+use l4_help::steps::{ABOUT, LANGUAGE};
 use std::alloc::{AllocError, Global};
 use std::convert::AsStr;
 

@@ -4,10 +4,10 @@ ghost use Rattle.std.specs.String.{string_bytes};
 ghost use Rattle.l4_options.specs.Commands.{switch, test_command, Asks};
 ghost use Rattle.l4_options.specs.Inside.Lines.{IsCommand, IsRule, found_in};
 
-use crate::help::TEST;
 use crate::requests::{OptionFault, Options};
 use crate::values::{is_on, texts_of, words_argument};
 use clap::{Arg, ArgAction, ArgMatches, Command};
+use l4_help::commands::TEST;
 use std::alloc::{AllocError, Global};
 
 /// The option `--tap`.

@@ -1,8 +1,11 @@
-//! The help of `l4_steps`.
-pub(crate) const ABOUT: &str =
+//! The help of `l4_steps`, below its arguments.
+
+/// What `l4_steps` is.
+pub const ABOUT: &str =
     "Executes steps of an L4 X.2 kernel core in any order, and prints each answer.";
 
-pub(crate) const LANGUAGE: &str = "\
+/// The help of `l4_steps`: the language of step lists, and their answers.
+pub const LANGUAGE: &str = "\
 Reads a list on standard input, one step or query per line. Tokens are separated
 by spaces. Empty lines, and lines that begin with #, are skipped.
 

@@ -1,7 +1,10 @@
-//! The help of `l4`.
-pub(crate) const ABOUT: &str = "An L4 X.2 kernel core in user space.";
+//! The help of `l4` and its commands, below their arguments.
 
-pub(crate) const PLAN: &str = "\
+/// What `l4` is.
+pub const ABOUT: &str = "An L4 X.2 kernel core in user space.";
+
+/// The help of `l4 plan`.
+pub const PLAN: &str = "\
 Prints the shortest list of map items that moves a region: the COUNT pages that
 start at page SOURCE move to the pages that start at page TARGET, with these
 rights. No other page moves. Numbers are decimal, or hexadecimal with a 0x
@@ -19,7 +22,8 @@ region could move two of the printed pages, so no list is shorter.
 Exit status: 0 for a plan, 1 if there is none, 2 if the command line is invalid,
 3 if a write failed.";
 
-pub(crate) const CHECK: &str = "\
+/// The help of `l4 check`.
+pub const CHECK: &str = "\
 Reads a plan on standard input, in the form that 'l4 plan' prints. Checks that
 the plan moves exactly the region, and that no list of map items is shorter.
 
@@ -35,7 +39,8 @@ the plan moves exactly the region, and that no list of map items is shorter.
 Exit status: 0 if the plan is proved, 1 if it is not, 2 if the command line is
 invalid, 3 if a read or a write failed.";
 
-pub(crate) const HISTORY: &str = "\
+/// The help of `l4 history`.
+pub const HISTORY: &str = "\
 Runs a script from FILE, or from standard input if FILE is omitted, as 'l4 run'
 does. Once the script has ended, prints the kernel steps it executed, instead
 of the script's answers. Each step is a line that l4_steps can read: the start
@@ -78,7 +83,8 @@ Exit status: as for 'l4 run'. With --from, 2 also for a file, a segment or an
 entry that is wrong. With --answers, 4 also if a step gets another answer when it
 is executed again, because memory ran out.";
 
-pub(crate) const JUDGE: &str = "\
+/// The help of `l4 judge`.
+pub const JUDGE: &str = "\
 Reads a step list from FILE, or from standard input if FILE is omitted, in the
 language of l4_steps, with another kernel's answers below each step or query.
 Executes the steps on this kernel, and compares the answers.
@@ -111,7 +117,8 @@ Exit status: 0 if the list agrees, 1 if it differs, 2 if the command line or the
 list is invalid or FILE cannot be opened, 3 if a read or a write failed, 4 if
 there is not enough memory.";
 
-pub(crate) const WHY: &str = "\
+/// The help of `l4 why`.
+pub const WHY: &str = "\
 Runs a script from FILE, or from standard input if FILE is omitted, as 'l4 run'
 does. Once the script has ended, prints how page PAGE got into the space of
 thread THREAD, instead of the script's answers: the page that sigma0 had at
@@ -136,7 +143,8 @@ Exit status: the same as for 'l4 run', and 1 if the page is not present or the
 thread does not exist. 4 also if a transfer ran out of memory in the script, but
 not when it was executed again.";
 
-pub(crate) const DECODE: &str = "\
+/// The help of `l4 decode`.
+pub const DECODE: &str = "\
 Explains the words of a message, the tag first: one line for the tag, one for
 each untyped word and one for each item. The last line says what the message is
 as a whole. A single word is explained as a tag, as an fpage, as a receive window
@@ -169,8 +177,8 @@ as an fpage, a window or an id.
 
 Exit status: 0, or 2 if the command line is invalid, 3 if a write failed.";
 
-/// The help of `l4 test` below its options.
-pub(crate) const TEST: &str = "\
+/// The help of `l4 test`.
+pub const TEST: &str = "\
 Runs each script on a new kernel, and compares the answers to each line with the
 answers that it expects. Expectations are comments, so 'l4 run' ignores them. It
 ignores the '#!' line too: give it these options on its command line.
@@ -205,7 +213,8 @@ Exit status: 0 if all scripts pass, or all copies are written, 1 if an answer di
 or a script is invalid or FILE cannot be opened, 3 if a read or a write failed, 4
 if there was not enough memory. With several files, the greatest of their statuses.";
 
-pub(crate) const ORDERS: &str = "\
+/// The help of `l4 orders`.
+pub const ORDERS: &str = "\
 Reads a plan from FILE, or from standard input if FILE is omitted: a script with the
 lines 'unordered' and 'finally'. Runs the lines before 'unordered' in their order.
 Then lets the threads run their lines in every possible order, in which the lines of
@@ -236,7 +245,8 @@ Exit status: 0 every order was followed; 1 not every order; 2 invalid command li
 file cannot be opened, or a line cannot be part of a plan; 3 read or write failed;
 4 out of memory.";
 
-pub(crate) const ENCODE: &str = "\
+/// The help of `l4 encode`.
+pub const ENCODE: &str = "\
 Prints the words that tokens stand for. Without --as, or with --as message, the
 tokens are a message: the tag, then the untyped words, and then the items. Pages
 have the size of --page-size. Numbers are decimal, or hexadecimal with a 0x
@@ -273,7 +283,8 @@ decode' and scripts read them.
 
 Exit status: 0, or 2 if the command line is invalid, 3 if a write failed.";
 
-pub(crate) const SCRIPT: &str = "\
+/// The help of `l4` itself: the language of scripts, their answers and the codes.
+pub const SCRIPT: &str = "\
 Reads a script from FILE, or from standard input if FILE is omitted, and answers
 each line on standard output. Every line ends with a newline, including the last
 one. Tokens are separated by spaces; a tab is not a separator. Empty lines, and
