@@ -199,6 +199,7 @@ impl Script {
     }
 
     /// Answers one line.
+    #[inline(always)]
     pub(crate) fn answer_line<S: Sink>(
         &mut self,
         line: u64,
