@@ -10,9 +10,9 @@ pub returns-in-Err-clause-none : goal.returns-in-Err-clause-none
 returns-in-Err-clause-none c =
     let fault : FileFault = record { position = c.loop-read.at + c.in-Err.fault.position; kind = c.in-Err.fault.kind } in
     elim c.in-Err.ensures.err [
-      inl lacks ↦ inl lacks
-    | inr departs ↦ inr (no_files c.args.bytes.now fault (departs_after c.args.bytes.now c.loop-read.segments.items c.loop-read.at c.in-Err.fault fault c.loop-read.invariant.0
-        c.loop-read.invariant.1 (subst (λ (l : List ℕ). Departs l c.in-Err.fault) (from_on c.args.bytes.now c.loop-read.at) departs.0) departs.1 refl refl))
+      | inl lacks ↦ inl lacks
+      | inr departs ↦ inr (no_files c.args.bytes.now fault (departs_after c.args.bytes.now c.loop-read.segments.items c.loop-read.at c.in-Err.fault fault c.loop-read.invariant.0
+          c.loop-read.invariant.1 (subst (λ (l : List ℕ). Departs l c.in-Err.fault) (from_on c.args.bytes.now c.loop-read.at) departs.0) departs.1 refl refl))
     ]
 
 pub returns-then-at-bytes-clause-ok : goal.returns-then-at-bytes-clause-ok
