@@ -28,6 +28,7 @@ pub mod ManyChildren
 pub mod RowSteps
 pub mod PageRuns
 pub mod OnePage
+pub mod HeldChildren
 pub mod Moving
 pub mod Noting
 pub mod Laws

@@ -25,7 +25,7 @@ use Rattle.l4_links.proofs.ManyChildren.{adds_first, adds_passed, adds_joined}
 use Rattle.l4_links.proofs.RowSteps.{shared_none, entry_of_page}
 
 -- a page that has an entry is named by the tables
-entry_named : (slots : Slots) (t : Tables) → IsIndexed slots t → (space : ℕ) (k : ℕ) (e : Entry) → entry_at (entries_of slots) k ≡ Some e → e.place.space ≡ space → key_of t space e.place.page ≡ Some k
+pub entry_named : (slots : Slots) (t : Tables) → IsIndexed slots t → (space : ℕ) (k : ℕ) (e : Entry) → entry_at (entries_of slots) k ≡ Some e → e.place.space ≡ space → key_of t space e.place.page ≡ Some k
 entry_named slots t i space k e at in_space =
     let is : IsAt (entries_of slots) e.place k = ap (option_map {T = Entry} (λ x. x.place)) at in
     sym (ap (λ (z : ℕ). key_of t z e.place.page) in_space) ∙ (i.names e.place k).1 ((is_at slots e.place k).1 is)

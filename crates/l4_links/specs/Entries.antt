@@ -293,3 +293,18 @@ pub record IsHalted (source : Place) (end : ℕ) (target : Place) (rights : Righ
   pub page_is : shared.entry.place.page ≡ halt.page
   pub taken : halt.refused ≡ false → (other : ℕ) × IsAt s (moved_place source target shared.entry.place) other
   pub absent : halt.refused ≡ true → (other : ℕ) → ¬ (IsAt s (moved_place source target shared.entry.place) other)
+
+-- what is under the key is a child of what is under the parent's, with those of these rights that the parent has
+pub record HasChild (parent key : ℕ) (rights : RightsSet) (s : Entries) : Type 0 where
+  pub child : Standing
+  pub stands : standing_at s key ≡ Some child
+  pub of : child.parent ≡ Some parent
+  pub above : Standing
+  pub at_parent : standing_at s parent ≡ Some above
+  pub rights_are : child.rights ≡ common above.rights rights
+
+-- Each of these pages that shares a right with these has a child with such rights at the place that it goes to, and nothing descends from the
+-- child.
+abbrev pub HoldsChildren : (source : Place) (end : ℕ) (target : Place) → RightsSet → Entries → Type 0
+HoldsChildren source end target rights s =
+    (key : ℕ) (h : IsShared source end rights s key) → (k : ℕ) × IsAt s (moved_place source target h.entry.place) k × HasChild key k rights s × ((low : ℕ) → ¬ (Descends s low k))

@@ -131,7 +131,7 @@ pub(crate) fn add_run(
 
 /// Returns the run that begins with the page. It ends with a block of entries, with a table, or with the pages.
 #[inline]
-fn run_at(of: &Pages, page: u32) -> Run
+pub(crate) fn run_at(of: &Pages, page: u32) -> Run
     requires from { of.now.source.page ≤ page }
     requires before { page < of.now.end }
     requires fits { of.now.end - of.now.source.page + of.now.target.page ≤ space_pages }

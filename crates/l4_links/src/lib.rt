@@ -15,6 +15,7 @@ ghost use Rattle.l4_links.specs.Inside.Keeping.{standing_of};
 mod blocks;
 mod burial;
 mod children;
+mod holding;
 mod lists;
 mod parents;
 mod walks;
@@ -22,6 +23,7 @@ mod walks;
 use blocks::{Pages, move_block};
 use burial::cap_at;
 use children::{add_all, sharing};
+use holding::{holds_all, holds_at};
 use l4_fpage::Rights;
 pub use l4_nodes::Place;
 use l4_nodes::{Link, Node, Slots, node_of, set_plain, set_rights, set_source, set_wanted};
@@ -102,7 +104,7 @@ impl Model for Links {
 impl Links {
     ghost use Rattle.l4_spaces.specs.Listed.{NoSpaceFrom, IsNextSpace};
     ghost use Rattle.l4_links.specs.ListOf.{IsListOf};
-    ghost use Rattle.l4_links.specs.Entries.{entry_at, standing_at, parent_of, IsStanding, IsBlank, IsAt, IsSource, HaveRights, HavePlaces, AreTrees, NoKeyFrom, IsNextKey, NoKeyIn, IsNextKeyIn, IsKeyOf, NoParentIn, IsNextParentIn, Descends, AddsBlank, Stands, Sprouts, AddsChild, Clears, CutsBelow, Buries, CapsBelow, CapsTree, SetsSource, SetsPlain, SetsWanted, TakesOver, MovesPages, Hinders, LacksPlace, AddsChildren, IsHalted};
+    ghost use Rattle.l4_links.specs.Entries.{entry_at, standing_at, parent_of, IsStanding, IsBlank, IsAt, IsSource, HaveRights, HavePlaces, AreTrees, NoKeyFrom, IsNextKey, NoKeyIn, IsNextKeyIn, IsKeyOf, NoParentIn, IsNextParentIn, Descends, AddsBlank, Stands, Sprouts, AddsChild, Clears, CutsBelow, Buries, CapsBelow, CapsTree, SetsSource, SetsPlain, SetsWanted, TakesOver, MovesPages, Hinders, LacksPlace, AddsChildren, IsHalted, HoldsChildren};
     ghost use Rattle.l4_links.specs.declared.Standing.{Standing as AStanding};
 
     /// Creates a value without pages and spaces. Memory for the nodes of this many pages is allocated at once, except for the tables that
@@ -390,15 +392,15 @@ impl Links {
         if end - source.page == 1 {
             return self.add_at(source, target, rights);
         }
-        let mut targets = self.pages.take_tables(target.space);
+        let mut tables = self.pages.take_tables(target.space);
         let of = Pages {
             source,
             end,
             target,
             rights,
         };
-        let halt = add_all(&mut self.nodes, &self.pages, &mut targets, &of);
-        self.pages.put_tables(target.space, targets);
+        let halt = add_all(&mut self.nodes, &self.pages, &mut tables, &of);
+        self.pages.put_tables(target.space, tables);
         self.stamp = fresh(self.stamp);
         halt
     }
@@ -430,6 +432,30 @@ impl Links {
             key,
             refused,
         })
+    }
+
+    /// Returns whether each page from the source on and before the end that shares a right with these has a child already, with those of these
+    /// rights that the page has, at the places from the target on. Nothing may descend from these children.
+    pub fn holds_children(&self, source: Place, end: u32, target: Place, rights: Rights) -> bool
+        requires there { IsTrue (set.contains self.now.spaces target.space) }
+        requires rising { source.page ≤ end }
+        requires fits { end - source.page + target.page ≤ space_pages }
+        ensures yes { result ≡ true → HoldsChildren source end target rights self.now.entries }
+        ensures no { result ≡ false
+            → ¬ (HoldsChildren source end target rights self.now.entries) }
+    {
+        if end - source.page == 1 {
+            let key = self.find(source);
+            let child = self.find(target);
+            return holds_at(&self.nodes, key, child, rights);
+        }
+        let of = Pages {
+            source,
+            end,
+            target,
+            rights,
+        };
+        holds_all(&self.nodes, &self.pages, &of)
     }
 
     /// None if the page has a key, and else the refusal.

@@ -137,6 +137,7 @@ pub(crate) fn link_under(nodes: &mut Slots, parent: usize, key: usize, above: No
 }
 
 /// Puts a node for a page straight after its parent, into the slot of the vacant key, which there is room for.
+#[inline(always)]
 pub(crate) fn add_under(
     nodes: &mut Slots,
     parent: usize,

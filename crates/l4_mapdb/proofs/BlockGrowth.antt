@@ -36,31 +36,67 @@ module _ (start : Linked) (from to : ℕ) (items : List ItemMove) (ground : IsGr
   abbrev end : ℕ
   end = by.mv.source.first + 2 ^ by.mv.source.log
 
-  module _ (Done : UsedMove → Type 0) (now : Linked) (grown : Grown start from to items Done now) where
-    -- a shared page of the item has a used move
-    pub move_of : (last key page : ℕ) (h : IsShared source last by.rights now.entries key) → h.entry.place.page ≡ page → last ≤ end
-        → (used : Used (move_from to one key page by)) × (brought source last target by.rights now.entries key h ≡ child (move_from to one key page by) used)
-    move_of last key page h page_is le =
-        let first = h.inside.1 in
-        let before = h.inside.2 in
-        let at_start : entry_at start.entries key ≡ Some h.entry = elim (grown.only key h.entry h.at) [
-          | inl was ↦ was
-          | inr n ↦ absurd (ground.apart (sym h.inside.0 ∙ ap (λ (e : Entry). e.place.space) n.3 ∙ n.1.to_space))
-        ] in
-        let place : h.entry.place ≡ record { space = from; page = page } = λ i. record { space = h.inside.0 i; page = page_is i } in
-        let goes : moved_place source target h.entry.place ≡ record { space = to; page = page - by.mv.source.first + by.mv.target.first } = ap (moved_place source target) place in (
-          record {
-            by = by;
-            item = item;
-            grant = refl;
-            to_space = refl;
-            pages = record { index = page - by.mv.source.first; within = omega (arith, first, before, page_is, le); source_is = omega (arith, first, page_is); target_is = omega arith };
-            standing = plain h.standing;
-            stands = stands_as start.entries key h.entry h.standing at_start h.stands ∙ ap (λ (x : LinkPlace). Some (x, plain h.standing)) place;
-            some_right = h.shares;
-          },
-          ap (λ (p : LinkPlace). child_at p key h.standing by.rights) goes,
-        )
+  -- a shared page of the item has a used move
+  pub move_of : (now : Linked) → ((key : ℕ) (e : Entry) → entry_at now.entries key ≡ Some e → e.place.space ≡ from → entry_at start.entries key ≡ Some e)
+      → (last key page : ℕ) (h : IsShared source last by.rights now.entries key) → h.entry.place.page ≡ page → last ≤ end
+      → (used : Used (move_from to one key page by)) × (brought source last target by.rights now.entries key h ≡ child (move_from to one key page by) used)
+  move_of now back last key page h page_is le =
+      let first = h.inside.1 in
+      let before = h.inside.2 in
+      let place : h.entry.place ≡ record { space = from; page = page } = λ i. record { space = h.inside.0 i; page = page_is i } in
+      let goes : moved_place source target h.entry.place ≡ record { space = to; page = page - by.mv.source.first + by.mv.target.first } = ap (moved_place source target) place in (
+        record {
+          by = by;
+          item = item;
+          grant = refl;
+          to_space = refl;
+          pages = record { index = page - by.mv.source.first; within = omega (arith, first, before, page_is, le); source_is = omega (arith, first, page_is); target_is = omega arith };
+          standing = plain h.standing;
+          stands = stands_as start.entries key h.entry h.standing (back key h.entry h.at h.inside.0) h.stands ∙ ap (λ (x : LinkPlace). Some (x, plain h.standing)) place;
+          some_right = h.shares;
+        },
+        ap (λ (p : LinkPlace). child_at p key h.standing by.rights) goes,
+      )
+
+  -- what is at the source of a used move of the item is shared
+  pub record Shared (now : Linked) (last : ℕ) (m : UsedMove) (used : Used m) : Type 0 where
+    pub h : IsShared source last by.rights now.entries m.source
+    pub goes : moved_place source target h.entry.place ≡ m.target
+    pub brings : brought source last target by.rights now.entries m.source h ≡ child m used
+
+  pub shared_of : (now : Linked) → ((key : ℕ) (e : Entry) → entry_at start.entries key ≡ Some e → entry_at now.entries key ≡ Some e) → (last : ℕ) (m : UsedMove) (used : Used m) → m.item ≡ one → m.page < last → Shared now last m used
+  shared_of now kept last m used same before =
+      let s = source_entry start from to items ground m used in
+      let at_item : slice_get items m.item ≡ Some by = ap (slice_get items) same ∙ item in
+      let it : used.by ≡ by = one_by items m.item used.by by used.item at_item in
+      let source_first : used.by.mv.source.first ≡ by.mv.source.first = ap (λ (x : ItemMove). x.mv.source.first) it in
+      let target_first : used.by.mv.target.first ≡ by.mv.target.first = ap (λ (x : ItemMove). x.mv.target.first) it in
+      let at_page : s.0.place.page ≡ m.page = ap (λ (x : LinkPlace). x.page) s.5 in
+      let source_is = used.pages.source_is in
+      let target_is = used.pages.target_is in
+      let target_page : s.0.place.page - by.mv.source.first + by.mv.target.first ≡ m.target.page = omega (arith, at_page, source_first, target_first, source_is, target_is) in
+      let goes : moved_place source target s.0.place ≡ m.target = λ i. record { space = (sym used.to_space) i; page = target_page i } in
+      let rights : s.1.rights ≡ used.standing.rights = ap (λ (t : Standing). t.rights) s.4 in
+      record {
+        h = record {
+          entry = s.0;
+          at = kept m.source s.0 s.2;
+          inside = (ap (λ (x : LinkPlace). x.space) s.5, omega (arith, at_page, source_first, source_is), omega (arith, at_page, before));
+          standing = s.1;
+          stands = s.3;
+          shares = λ none. used.some_right ((λ i. common ((sym rights) i) (it i).rights) ∙ none);
+        };
+        goes = goes;
+        brings = ap (λ (p : LinkPlace). child_at p m.source s.1 by.rights) goes
+            ∙ child_as start from to items ground m used s.1 by (ap (option_and_then (λ (e : Entry). e.stands)) s.2 ∙ s.3) at_item;
+      }
+
+  -- children are in another space
+  grown_back : (Done : UsedMove → Type 0) (now : Linked) → Grown start from to items Done now → (key : ℕ) (e : Entry) → entry_at now.entries key ≡ Some e → e.place.space ≡ from → entry_at start.entries key ≡ Some e
+  grown_back Done now grown key e at in_from = elim (grown.only key e at) [
+    | inl was ↦ was
+    | inr n ↦ absurd (ground.apart (sym in_from ∙ ap (λ (x : Entry). x.place.space) n.3 ∙ n.1.to_space))
+  ]
 
   module _ (now new : Linked) (grown : Grown start from to items (Earlier (turn one 0)) now) (spaces : new.spaces ≡ now.spaces) (page : ℕ) (a : AddsChildren source page target by.rights now.entries new.entries) (le : page ≤ end) where
     -- a used move before the page is of an item before, or of a page before
@@ -76,39 +112,6 @@ module _ (start : Linked) (from to : ℕ) (items : List ItemMove) (ground : IsGr
     weaker : (m : UsedMove) → turn_of m < turn one 0 → turn_of m < turn one page
     weaker m lt = omega (arith, lt)
 
-    -- what is at the source of a used move of the item is shared
-    record Shared (m : UsedMove) (used : Used m) : Type 0 where
-      h : IsShared source page by.rights now.entries m.source
-      goes : moved_place source target h.entry.place ≡ m.target
-      brings : brought source page target by.rights now.entries m.source h ≡ child m used
-
-    shared_of : (m : UsedMove) (used : Used m) → m.item ≡ one → m.page < page → Shared m used
-    shared_of m used same before =
-        let s = source_entry start from to items ground m used in
-        let at_item : slice_get items m.item ≡ Some by = ap (slice_get items) same ∙ item in
-        let it : used.by ≡ by = one_by items m.item used.by by used.item at_item in
-        let source_first : used.by.mv.source.first ≡ by.mv.source.first = ap (λ (x : ItemMove). x.mv.source.first) it in
-        let target_first : used.by.mv.target.first ≡ by.mv.target.first = ap (λ (x : ItemMove). x.mv.target.first) it in
-        let at_page : s.0.place.page ≡ m.page = ap (λ (x : LinkPlace). x.page) s.5 in
-        let source_is = used.pages.source_is in
-        let target_is = used.pages.target_is in
-        let target_page : s.0.place.page - by.mv.source.first + by.mv.target.first ≡ m.target.page = omega (arith, at_page, source_first, target_first, source_is, target_is) in
-        let goes : moved_place source target s.0.place ≡ m.target = λ i. record { space = (sym used.to_space) i; page = target_page i } in
-        let rights : s.1.rights ≡ used.standing.rights = ap (λ (t : Standing). t.rights) s.4 in
-        record {
-          h = record {
-            entry = s.0;
-            at = grown.kept m.source s.0 s.2;
-            inside = (ap (λ (x : LinkPlace). x.space) s.5, omega (arith, at_page, source_first, source_is), omega (arith, at_page, before));
-            standing = s.1;
-            stands = s.3;
-            shares = λ none. used.some_right ((λ i. common ((sym rights) i) (it i).rights) ∙ none);
-          };
-          goes = goes;
-          brings = ap (λ (p : LinkPlace). child_at p m.source s.1 by.rights) goes
-              ∙ child_as start from to items ground m used s.1 by (ap (option_and_then (λ (e : Entry). e.stands)) s.2 ∙ s.3) at_item;
-        }
-
     -- a place that has a key still has it
     at_now : (place : LinkPlace) (key : ℕ) → IsAt start.entries place key → IsAt now.entries place key
     at_now place key at = let e = entry_of start.entries key place at in is_at now.entries key e.0 place (grown.kept key e.0 e.1) e.2
@@ -117,7 +120,7 @@ module _ (start : Linked) (from to : ℕ) (items : List ItemMove) (ground : IsGr
     differ : (m n : UsedMove) (a_used : Used m) (b_used : Used n) → turn_of m < turn one 0 → n.item ≡ one → n.page < page → m.target ≢ n.target
     differ m n a_used b_used less same before targets =
         let c = grown.child m a_used less in
-        let s = shared_of n b_used same before in
+        let s = shared_of now grown.kept page n b_used same before in
         a.free n.source s.h c.0 (is_at now.entries c.0 (child m a_used) (moved_place source target s.h.entry.place) c.1 (targets ∙ sym s.goes))
 
     pub grown_block : Grown start from to items (Earlier (turn one page)) new
@@ -126,7 +129,7 @@ module _ (start : Linked) (from to : ℕ) (items : List ItemMove) (ground : IsGr
       kept = λ key e at. a.kept key e (grown.kept key e at);
       child = λ m used lt. elim (which m used lt) [
         | inl less ↦ let c = grown.child m used less in (c.0, a.kept c.0 (child m used) c.1)
-        | inr w ↦ let s = shared_of m used w.0 w.1 in let c = a.child m.source s.h in (c.0, c.1 ∙ ap (λ (e : Entry). Some e) s.brings)
+        | inr w ↦ let s = shared_of now grown.kept page m used w.0 w.1 in let c = a.child m.source s.h in (c.0, c.1 ∙ ap (λ (e : Entry). Some e) s.brings)
       ];
       only = λ key e at. elim (a.only key e at) [
         | inl was ↦ elim (grown.only key e was) [
@@ -134,13 +137,13 @@ module _ (start : Linked) (from to : ℕ) (items : List ItemMove) (ground : IsGr
           | inr n ↦ inr (n.0, n.1, weaker n.0 n.2, n.3)
         ]
         | inr came ↦
-            let u = move_of (Earlier (turn one 0)) now grown page came.0 came.1.entry.place.page came.1 refl le in
+            let u = move_of now (grown_back (Earlier (turn one 0)) now grown) page came.0 came.1.entry.place.page came.1 refl le in
             let before = came.1.inside.2 in
             inr (move_from to one came.0 came.1.entry.place.page by, u.0, omega (arith, before), came.2 ∙ u.1)
       ];
       absent = λ m used lt. elim (which m used lt) [
         | inl less ↦ grown.absent m used less
-        | inr w ↦ λ key at. (let s = shared_of m used w.0 w.1 in a.free m.source s.h key (subst (λ (p : LinkPlace). IsAt now.entries p key) (sym s.goes) (at_now m.target key at)))
+        | inr w ↦ λ key at. (let s = shared_of now grown.kept page m used w.0 w.1 in a.free m.source s.h key (subst (λ (p : LinkPlace). IsAt now.entries p key) (sym s.goes) (at_now m.target key at)))
       ];
       apart = λ m n a_used b_used lt_m lt_n same. elim (which m a_used lt_m) [
         | inl less_m ↦ elim (which n b_used lt_n) [
@@ -170,7 +173,7 @@ module _ (start : Linked) (from to : ℕ) (items : List ItemMove) (ground : IsGr
     pub block_stopped : (halt : Halt) → IsHalted source end target by.rights new.entries halt → halt.page ≡ page → IsStopped start from to items new (record { used = move_from to one halt.key halt.page by; refused = halt.refused })
     block_stopped halt h at_page =
         let grown_here : Grown start from to items (Earlier (turn one halt.page)) new = subst (λ (p : ℕ). Grown start from to items (Earlier (turn one p)) new) (sym at_page) grown_block in
-        let u = move_of (Earlier (turn one halt.page)) new grown_here end halt.key halt.page h.shared h.page_is (omega arith) in
+        let u = move_of new (grown_back (Earlier (turn one halt.page)) new grown_here) end halt.key halt.page h.shared h.page_is (omega arith) in
         record {
           moved = u.0;
           grown = grown_here;

@@ -1,49 +1,28 @@
 //! The short path for a message that maps pages to places of another space that may be present, but have no descendants. Each child
 //! replaces the mapping at its place. The keys of all targets are allocated first, so nothing is refused once something has changed.
 
-ghost use Rattle.std.specs.Prelude.{◌≡◌, ◌≢◌, ℕ, length, IsTrue, OnOk, OnErr, IfOk, IfErr, true};
+ghost use Rattle.std.specs.Prelude.{◌≡◌, ◌≢◌, ℕ, length, IsTrue, OnOk, OnErr, IfErr, true, false};
 ghost use Rattle.std.specs.FinSet as set;
 ghost use Rattle.l4_spaces.specs.Tables.{IsPage};
 ghost use Rattle.l4_links.specs.Entries.{Linked, entry_at, IsAt, HaveRights};
 ghost use Rattle.l4_mapdb.specs.Inside.Messages.{IsMoved};
 ghost use Rattle.l4_mapdb.specs.Inside.Tangles.{AreApart};
 ghost use Rattle.l4_mapdb.specs.Inside.Growing.{IsGround, Mapped, Stops};
-ghost use Rattle.l4_mapdb.specs.Inside.Renewing.{IsMade, HasChild, IsHeld, Holds, CanRenew, RenewsAt, Spaced, IsBarred, Renewed};
+ghost use Rattle.l4_mapdb.specs.Inside.Renewing.{IsMade, HoldsItems, CanRenew, RenewsAt, Spaced, IsBarred, Renewed};
 
 use crate::ItemMove;
+use crate::cutting::end_of;
 use crate::growing::Stop;
 use crate::sources::{UsedMove, UsedMoves};
 use crate::unmarking::unmark;
 use l4_fpage::Rights;
-use l4_links::Links;
+use l4_links::{Links, Place};
 
-/// Returns whether the node under the key is a child of the source with those of these rights that the source has.
-fn is_child(links: &Links, source: usize, key: usize, rights: Rights) -> bool
-    ensures { result ≡ true → HasChild source key rights links.now.entries }
-{
-    let Some(child) = links.standing(key) else {
-        return false;
-    };
-    let Some(parent) = child.parent else {
-        return false;
-    };
-    if parent != source {
-        return false;
-    }
-    let Some(above) = links.standing(source) else {
-        return false;
-    };
-    child.rights == above.rights.intersection(rights)
-}
-
-/// Gives the target of a used move a key if it has none, and otherwise tests that nothing descends from its node. Returns whether the node
-/// is already what the move brings.
-fn make_place(links: &mut Links, used: UsedMove, rights: Rights) -> Result<bool, Stop>
+/// Gives the target of a used move a key if it has none, and otherwise tests that nothing descends from its node.
+fn make_place(links: &mut Links, used: UsedMove) -> Result<(), Stop>
     requires there { IsTrue (set.contains links.old.spaces used.target.space) }
     requires fits { IsPage used.target.page }
     ensures made { OnOk result (IsMade used.target links.old links.new) }
-    ensures has { IfOk result
-        (λ has. has ≡ true → IsHeld used.source used.target rights links.old links.new) }
     ensures err { OnErr result (links.new ≡ links.old) }
     ensures stop { IfErr result (λ stop. stop.used ≡ used) }
     ensures lacks { IfErr result
@@ -52,7 +31,7 @@ fn make_place(links: &mut Links, used: UsedMove, rights: Rights) -> Result<bool,
 {
     if let Some(key) = links.find(used.target) {
         if links.is_leaf(key) {
-            return Ok(is_child(links, used.source, key, rights));
+            return Ok(());
         }
         return Err(Stop {
             used,
@@ -60,7 +39,7 @@ fn make_place(links: &mut Links, used: UsedMove, rights: Rights) -> Result<bool,
         });
     }
     match links.add_blank(used.target) {
-        Ok(_) => Ok(false),
+        Ok(_) => Ok(()),
         Err(_) => Err(Stop {
             used,
             refused: true,
@@ -68,31 +47,49 @@ fn make_place(links: &mut Links, used: UsedMove, rights: Rights) -> Result<bool,
     }
 }
 
-/// Gives the target of each used move a key if it has none, up to the first target with descendants. Returns whether each target already
-/// has what its move brings.
-fn make_places(links: &mut Links, from: u64, to: u64, items: &[ItemMove]) -> Result<bool, Stop>
+/// Gives the target of each used move a key if it has none, up to the first target with descendants.
+fn make_places(links: &mut Links, from: u64, to: u64, items: &[ItemMove]) -> Result<(), Stop>
     requires ground { IsGround links.old from to }
     requires there { IsTrue (set.contains links.old.spaces to) }
-    ensures all { IfOk result
-        (λ all. all ≡ true
-        → Holds links.old from to items.now (IsMoved links.old.entries from to items.now)
-        × (links.new ≡ links.old)) }
     ensures ok { OnOk result
         (Spaced links.old from to items.now (IsMoved links.old.entries from to items.now)
         links.new) }
     ensures err { IfErr result (IsBarred links.old from to items.now links.new) }
     ensures spaces { links.new.spaces ≡ links.old.spaces }
 {
-    let mut all = true;
     let mut moves = UsedMoves::new();
     while let Some(used) = moves.next(links, from, to, items) {
         links.law_places();
-        match make_place(links, used, items[used.item].rights) {
-            Ok(has) => all = all & has,
+        match make_place(links, used) {
+            Ok(()) => {}
             Err(stop) => return Err(stop),
         }
     }
-    Ok(all)
+    Ok(())
+}
+
+/// Returns whether all targets have what the message brings already, and nothing descends from what is there.
+fn holds_all(links: &Links, from: u64, to: u64, items: &[ItemMove]) -> bool
+    requires there { IsTrue (set.contains links.now.spaces to) }
+    ensures yes { result ≡ true → HoldsItems from to items.now (length items.now) links.now.entries }
+    ensures no { result ≡ false
+        → ¬ (HoldsItems from to items.now (length items.now) links.now.entries) }
+{
+    for item in 0..items.len() {
+        let by = &items[item];
+        let source = Place {
+            space: from,
+            page: by.mv.source.first,
+        };
+        let target = Place {
+            space: to,
+            page: by.mv.target.first,
+        };
+        if !links.holds_children(source, end_of(by.mv.source), target, by.rights) {
+            return false;
+        }
+    }
+    true
 }
 
 /// Replaces the node at the target by a child of the used move's source. A node that is already its child only gets its rights.
@@ -149,15 +146,12 @@ pub(crate) fn take_places(
     ensures stop { IfErr result (Stops links.old from to items.now) }
     ensures spaces { links.new.spaces ≡ links.old.spaces }
 {
-    let all = match make_places(links, from, to, items) {
-        Ok(all) => all,
-        Err(stop) => {
-            unmark(links, from, to, items);
-            return Err(stop);
-        }
-    };
-    if all {
+    if holds_all(links, from, to, items) {
         return Ok(());
+    }
+    if let Err(stop) = make_places(links, from, to, items) {
+        unmark(links, from, to, items);
+        return Err(stop);
     }
     renew_all(links, from, to, items);
     links.law_places();

@@ -162,7 +162,8 @@ impl Spaces {
 
     /// Returns the tables of the space, or None if there is no such space. A walk over many pages therefore looks the space up once.
     pub fn tables(&self, space: u64) -> Option<&Vec<Row>>
-        ensures { MatchOption result ((page : ℕ) → key_of self.now space page ≡ None)
+        ensures { MatchOption result
+            (((page : ℕ) → key_of self.now space page ≡ None) × ¬ (IsSpace self.now space))
             (λ tables. AreTablesOf self.now space tables.now.items) }
     {
         let Some(at) = index_of(&self.spaces, space) else {

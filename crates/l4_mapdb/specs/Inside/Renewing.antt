@@ -1,10 +1,10 @@
 -- Children that take the places of what nothing descends from, and of blanks, one after another. (this profile's own)
-use Rattle.std.specs.Prelude.{◌≡◌, ◌≢◌, ◌⊎◌, ℕ, List, Some, None, false, true}
+use Rattle.std.specs.Prelude.{◌≡◌, ◌≢◌, ◌⊎◌, ◌<◌, ◌+◌, ◌^◌, ℕ, slice_get, List, Some, None, false, true}
 use Rattle.l4_fpage.specs.Rights.{RightsSet, common, no_rights}
 use Rattle.l4_nodes.specs.declared.Place.{Place as LinkPlace}
 use Rattle.l4_links.specs.declared.Standing.{Standing}
 use Rattle.l4_links.specs.declared.Entry.{Entry}
-use Rattle.l4_links.specs.Entries.{Entries, Linked, entry_at, standing_at, IsAt, Descends, AddsBlank}
+use Rattle.l4_links.specs.Entries.{Entries, Linked, entry_at, standing_at, IsAt, Descends, AddsBlank, HoldsChildren}
 use Rattle.l4_mapdb.specs.declared.ItemMove.{ItemMove}
 use Rattle.l4_mapdb.specs.declared.sources.UsedMove.{UsedMove}
 use Rattle.l4_mapdb.specs.declared.growing.Stop.{Stop}
@@ -25,21 +25,14 @@ IsMade place old new =
     ((key : ℕ) × IsAt old.entries place key × IsLeaf old.entries key × (new ≡ old))
     ⊎ (((key : ℕ) → ¬ (IsAt old.entries place key)) × ((key : ℕ) × AddsBlank place old.entries new.entries key))
 
--- what stands under the key is a child of what stands under the parent's, with what that has of these rights
-pub record HasChild (parent key : ℕ) (rights : RightsSet) (s : Entries) : Type 0 where
-  pub child : Standing
-  pub stands : standing_at s key ≡ Some child
-  pub of : child.parent ≡ Some parent
-  pub above : Standing
-  pub at_parent : standing_at s parent ≡ Some above
-  pub rights_are : child.rights ≡ common above.rights rights
+-- each shared page of the item has its child at its place already, and nothing descends from the child
+abbrev pub HoldsItem : ℕ → ℕ → ItemMove → Entries → Type 0
+HoldsItem from to by s =
+    HoldsChildren (record { space = from; page = by.mv.source.first }) (by.mv.source.first + 2 ^ by.mv.source.log) (record { space = to; page = by.mv.target.first }) by.rights s
 
--- such a child is at the place, and nothing has changed
-pub record IsHeld (parent : ℕ) (place : LinkPlace) (rights : RightsSet) (old new : Linked) : Type 0 where
-  pub key : ℕ
-  pub at : IsAt old.entries place key
-  pub has : HasChild parent key rights old.entries
-  pub same : new ≡ old
+-- and so it is for the items before this number
+abbrev pub HoldsItems : ℕ → ℕ → List ItemMove → ℕ → Entries → Type 0
+HoldsItems from to items end s = (item : ℕ) (by : ItemMove) → item < end → slice_get items item ≡ Some by → HoldsItem from to by s
 
 -- what a child needs to take the place: what stands under the parent's key shares a right with the item, and nothing descends from the place
 pub record CanRenew (parent : ℕ) (place : LinkPlace) (rights : RightsSet) (s : Entries) : Type 0 where
@@ -100,8 +93,3 @@ module _ (start : Linked) (from to : ℕ) (items : List ItemMove) where
         ⊎ (((move : UsedMove) × (used : Moves move) × Done move × (e ≡ child_of start from to items move used)) ⊎ ((move : UsedMove) × Moves move × (e ≡ blank_at move.target) × (entry_at start.entries key ≡ None)))
     pub there : (move : UsedMove) → Moves move → (key : ℕ) × IsAt now.entries move.target key
     pub leaf : (move : UsedMove) → Moves move → IsOverLeaf move
-
-  -- the used moves that are done have their children at their targets before anything is done for them
-  pub record Holds (Done : UsedMove → Type 0) : Type 0 where
-    pub child : (move : UsedMove) (used : Moves move) → Done move → (key : ℕ) × (entry_at start.entries key ≡ Some (child_of start from to items move used))
-    pub decided : (key : ℕ) (e : Entry) → entry_at start.entries key ≡ Some e → IsFilledBy Done e.place ⊎ ¬ (IsFilledBy Done e.place)

@@ -10,7 +10,7 @@ pub returns-in_default : goal.returns-in_default
 returns-in_default c =
     pages_passed c.args.of.now.source c.args.of.now.target c.args.of.now.rights c.requires.apart c.args.pages.now c.args.of.now.source.page c.args.of.now.end c.args.targets.now.items c.args.targets.now.items c.args.nodes.now.slots c.args.nodes.now.slots
     (pages_first c.args.of.now.source c.args.of.now.target c.args.of.now.rights c.args.pages.now c.args.targets.now.items c.args.nodes.now.slots)
-    (λ other le lt here. let n = c.in_default.ensures other in (let e : ◌≡◌ (is_some {T = ℕ} None) true = sym (ap is_some n) ∙ here in cc)) c.requires.rising
+    (λ other le lt here. let n = c.in_default.ensures.0 other in (let e : ◌≡◌ (is_some {T = ℕ} None) true = sym (ap is_some n) ∙ here in cc)) c.requires.rising
 
 pub loop-next-init : goal.loop-next-init
 loop-next-init c = record {

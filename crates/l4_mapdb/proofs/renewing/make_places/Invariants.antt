@@ -1,7 +1,7 @@
-use Rattle.std.proofs.Common.{◌≡◌, ◌≤◌, true}
+use Rattle.std.proofs.Common.{◌≡◌, ◌≤◌}
 use Rattle.l4_mapdb.specs.Inside.Messages.{turn_in, turns_left}
 use Rattle.l4_mapdb.specs.Inside.Growing.{Earlier}
-use Rattle.l4_mapdb.specs.Inside.Renewing.{Spaced, Holds}
+use Rattle.l4_mapdb.specs.Inside.Renewing.{Spaced}
 use Rattle.l4_mapdb.proofs.renewing.make_places.Given as goal
 use Rattle.l4_fpage.specs.Pages.{most_pages}
 
@@ -11,7 +11,6 @@ invariant-loop-used l = record {
   fits : l.moves.page ≤ most_pages;
   spaces : l.links.spaces ≡ l.fn.links.spaces;
   spaced : Spaced l.fn.links l.from l.to l.items (Earlier (turn_in l.moves)) l.links;
-  held : l.all ≡ true → Holds l.fn.links l.from l.to l.items (Earlier (turn_in l.moves)) × (l.links ≡ l.fn.links);
 }
 
 abbrev pub decreases-loop-used : goal.decreases-loop-used

@@ -1,8 +1,3 @@
-use Rattle.std.proofs.Common.{sym, subst}
-use Rattle.l4_links.specs.Entries.{Linked}
-use Rattle.l4_mapdb.specs.Inside.Messages.{IsMoved}
-use Rattle.l4_mapdb.specs.Inside.Growing.{Mapped}
-use Rattle.l4_mapdb.specs.Inside.Renewing.{Spaced}
 use Rattle.l4_mapdb.proofs.Restored.{restored}
 use Rattle.l4_mapdb.proofs.Spacing.{spaced_marks}
 use Rattle.l4_mapdb.proofs.Held.{held_mapped}
@@ -10,19 +5,15 @@ use Rattle.l4_mapdb.proofs.RenewSteps.{renewed_mapped}
 use Rattle.l4_mapdb.proofs.renewing.take_places.Goals as goal
 
 pub renew_all-requires-clause-ready : goal.renew_all-requires-clause-ready
-renew_all-requires-clause-ready c = (c.args.links.now, c.requires.ground, c.in-Ok.ensures.ok)
+renew_all-requires-clause-ready c = (c.args.links.now, c.requires.ground, c.in_default.ensures.ok)
 
 -- where each target shows already what its move brings
-pub returns-then-all-clause-ok : goal.returns-then-all-clause-ok
-returns-then-all-clause-ok c =
-    let held = c.in-Ok.ensures.all c.if-all.true in
-    subst (λ (s : Linked). Mapped c.args.links.now c.args.from c.args.to c.args.items.now s) (sym held.1)
-    (held_mapped c.args.links.now c.args.from c.args.to c.args.items.now c.requires.ground c.requires.apart held.0
-    (subst (λ (s : Linked). Spaced c.args.links.now c.args.from c.args.to c.args.items.now (IsMoved c.args.links.now.entries c.args.from c.args.to c.args.items.now) s) held.1 c.in-Ok.ensures.ok))
+pub returns-then-holds_all-clause-ok : goal.returns-then-holds_all-clause-ok
+returns-then-holds_all-clause-ok c = held_mapped c.args.links.now c.args.from c.args.to c.args.items.now c.requires.ground (c.holds_all.ensures.yes c.if-holds_all.true) c.requires.apart
 
 pub returns-clause-ok : goal.returns-clause-ok
 returns-clause-ok c = renewed_mapped c.args.links.now c.args.from c.args.to c.args.items.now c.requires.ground c.requires.apart c.renew_all.new.links c.law_places.ensures
-    (c.renew_all.ensures.renewed c.args.links.now c.requires.ground c.in-Ok.ensures.ok)
+    (c.renew_all.ensures.renewed c.args.links.now c.requires.ground c.in_default.ensures.ok)
 
 pub returns-in-Err-clause-err : goal.returns-in-Err-clause-err
 returns-in-Err-clause-err c = restored c.args.links.now c.requires.ground.clean c.args.from c.args.to c.args.items.now c.make_places.new.links.entries
