@@ -91,10 +91,8 @@ fn can_move(
         return Ok(false);
     }
     let alloc = *targets.allocator();
-    match make_all(targets, alloc, &[page]) {
-        Ok(()) => Ok(true),
-        Err(_) => Err(NoMemory),
-    }
+    make_all(targets, alloc, &[page])?;
+    Ok(true)
 }
 
 /// Returns whether all pages can move to their places. Allocates the tables of these places.
@@ -124,10 +122,7 @@ fn can_move_all(
             return Ok(true);
         };
         let place = place_from(of.source, of.target, next);
-        let can = match can_move(nodes, targets, key, place.page, of.rights) {
-            Ok(can) => can,
-            Err(refused) => return Err(refused),
-        };
+        let can = can_move(nodes, targets, key, place.page, of.rights)?;
         if !can {
             return Ok(false);
         }
@@ -222,10 +217,7 @@ pub(crate) fn move_block(
         → (later : Tables)
         × AreNamed of.now.source.space of.now.target.space sources.new.items targets.new.items nodes.new.slots later × AreOthersSame of.now.source.space of.now.target.space all later }
 {
-    let can = match can_move_all(nodes, sources, targets, of) {
-        Ok(can) => can,
-        Err(refused) => return Err(refused),
-    };
+    let can = can_move_all(nodes, sources, targets, of)?;
     if !can {
         return Ok(false);
     }

@@ -7,7 +7,7 @@ ghost use Rattle.l4_links.specs.Inside.Nodes.{AreKeys, Caps, IsForest};
 ghost use Rattle.l4_links.specs.Inside.Keeping.{IsIndexed, IsWithin};
 ghost use Rattle.l4_links.specs.Inside.Stacks.{HasStack, Buries};
 
-use crate::lists::take_out;
+use crate::lists::{remove, unlink};
 use l4_fpage::Rights;
 use l4_nodes::{Link, Node, Slots, node_of, set_rights};
 use l4_spaces::Spaces;
@@ -36,7 +36,7 @@ pub(crate) fn cap_at(nodes: &mut Slots, key: usize, cap: Rights, doomed: Link) -
 }
 
 /// Returns the key with which a list begins once the node has left it, if it began with `first`.
-fn first_without(node: &Node, first: Link) -> Link
+pub(crate) fn first_without(node: &Node, first: Link) -> Link
     ensures begins { node.now.prev ≡ None → result ≡ node.now.next }
     ensures stays { node.now.prev ≢ None → result ≡ first }
 {
@@ -67,7 +67,8 @@ pub(crate) fn bury(nodes: &mut Slots, pages: &mut Spaces, first: Link, doomed: L
         };
         at = node.doomed;
         begin = first_without(&node, begin);
-        take_out(nodes, pages, key);
+        unlink(nodes, key);
+        remove(nodes, pages, key);
     }
     begin
 }

@@ -38,9 +38,7 @@ pub(crate) fn sharing(nodes: &Slots, key: usize, rights: Rights) -> Option<Node>
         (λ n. (node_at nodes.now.slots key ≡ Some n)
         × (common n.rights rights ≢ no_rights)) }
 {
-    let Some(node) = node_of(nodes, key) else {
-        return None;
-    };
+    let node = node_of(nodes, key)?;
     if node.rights.intersection(rights).is_empty() {
         return None;
     }
@@ -67,12 +65,8 @@ fn add_at(
         (λ held. (key ≡ Some held.0)
         × IsHeld held.0 rights low held.1 nodes.old.slots nodes.new.slots target.old target.new) }
 {
-    let Some(key) = key else {
-        return None;
-    };
-    let Some(above) = sharing(nodes, key, rights) else {
-        return None;
-    };
+    let key = key?;
+    let above = sharing(nodes, key, rights)?;
     if let Some(_) = target.at(low) {
         return Some((key, false));
     }

@@ -88,8 +88,7 @@ fn holds_run(nodes: &Slots, source: &Row, target: &Row, run: &Run) -> bool
     true
 }
 
-/// Returns the page after the run that begins with this page, which has the key, if each page of the run has its child, unless it shares no
-/// right.
+/// Returns the page after the run that begins with this page, if each page of the run has its child, unless it shares no right.
 fn holds_from(
     nodes: &Slots,
     sources: &Vec<Row>,

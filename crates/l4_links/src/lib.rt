@@ -213,9 +213,7 @@ impl Links {
     pub fn at(&self, key: usize) -> Option<Entry>
         ensures { result ≡ entry_at self.now.entries key }
     {
-        let Some(slot) = self.nodes.get(key) else {
-            return None;
-        };
+        let slot = self.nodes.get(key)?;
         Some(Entry {
             place: slot.place,
             wanted: slot.wanted,
@@ -323,52 +321,6 @@ impl Links {
         true
     }
 
-    /// Adds a child of the parent for a page that has no key, and returns the child's key. The child has the parent's frame, and those of
-    /// these rights that the parent has, which must be at least one. Returns None, and changes nothing, if the page has a key.
-    /// Returns `NoMemory` only if the page has no key; then nothing has changed.
-    pub fn add_child(
-        &mut self,
-        parent: usize,
-        place: Place,
-        rights: Rights,
-    ) -> Result<Option<usize>, NoMemory>
-        requires there { IsTrue (set.contains self.old.spaces place.space) }
-        requires fits { IsPage place.page }
-        requires stands { IsStanding self.old.entries parent }
-        requires some { (above : AStanding) → standing_at self.old.entries parent ≡ Some above
-            → common above.rights rights ≢ no_rights }
-        ensures adds { IfOk result
-            (λ child. IfSome child
-            (AddsChild parent place rights self.old.entries self.new.entries)) }
-        ensures free { IfOk result
-            (λ child. child ≢ None → (key : ℕ) → ¬ (IsAt self.old.entries place key)) }
-        ensures taken { IfOk result
-            (λ child. child ≡ None → (key : ℕ) × IsAt self.old.entries place key) }
-        ensures same { IfOk result (λ child. child ≡ None → self.new ≡ self.old) }
-        ensures err { OnErr result (self.new ≡ self.old) }
-        ensures lacks { OnErr result ((key : ℕ) → ¬ (IsAt self.old.entries place key)) }
-        ensures spaces { self.new.spaces ≡ self.old.spaces }
-    {
-        let Some(above) = node_of(&self.nodes, parent) else {
-            unreachable!()
-        };
-        match self.nodes.make_room(1) {
-            Ok(()) => {}
-            Err(refused) => return self.taken_or(place, refused),
-        }
-        let key = self.nodes.vacant_key();
-        let claimed = match self.pages.claim(place.space, place.page, key) {
-            Ok(claimed) => claimed,
-            Err(refused) => return Err(refused),
-        };
-        if !claimed {
-            return Ok(None);
-        }
-        lists::add_under(&mut self.nodes, parent, place, &above, rights);
-        self.stamp = fresh(self.stamp);
-        Ok(Some(key))
-    }
-
     /// Adds a child for each page from the source on and before the end that shares a right with these, at the places from the target on, in
     /// another space. Each child has its parent's frame, and those of these rights that the parent has. Stops at the first such page whose
     /// place has a key, or for which an allocation fails, and returns it; the children of the pages before it stay.
@@ -405,7 +357,7 @@ impl Links {
         halt
     }
 
-    /// Adds the child of one page. To take tables aside would cost more than the page.
+    /// Adds the child of one page, whose place is claimed for it in one lookup. To take tables aside would cost more than the page.
     fn add_at(&mut self, source: Place, target: Place, rights: Rights) -> Option<Halt>
         requires apart { source.space ≢ target.space }
         requires there { IsTrue (set.contains self.old.spaces target.space) }
@@ -419,19 +371,30 @@ impl Links {
         let Some(key) = self.find(source) else {
             return None;
         };
-        let Some(_) = sharing(&self.nodes, key, rights) else {
+        let Some(above) = sharing(&self.nodes, key, rights) else {
             return None;
         };
-        let refused = match self.add_child(key, target, rights) {
-            Ok(Some(_)) => return None,
-            Ok(None) => false,
-            Err(_) => true,
-        };
-        Some(Halt {
+        let mut halt = Halt {
             page: source.page,
             key,
-            refused,
-        })
+            refused: true,
+        };
+        if self.nodes.make_room(1).is_err() {
+            halt.refused = self.find(target).is_none();
+            return Some(halt);
+        }
+        let child = self.nodes.vacant_key();
+        let claimed = match self.pages.claim(target.space, target.page, child) {
+            Ok(claimed) => claimed,
+            Err(_) => return Some(halt),
+        };
+        if !claimed {
+            halt.refused = false;
+            return Some(halt);
+        }
+        lists::add_under(&mut self.nodes, key, target, &above, rights);
+        self.stamp = fresh(self.stamp);
+        None
     }
 
     /// Returns whether each page from the source on and before the end that shares a right with these has a child already, with those of these
@@ -456,19 +419,6 @@ impl Links {
             rights,
         };
         holds_all(&self.nodes, &self.pages, &of)
-    }
-
-    /// None if the page has a key, and else the refusal.
-    #[cold]
-    fn taken_or(&self, place: Place, refused: NoMemory) -> Result<Option<usize>, NoMemory>
-        ensures none { IfOk result (λ child. child ≡ None) }
-        ensures taken { OnOk result ((key : ℕ) × IsAt self.now.entries place key) }
-        ensures free { OnErr result ((key : ℕ) → ¬ (IsAt self.now.entries place key)) }
-    {
-        let Some(_) = self.find(place) else {
-            return Err(refused);
-        };
-        Ok(None)
     }
 
     /// Cuts off everything that descends from the key, and leaves a blank under the key. Each node that is cut off is removed with its
@@ -682,11 +632,9 @@ impl Links {
     pub fn copy(&self) -> Result<Links, NoMemory>
         ensures { IfOk result (λ copy. copy ≡ self.now) }
     {
-        let nodes = self.nodes.copy()?;
-        let pages = self.pages.copy()?;
         Ok(Links {
-            nodes,
-            pages,
+            nodes: self.nodes.copy()?,
+            pages: self.pages.copy()?,
             first: self.first,
             stamp: self.stamp,
             walk: self.walk,
@@ -710,9 +658,7 @@ fn nodes_for(alloc: Global, pages: usize) -> Result<Slots, NoMemory>
 fn standing_of(node: Option<Node>) -> Option<Standing>
     ensures { result ≡ option_map standing_of node }
 {
-    let Some(node) = node else {
-        return None;
-    };
+    let node = node?;
     Some(Standing {
         frame: node.frame,
         rights: node.rights,

@@ -10,7 +10,7 @@ ghost use Rattle.l4_nodes.specs.Slots.{node_at, slot_at, spots, HasRoomFor};
 ghost use Rattle.l4_links.specs.Inside.Nodes.{limbs, links, values, AreKeys, IsOrder, IsForest, Parts, TakesSlot, CutsOff, ClosesGap, Comes, child, AddsUnder, Prunes, Clears, TakesOver};
 ghost use Rattle.l4_links.specs.Inside.Keeping.{IsIndexed};
 
-use crate::walks::is_leaf;
+use crate::burial::first_without;
 use l4_fpage::Rights;
 use l4_nodes::{
     Link, Node, Place, Slots, empty, give, is_wanted, node_of, place_of, set_next, set_prev, write,
@@ -32,20 +32,6 @@ pub(crate) fn unlink(nodes: &mut Slots, key: usize)
     empty(nodes, key);
     set_next(nodes, node.prev, node.next);
     set_prev(nodes, node.next, node.prev);
-}
-
-/// Takes the node out of its list, and the slot away with its page's name.
-pub(crate) fn take_out(nodes: &mut Slots, pages: &mut Spaces, key: usize)
-    requires order { (ks : List ℕ) × IsOrder nodes.old.slots ks }
-    requires there { node_at nodes.old.slots key ≢ None }
-    ensures out { TakesSlot key nodes.old.slots nodes.new.slots }
-    ensures order { (xs ys : List ℕ) → IsOrder nodes.old.slots (xs ++ key ∷ ys)
-        → IsOrder nodes.new.slots (xs ++ ys) }
-    ensures indexed { IsIndexed nodes.old.slots pages.old → IsIndexed nodes.new.slots pages.new }
-    ensures spaces { pages.new.spaces ≡ pages.old.spaces }
-{
-    unlink(nodes, key);
-    remove(nodes, pages, key);
 }
 
 /// Removes the node from its slot, and leaves the links to it as they are. A wanted page stays as a blank; any other slot is removed with
@@ -77,14 +63,6 @@ fn close_gap(nodes: &mut Slots, top: usize, next: Link, gone: usize)
     set_prev(nodes, next, at);
 }
 
-/// Returns the depth of a child of the node. No node is deeper than the number of slots.
-fn child_depth(node: &Node, slots: usize) -> usize
-    requires { node.now.depth < slots }
-    ensures { result ≡ node.now.depth + 1 }
-{
-    node.depth + 1
-}
-
 /// Returns the child of the node under the key `parent`: it has that node's frame and those of these rights that the node has, and comes
 /// directly after it.
 #[inline]
@@ -100,7 +78,7 @@ fn child_of(parent: usize, above: &Node, rights: Rights, slots: usize) -> Node
         rights: above.rights.intersection(rights),
         source: false,
         granted: None,
-        depth: child_depth(above, slots),
+        depth: above.depth + 1,
         seen: 0,
         mark: 0,
         end: none,
@@ -201,22 +179,6 @@ pub(crate) fn link_root(
     at
 }
 
-/// Cuts off all that descends from the node. Where nothing does, that is seen at once.
-#[inline]
-fn cut_below(nodes: &mut Slots, pages: &mut Spaces, top: usize)
-    requires forest { (ks : List ℕ) × IsForest nodes.old.slots ks }
-    requires few { AreKeys nodes.old.slots }
-    requires there { node_at nodes.old.slots top ≢ None }
-    ensures prunes { Prunes top nodes.old.slots nodes.new.slots }
-    ensures indexed { IsIndexed nodes.old.slots pages.old → IsIndexed nodes.new.slots pages.new }
-    ensures spaces { pages.new.spaces ≡ pages.old.spaces }
-{
-    if is_leaf(nodes, top) {
-        return;
-    }
-    cut_run(nodes, pages, top);
-}
-
 /// Cuts off all that descends from the node: the run of deeper nodes after it, in one pass that mends the list at its end.
 pub(crate) fn cut_run(nodes: &mut Slots, pages: &mut Spaces, top: usize)
     requires forest { (ks : List ℕ) × IsForest nodes.old.slots ks }
@@ -256,15 +218,12 @@ pub(crate) fn clear(nodes: &mut Slots, pages: &mut Spaces, first: Link, top: usi
     ensures indexed { IsIndexed nodes.old.slots pages.old → IsIndexed nodes.new.slots pages.new }
     ensures spaces { pages.new.spaces ≡ pages.old.spaces }
 {
-    cut_below(nodes, pages, top);
+    cut_run(nodes, pages, top);
     let Some(node) = node_of(nodes, top) else {
         unreachable!()
     };
     unlink(nodes, top);
-    let Some(_) = node.prev.key() else {
-        return node.next;
-    };
-    first
+    first_without(&node, first)
 }
 
 /// Takes the slot under the key away, if there is one, and its page's name.

@@ -9,19 +9,6 @@ use crate::walks::is_leaf;
 use l4_nodes::{Slots, node_of};
 use l4_spaces::{BLOCK, Row, Spaces};
 
-/// Returns whether something descends from the key.
-#[inline]
-fn is_parent(nodes: &Slots, key: usize) -> bool
-    requires forest { (keys : List ℕ) × IsForest nodes.now.slots keys }
-    ensures yes { result ≡ true → IsParent nodes.now.slots key }
-    ensures no { result ≡ false → ¬ (IsParent nodes.now.slots key) }
-{
-    let Some(_) = node_of(nodes, key) else {
-        return false;
-    };
-    !is_leaf(nodes, key)
-}
-
 /// Returns the key, if something descends from it.
 #[inline]
 fn parent_key(nodes: &Slots, key: Option<usize>) -> Option<usize>
@@ -29,24 +16,14 @@ fn parent_key(nodes: &Slots, key: Option<usize>) -> Option<usize>
     ensures { MatchOption result ((here : ℕ) → key ≡ Some here → ¬ (IsParent nodes.now.slots here))
         (λ here. (key ≡ Some here) × IsParent nodes.now.slots here) }
 {
-    let Some(key) = key else {
+    let key = key?;
+    let Some(_) = node_of(nodes, key) else {
         return None;
     };
-    if !is_parent(nodes, key) {
+    if is_leaf(nodes, key) {
         return None;
     }
     Some(key)
-}
-
-/// Returns the key of this entry of a table, if something descends from it.
-#[inline]
-fn parent_at(nodes: &Slots, row: &Row, low: usize) -> Option<usize>
-    requires forest { (keys : List ℕ) × IsForest nodes.now.slots keys }
-    requires within { low < length row.now }
-    ensures { MatchOption result ((key : ℕ) → ¬ (IsParentKey nodes.now.slots row.now low key))
-        (IsParentKey nodes.now.slots row.now low) }
-{
-    parent_key(nodes, row.at(low))
 }
 
 /// Returns the first entry of a table from this one on and before the end whose key has descendants, and the key.
@@ -57,7 +34,7 @@ fn parent_among(nodes: &Slots, row: &Row, from: usize, end: usize) -> Option<(us
         (λ found. IsFirstParent nodes.now.slots row.now from end found.0 found.1) }
 {
     for low in from..end {
-        if let Some(key) = parent_at(nodes, row, low) {
+        if let Some(key) = parent_key(nodes, row.at(low)) {
             return Some((low, key));
         }
     }
@@ -106,30 +83,6 @@ fn parent_in(nodes: &Slots, row: &Row, from: usize, end: usize) -> Option<(usize
     None
 }
 
-/// Returns the entry at which a walk from `page` on begins, in the table that begins with this page.
-fn first_low(page: u32, start: u32) -> usize
-    ensures { result ≡ page - start }
-{
-    if page < start {
-        return 0;
-    }
-    (page - start) as usize
-}
-
-/// Returns the entry at which a walk to `end` leaves a table of this many entries that begins with this page.
-fn last_low(places: usize, start: u32, end: u32) -> usize
-    requires before { start < end }
-    ensures within { result ≤ places }
-    ensures before { start + result ≤ end }
-    ensures last { (result ≡ places) ⊎ (start + result ≡ end) }
-{
-    let left = (end - start) as usize;
-    if left < places {
-        return left;
-    }
-    places
-}
-
 /// Returns the first page of the space from `page` on and before `end` whose key has descendants, and the key.
 #[inline(never)]
 fn seek_parent(
@@ -148,8 +101,8 @@ fn seek_parent(
         let Some((start, row)) = pages.next_table(space, next, end) else {
             return None;
         };
-        let from = first_low(next, start);
-        let last = last_low(row.len(), start, end);
+        let from = next.saturating_sub(start) as usize;
+        let last = row.len().min((end - start) as usize);
         if let Some((low, key)) = parent_in(nodes, row, from, last) {
             return Some((start + low as u32, key));
         }
@@ -176,8 +129,5 @@ pub(crate) fn next_parent(
     if let Some(key) = parent_key(nodes, pages.get(space, page)) {
         return Some((page, key));
     }
-    let Some((next, key)) = seek_parent(nodes, pages, space, page + 1, end) else {
-        return None;
-    };
-    Some((next, key))
+    seek_parent(nodes, pages, space, page + 1, end)
 }

@@ -22,10 +22,7 @@ fn onward(node: &Node, stamp: u32) -> Link
     ensures on { node.now.mark ≢ stamp → result ≡ node.now.next }
     ensures none { stamp ≡ 0 → result ≡ node.now.next }
 {
-    if stamp == 0 {
-        return node.next;
-    }
-    if node.mark == stamp {
+    if stamp != 0 && node.mark == stamp {
         return node.end;
     }
     node.next
@@ -75,16 +72,6 @@ pub(crate) fn cap_below(
     doomed
 }
 
-/// Returns whether a walk of this stamp has visited the node.
-fn was_seen(node: &Node, stamp: u32) -> bool
-    ensures { result ≡ true → IsMarked stamp node.now.seen }
-{
-    if stamp == 0 {
-        return false;
-    }
-    node.seen == stamp
-}
-
 /// Returns whether a source descends from the node. Nodes that walks of this stamp have visited are not visited again.
 pub(crate) fn has_source(nodes: &mut Slots, top: usize, stamp: u32) -> bool
     requires seen { HasSeen stamp nodes.old.slots }
@@ -98,7 +85,7 @@ pub(crate) fn has_source(nodes: &mut Slots, top: usize, stamp: u32) -> bool
     let Some(head) = node_of(nodes, top) else {
         unreachable!()
     };
-    if was_seen(&head, stamp) {
+    if stamp != 0 && head.seen == stamp {
         return false;
     }
     let depth = head.depth;
@@ -189,15 +176,6 @@ pub(crate) fn fresh(stamp: u32) -> u32
     stamp + 1
 }
 
-/// Takes the stamps of all walks from all nodes. It is needed once in 2^32 - 1 stamps.
-#[cold]
-fn unmark_all(nodes: &mut Slots)
-    ensures same { IsSame nodes.old.slots nodes.new.slots }
-    ensures unmarked { AreUnmarked nodes.new.slots }
-{
-    nodes.clear_notes();
-}
-
 /// Returns the stamp for a walk: the last one if that walk had the same purpose, or a fresh one. After the last stamp, removes the stamps
 /// from all nodes and begins again.
 pub(crate) fn stamp_for(nodes: &mut Slots, stamp: u32, last: u8, walk: u8) -> u32
@@ -205,7 +183,7 @@ pub(crate) fn stamp_for(nodes: &mut Slots, stamp: u32, last: u8, walk: u8) -> u3
     ensures begins { BeginsWalk last walk stamp result nodes.old.slots nodes.new.slots }
 {
     if stamp == 0 {
-        unmark_all(nodes);
+        nodes.clear_notes();
         return 1;
     }
     if last == walk {

@@ -1,5 +1,5 @@
 -- What places show, by the list of entries. (this profile's own)
-use Rattle.std.specs.Prelude.{◌≡◌, ℕ, Option, Some, option_and_then, option_map, filter_map, List}
+use Rattle.std.specs.Prelude.{ℕ, Option, option_and_then, option_map, filter_map, List}
 use Rattle.std.specs.FinMap as map
 use Rattle.l4_nodes.specs.declared.Place.{Place as LinkPlace}
 use Rattle.l4_links.specs.declared.Standing.{Standing}

@@ -3,7 +3,7 @@ ghost use Rattle.l4_spaces.specs.Tables.{IsPage, space_pages};
 ghost use Rattle.l4_links.specs.Entries.{IsBlank, HaveRights};
 
 use l4_fpage::Rights;
-use l4_links::{Entry, Links, NoMemory, Place, Standing};
+use l4_links::{Entry, Halt, Links, NoMemory, Place, Standing};
 use std::test::Fail;
 
 /// Returns a page of space 0.
@@ -40,19 +40,18 @@ fn child(links: &mut Links, parent: usize, page: u32) -> Result<usize, NoMemory>
     Ok(key)
 }
 
-/// The same, added at once.
-fn child_at_once(links: &mut Links, parent: usize, page: u32) -> Result<Option<usize>, NoMemory>
-    requires { IsPage page }
+/// Adds a child of what is at the page of space 0, at a page of space 1, with all rights of its parent.
+fn child_away(links: &mut Links, page: u32, other: u32) -> Result<Option<Halt>, NoMemory>
+    requires from { IsPage page }
+    requires to { IsPage other }
 {
-    links.add_space(0)?;
-    let Some(above) = links.standing(parent) else {
-        return Err(NoMemory);
+    links.add_space(1)?;
+    let source = Place { space: 0, page };
+    let target = Place {
+        space: 1,
+        page: other,
     };
-    if above.rights.is_empty() {
-        return Err(NoMemory);
-    }
-    let place = Place { space: 0, page };
-    links.add_child(parent, place, Rights::all())
+    Ok(links.add_children(source, page + 1, target, Rights::all()))
 }
 
 /// Returns a root with all rights.
@@ -331,17 +330,21 @@ fn finds_parents(rt: HostRuntime) {
 }
 
 #[test]
-fn adds_a_child_at_once(rt: HostRuntime) {
+fn adds_the_child_of_one_page(rt: HostRuntime) {
     let mut links = Links::new(rt.alloc(), 3).expect(&rt, "memory");
     let [top, middle, low] = chain(&mut links).expect(&rt, "memory");
-    let added = child_at_once(&mut links, middle, 12).expect(&rt, "memory");
-    let taken = child_at_once(&mut links, top, 11).expect(&rt, "memory");
-    assert!(rt; taken.is_none());
-    let next = added.expect(&rt, "a page without a key");
+    assert_eq!(rt; child_away(&mut links, 10, 12), Ok(None));
+    let next = links.find(away(12)).expect(&rt, "a child");
+    // page 12 of space 1 has a key now
+    let halt = Halt {
+        page: 5,
+        key: top,
+        refused: false,
+    };
+    assert_eq!(rt; child_away(&mut links, 5, 12), Ok(Some(halt)));
     links.cap_below(middle, Rights::of_bits(5));
     let rows = [(low, 5, Some(middle)), (next, 5, Some(middle))];
     assert!(rt; stand_so(&links, &[(middle, 7, Some(top))]) && stand_so(&links, &rows));
-    assert_eq!(rt; links.find(place(12)), Some(next));
 }
 
 /// Lets a child of the parent have what the parent has of these rights, if the call may be made.

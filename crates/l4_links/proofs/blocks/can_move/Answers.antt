@@ -7,5 +7,5 @@ returns-then-not-is_within-clause-hindered c = λ _. inl (c.is_within.ensures.no
 pub returns-in-Some-clause-hindered : goal.returns-in-Some-clause-hindered
 returns-in-Some-clause-hindered c = λ _. inr (c.in-Some.field-0, sym c.key_in.ensures ∙ c.in-Some.is)
 
-pub returns-in-Ok-clause-ready : goal.returns-in-Ok-clause-ready
-returns-in-Ok-clause-ready c = λ _. c.in-Ok.ensures.ok 0 (omega arith)
+pub returns-clause-ready : goal.returns-clause-ready
+returns-clause-ready c = λ _. c.in_ok-make_all.ensures.ok 0 (omega arith)

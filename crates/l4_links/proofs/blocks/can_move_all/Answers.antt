@@ -1,4 +1,4 @@
-use Rattle.std.proofs.Common.{refl, ◌∙◌, arith}
+use Rattle.std.proofs.Common.{Result, Ok, Err, OnErr, refl, ◌∙◌, arith}
 use Rattle.l4_spaces.specs.Rows.{AreTablesOf}
 use Rattle.l4_spaces.proofs.Aside.{none_present, next_present, made_aside}
 use Rattle.l4_links.proofs.Moving.{can_first, can_all, can_more, hinders_found, lacks_found}
@@ -38,7 +38,7 @@ loop-next-preserved c =
       can =
           can_more c.args.of.now.source c.loop-next.page c.args.of.now.end c.in-Some.next c.in-Some.key c.args.of.now.target c.args.of.now.rights c.args.nodes.now.slots c.requires.named.0 c.loop-next.targets.items c.can_move.new.targets.items
           c.requires.named.1.indexed n.0 n.1 c.loop-next.invariant.from c.loop-next.invariant.can (targets (goal.at.loop-next-preserved c).After-next_page) c.place_from-place.result c.place_from-place.ensures
-          (c.in-Ok.ensures.within c.if-not-can.false) (c.in-Ok.ensures.absent c.if-not-can.false) (c.in-Ok.ensures.ready c.if-not-can.false) c.can_move.ensures.kept;
+          (c.in_ok-can.ensures.within c.if-not-can.false) (c.in_ok-can.ensures.absent c.if-not-can.false) (c.in_ok-can.ensures.ready c.if-not-can.false) c.can_move.ensures.kept;
       same = λ page. c.can_move.ensures.same page ∙ c.loop-next.invariant.same page;
       whole = c.can_move.ensures.whole;
       full = c.can_move.ensures.full;
@@ -49,11 +49,16 @@ returns-then-not-can-clause-hinders c = λ _.
     let n = next_present c.requires.named.0 c.args.of.now.source.space c.loop-next.page c.args.of.now.end c.args.sources.now.items c.requires.named.1.source c.in-Some.next c.in-Some.key c.in-Some.ensures in
     hinders_found c.args.of.now.source c.loop-next.page c.args.of.now.end c.in-Some.next c.in-Some.key c.args.of.now.target c.args.of.now.rights c.args.nodes.now.slots c.requires.named.0
     c.requires.named.1.indexed n.0 n.1 c.loop-next.invariant.from c.loop-next.targets.items (targets (goal.at.returns-then-not-can-clause-hinders c).After-next_page) c.place_from-place.result c.place_from-place.ensures
-    (c.in-Ok.ensures.hindered c.if-not-can.true)
+    (c.in_ok-can.ensures.hindered c.if-not-can.true)
 
-pub returns-in-Err-clause-lacks : goal.returns-in-Err-clause-lacks
-returns-in-Err-clause-lacks c =
+on_err : {T E P : Type 0} (r : Result T E) → P → OnErr r P
+on_err (Ok x) p = tt
+on_err (Err e) p = p
+
+pub returns-in_err-can-clause-lacks : goal.returns-in_err-can-clause-lacks
+returns-in_err-can-clause-lacks c =
     let n = next_present c.requires.named.0 c.args.of.now.source.space c.loop-next.page c.args.of.now.end c.args.sources.now.items c.requires.named.1.source c.in-Some.next c.in-Some.key c.in-Some.ensures in
-    lacks_found c.args.of.now.source c.loop-next.page c.args.of.now.end c.in-Some.next c.in-Some.key c.args.of.now.target c.args.of.now.rights c.args.nodes.now.slots c.requires.named.0
-    c.requires.named.1.indexed n.0 n.1 c.loop-next.invariant.from c.loop-next.targets.items (targets (goal.at.returns-in-Err-clause-lacks c).After-next_page) c.place_from-place.result c.place_from-place.ensures
-    c.in-Err.ensures.lacks.0 c.in-Err.ensures.lacks.1
+    on_err c.from_residual.result
+    (lacks_found c.args.of.now.source c.loop-next.page c.args.of.now.end c.in-Some.next c.in-Some.key c.args.of.now.target c.args.of.now.rights c.args.nodes.now.slots c.requires.named.0
+    c.requires.named.1.indexed n.0 n.1 c.loop-next.invariant.from c.loop-next.targets.items (targets (goal.at.returns-in_err-can-clause-lacks c).After-next_page) c.place_from-place.result c.place_from-place.ensures
+    c.in_err-can.ensures.lacks.0 c.in_err-can.ensures.lacks.1)

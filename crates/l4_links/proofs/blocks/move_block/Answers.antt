@@ -22,16 +22,16 @@ pub move_all-requires-clause-named : goal.move_all-requires-clause-named
 move_all-requires-clause-named c = (c.requires.named.0, made (goal.at.move_all-requires-clause-named c).After-can_move_all c.requires.named.0 c.requires.named.1, c.requires.named.2)
 
 pub move_all-requires-clause-can : goal.move_all-requires-clause-can
-move_all-requires-clause-can c = c.in-Ok.ensures.can c.if-not-can.false
+move_all-requires-clause-can c = c.in_ok-can.ensures.can c.if-not-can.false
 
-pub returns-in-Err-clause-named : goal.returns-in-Err-clause-named
-returns-in-Err-clause-named c all n there = (all, made (goal.at.returns-in-Err-clause-named c).After-can_move_all all n, record { away = λ o p nf nt. refl; spaces = refl })
+pub returns-in_err-can-clause-named : goal.returns-in_err-can-clause-named
+returns-in_err-can-clause-named c all n there = (all, made (goal.at.returns-in_err-can-clause-named c).After-can_move_all all n, record { away = λ o p nf nt. refl; spaces = refl })
 
 pub returns-then-not-can-clause-named : goal.returns-then-not-can-clause-named
 returns-then-not-can-clause-named c all n there = (all, made (goal.at.returns-then-not-can-clause-named c).After-can_move_all all n, record { away = λ o p nf nt. refl; spaces = refl })
 
 pub returns-clause-could : goal.returns-clause-could
-returns-clause-could c = λ _. (let can = c.in-Ok.ensures.can c.if-not-can.false in (can.within, can.free))
+returns-clause-could c = λ _. (let can = c.in_ok-can.ensures.can c.if-not-can.false in (can.within, can.free))
 
 pub returns-clause-same : goal.returns-clause-same
 returns-clause-same c = node_moved c.args.of.now.source c.args.of.now.end c.args.of.now.target c.args.nodes.now.slots c.move_all.new.nodes.slots c.move_all.ensures.moves

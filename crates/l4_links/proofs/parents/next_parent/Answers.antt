@@ -1,5 +1,6 @@
 use Rattle.std.proofs.Common.{sym, ◌∙◌, arith}
 use Rattle.l4_links.proofs.ParentWalk.{none_from, found_from}
+use Rattle.l4_links.proofs.PageRuns.{match_both}
 use Rattle.l4_links.proofs.parents.next_parent.Goals as goal
 
 pub returns-in-Some : goal.returns-in-Some
@@ -11,10 +12,9 @@ returns-in-Some c = record {
   least = λ other key le lt is. absurd (omega (arith, le, lt));
 }
 
-pub returns-in_default-seek_parent : goal.returns-in_default-seek_parent
-returns-in_default-seek_parent c =
-    none_from c.args.nodes.now.slots c.args.pages.now c.args.space c.args.page c.args.end (λ key is. c.in_default.ensures key (c.get.ensures.value ∙ is)) c.args.end c.in_default-seek_parent.ensures
-
 pub returns : goal.returns
 returns c =
-    found_from c.args.nodes.now.slots c.args.pages.now c.args.space c.args.page c.args.end (λ key is. c.in_default.ensures key (c.get.ensures.value ∙ is)) c.in-Some-seek_parent.next c.in-Some-seek_parent.key c.in-Some-seek_parent.ensures
+    match_both c.seek_parent.result _ _ _ _
+    (none_from c.args.nodes.now.slots c.args.pages.now c.args.space c.args.page c.args.end (λ key is. c.in_default.ensures key (c.get.ensures.value ∙ is)) c.args.end)
+    (λ found. found_from c.args.nodes.now.slots c.args.pages.now c.args.space c.args.page c.args.end (λ key is. c.in_default.ensures key (c.get.ensures.value ∙ is)) found.0 found.1)
+    c.seek_parent.ensures

@@ -1,5 +1,4 @@
 use Rattle.std.proofs.Common.{◌≡◌, ◌∙◌, arith}
-use Rattle.l4_links.specs.Entries.{Linked}
 use Rattle.l4_mapdb.specs.Inside.Messages.{turn_in}
 use Rattle.l4_mapdb.specs.Inside.Growing.{Earlier}
 use Rattle.l4_mapdb.proofs.Spacing.{spaced_back, spaced_barred, spaced_more, spaced_all, absent_then}
