@@ -3,7 +3,7 @@ ghost use Rattle.std.specs.Prelude.{◌≡◌, IfOk, IfSome, Some, codes, map};
 ghost use Rattle.clap.specs.Simple.{app_of};
 ghost use Rattle.clap.specs.Values.{kind_of};
 ghost use Rattle.l4_options.specs.Commands.{needed_word, run_command, judge_command, why_command, region_command, decode_command, l4_program, Asks, IsAsked, IsText};
-ghost use Rattle.l4_options.specs.Inside.Lines.{IsRule, IsCommand, IsTextKind, found_in};
+ghost use Rattle.l4_options.specs.Inside.Lines.{IsRule, IsCommand, IsTextKind, bare_program, found_in, with_commands};
 ghost use Rattle.l4_options.specs.Inside.Words.{spelled_anew};
 ghost use Rattle.l4_options.specs.Ranges.{IsInRange};
 
@@ -127,19 +127,33 @@ fn of_words<'a>(alloc: Global) -> Result<Command<'a>, AllocError>
         .arg(size_option(alloc))
 }
 
-/// The commands and options that are known.
-fn known<'a>(alloc: Global) -> Result<Command<'a>, AllocError>
-    ensures { IfOk result (λ c. app_of c ≡ l4_program) }
+/// The program without its commands.
+fn bare_program<'a>(alloc: Global) -> Command<'a>
+    ensures { app_of result ≡ bare_program }
 {
     Command::new(alloc, "l4")
         .about(ABOUT)
         .version("0.1.0")
         .after_help(SCRIPT)
         .subcommand_required(true)
+}
+
+/// The program with the commands that read a script or a step list.
+fn with_scripts<'a>(alloc: Global) -> Result<Command<'a>, AllocError>
+    ensures { IfOk result (λ c. app_of c ≡ with_commands 4) }
+{
+    bare_program(alloc)
         .subcommand(of_script(alloc)?)?
         .subcommand(of_history(alloc)?)?
         .subcommand(of_list(alloc)?)?
-        .subcommand(of_page(alloc)?)?
+        .subcommand(of_page(alloc)?)
+}
+
+/// The program with these commands and those about regions and the words of messages.
+fn with_words<'a>(alloc: Global) -> Result<Command<'a>, AllocError>
+    ensures { IfOk result (λ c. app_of c ≡ with_commands 8) }
+{
+    with_scripts(alloc)?
         .subcommand(of_region(
             alloc,
             "plan",
@@ -153,7 +167,14 @@ fn known<'a>(alloc: Global) -> Result<Command<'a>, AllocError>
             CHECK,
         )?)?
         .subcommand(of_words(alloc)?)?
-        .subcommand(of_tokens(alloc)?)?
+        .subcommand(of_tokens(alloc)?)
+}
+
+/// The commands and options that are known.
+fn known<'a>(alloc: Global) -> Result<Command<'a>, AllocError>
+    ensures { IfOk result (λ c. app_of c ≡ l4_program) }
+{
+    with_words(alloc)?
         .subcommand(of_files(alloc)?)?
         .subcommand(of_orders(alloc)?)
 }

@@ -1,0 +1,14 @@
+use Rattle.std.proofs.lemmas.Result.{IfOk-weaker}
+use Rattle.l4_options.proofs.Lines.{below}
+use Rattle.l4_options.proofs.commands.with_scripts.Goals as goal
+
+pub returns : goal.returns
+returns c =
+    IfOk-weaker c.subcommand-4.result _ _
+    (λ new adds. below _ _ _ _ new
+    (below _ _ _ _ _
+    (below _ _ _ _ _
+    (below _ _ _ _ _ c.bare_program.ensures c.in_ok-of_script.ensures c.in_ok-subcommand.ensures)
+    c.in_ok-of_history.ensures c.in_ok-subcommand-2.ensures)
+    c.in_ok-of_list.ensures c.in_ok-subcommand-3.ensures)
+    c.in_ok-of_page.ensures adds) c.subcommand-4.ensures
