@@ -1,9 +1,12 @@
-/* Intercepts a program's standard input, standard output and memory, by LD_PRELOAD, as the environment says:
+/* Intercepts a program's standard input, standard output, files and memory, by LD_PRELOAD, as the environment says:
  *   READ_BYTES=N    a read returns at most N bytes
  *   READ_FAILS=K    read K, counted from 1, and all after it fail
  *   READ_ENDLESS=C  every read returns this character, without an end
  *   WRITE_BYTES=N, WRITE_FAILS=K    the same for writes to standard output
  *   WRITE_NONE=K    write K and all after it write 0 bytes
+ *   FILE_READ_BYTES=N, FILE_WRITE_BYTES=N    the same for files that the program opened
+ *   FILE_READ_FAILS=K, FILE_WRITE_FAILS=K    read or write K of these files fails, and no other
+ *   FILE_WRITE_NONE=K    write K to these files writes 0 bytes, and no other
  *   MEMORY_FAILS=K  allocation K fails, and no other
  *   MEMORY_ENDS=K   from read K on every allocation fails
  */
@@ -25,8 +28,15 @@ static size_t at_most(size_t count, long most) {
 }
 
 ssize_t read(int file, void *bytes, size_t count) {
-    static long calls;
+    static long calls, file_calls;
     const char *endless = getenv("READ_ENDLESS");
+    if (file > STDERR_FILENO) {
+        if (++file_calls == setting("FILE_READ_FAILS")) {
+            errno = EIO;
+            return -1;
+        }
+        count = at_most(count, setting("FILE_READ_BYTES"));
+    }
     if (file == STDIN_FILENO) {
         long fails = setting("READ_FAILS"), ends = setting("MEMORY_ENDS");
         calls++;
@@ -46,7 +56,16 @@ ssize_t read(int file, void *bytes, size_t count) {
 }
 
 ssize_t write(int file, const void *bytes, size_t count) {
-    static long calls;
+    static long calls, file_calls;
+    if (file > STDERR_FILENO) {
+        if (++file_calls == setting("FILE_WRITE_FAILS")) {
+            errno = EIO;
+            return -1;
+        }
+        if (file_calls == setting("FILE_WRITE_NONE"))
+            return 0;
+        count = at_most(count, setting("FILE_WRITE_BYTES"));
+    }
     if (file == STDOUT_FILENO) {
         long fails = setting("WRITE_FAILS"), none = setting("WRITE_NONE");
         calls++;
