@@ -1,7 +1,6 @@
 -- A line that was added to the parts of a plan, or for which there was no memory.
-use Rattle.std.proofs.Common.{◌≡◌, ℕ, List, [], ◌∷◌, ◌++◌, Result, Ok, Err, OnOk, IfErr, refl, sym, ap, subst, ◌∙◌}
+use Rattle.std.proofs.Common.{◌≡◌, ℕ, List, [], ◌∷◌, ◌++◌, Result, Ok, Err, OnOk, IfErr, refl, sym, ap, subst}
 use Rattle.l4_text.specs.declared.faults.RunFault.TheVariants.{Memory}
-use Rattle.l4_orders.specs.declared.parts.LineFault.{LineFault}
 use Rattle.l4_orders.specs.declared.parts.Part.{Part}
 use Rattle.l4_orders.specs.declared.parts.Part.TheVariants.{First, Unordered as Free, Finally as Last}
 use Rattle.l4_orders.specs.declared.parts.PlanFault.{PlanFault}

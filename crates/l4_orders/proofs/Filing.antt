@@ -1,13 +1,12 @@
 -- A file as a plan, or why it is none.
-use Rattle.std.proofs.Common.{◌≡◌, ℕ, List, [], ◌∷◌, Option, Result, Ok, Err, refl, sym, ap, subst, ◌∙◌}
+use Rattle.std.proofs.Common.{◌≡◌, ℕ, List, [], ◌∷◌, Option, Result, Ok, Err, subst}
 use Rattle.l4_fpage.specs.declared.sizes.PageSize.{PageSize}
-use Rattle.l4_text.specs.Grammar.{TextLine, lines_of, ending_of}
-use Rattle.l4_text.specs.declared.faults.RunFault.{RunFault}
+use Rattle.l4_text.specs.Grammar.{TextLine, ending_of}
 use Rattle.l4_text.specs.declared.faults.RunFault.TheVariants.{Read, Write, Memory}
 use Rattle.l4_text.specs.declared.lines.Ending.{Ending}
 use Rattle.l4_text.specs.declared.lines.Ending.TheVariants.{Whole, Long as TooLong, Cut as IsCut}
 use Rattle.l4_commands.specs.Calls.{root}
-use Rattle.l4_commands.specs.LineKinds.{kind_of, names_by}
+use Rattle.l4_commands.specs.LineKinds.{kind_of}
 use Rattle.l4_commands.specs.Requests.{asked_at}
 use Rattle.l4_commands.specs.declared.line_kinds.LineKind.{LineKind}
 use Rattle.l4_commands.specs.declared.line_kinds.LineKind.TheVariants.{Silent, Unread as CannotRead, OfThread, Creates, Names as GivesName, Query, Steps as AsksSteps, Unordered, Finally}
@@ -18,10 +17,10 @@ use Rattle.l4_orders.specs.declared.parts.Part.TheVariants.{First, Unordered as 
 use Rattle.l4_orders.specs.declared.parts.PlanFault.{PlanFault}
 use Rattle.l4_orders.specs.declared.parts.PlanFault.TheVariants.{Stopped, Malformed, NoUnordered}
 use Rattle.l4_orders.specs.declared.plans.Plan.{Plan}
-use Rattle.l4_orders.specs.Reading.{Line, Parts, add_call, add_naming, add_query, begin_free, begin_last, add_line, take_line, HasBegun, IsPlanOf}
-use Rattle.l4_orders.specs.Files.{ReadsFirst, ReadsAll, FailsNext, IsUnknown, FailsPlan, ReadsPlan}
-use Rattle.l4_orders.specs.Inside.Parts.{IsOfParts, Finishes}
-use Rattle.l4_orders.specs.Inside.Taking.{FailsFirst, ReadsLines}
+use Rattle.l4_orders.specs.Reading.{Line, Parts, add_call, add_naming, add_query, begin_free, begin_last, add_line, take_line, HasBegun}
+use Rattle.l4_orders.specs.Files.{ReadsAll, FailsNext, ReadsPlan}
+use Rattle.l4_orders.specs.Inside.Parts.{Finishes}
+use Rattle.l4_orders.specs.Inside.Taking.{ReadsLines}
 
 -- NO LINE BY ITSELF IS OF AN UNKNOWN THREAD
 

@@ -1,5 +1,5 @@
 -- A search from the first state of a plan finds the outcomes of all orders: no premise about turns is left.
-use Rattle.std.proofs.Common.{◌≡◌, ℕ, Result, Ok, Err, OnOk}
+use Rattle.std.proofs.Common.{ℕ, Result, Ok, Err, OnOk}
 use Rattle.std.specs.List.{All}
 use Rattle.l4_fpage.specs.declared.sizes.PageSize.{PageSize}
 use Rattle.l4_merges.specs.declared.exploring.Explored.{Explored}

@@ -1,5 +1,5 @@
 -- A thread's turn leads to one state, in each state that a run reaches.
-use Rattle.std.proofs.Common.{◌≡◌, ℕ, ◌+◌, Bool, true, List, [], ◌∷◌, ◌++◌, length, Option, Some, refl, sym, ap, subst, ◌∙◌}
+use Rattle.std.proofs.Common.{◌≡◌, ℕ, ◌+◌, List, [], ◌∷◌, sym, subst, ◌∙◌}
 use Rattle.l4_fpage.specs.declared.sizes.PageSize.{PageSize}
 use Rattle.l4_names.specs.Names.{Names}
 use Rattle.l4_ipc.specs.Machine.{Machine}
@@ -17,7 +17,7 @@ use Rattle.l4_orders.specs.declared.plans.Plan.{Plan}
 use Rattle.l4_orders.specs.declared.plans.PlanLine.{PlanLine}
 use Rattle.l4_orders.specs.Orders.{IsStart}
 use Rattle.l4_orders.specs.Plans.{gone_with}
-use Rattle.l4_orders.specs.Turns.{PlanPoint, point, IsAt, AnswersWell, AnswersInTurn, may_turn, Turns, line_of}
+use Rattle.l4_orders.specs.Turns.{PlanPoint, AnswersInTurn, may_turn, Turns, line_of}
 
 -- THE QUEUE
 

@@ -17,7 +17,7 @@ use Rattle.l4_orders.specs.declared.parts.LineFault.TheVariants.{Long, Cut}
 use Rattle.l4_orders.specs.declared.parts.PlanFault.{PlanFault}
 use Rattle.l4_orders.specs.declared.parts.PlanFault.TheVariants.{Stopped, Malformed, NoUnordered}
 use Rattle.l4_orders.specs.Reading.{Parts, no_parts, take_line, AreRead}
-use Rattle.l4_orders.specs.Files.{ReadsFirst, ReadsAll, FailsNext}
+use Rattle.l4_orders.specs.Files.{ReadsFirst, FailsNext}
 use Rattle.l4_orders.specs.Inside.Parts.{Takes}
 use Rattle.l4_orders.specs.Inside.Taking.{FailsFirst, ReadsLines}
 

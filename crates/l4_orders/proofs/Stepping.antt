@@ -27,7 +27,7 @@ use Rattle.l4_orders.specs.Telling.{lines_of_order}
 use Rattle.l4_orders.specs.Witnesses.{IsRunTo, IsOutcomeOf, IsWitness}
 use Rattle.l4_orders.proofs.InTurn.{executed_both}
 use Rattle.l4_orders.specs.Plans.{gone_after, line_in, next_of, gone_with, none_gone}
-use Rattle.l4_orders.specs.Turns.{PlanPoint, point, IsAt, sum, line_of, AnswersWell, AnswersInTurn, Turns, HasOutcome, stuck_lines}
+use Rattle.l4_orders.specs.Turns.{PlanPoint, point, IsAt, sum, AnswersWell, AnswersInTurn, Turns, HasOutcome, stuck_lines}
 
 -- COUNTS
 

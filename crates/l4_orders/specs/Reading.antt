@@ -1,5 +1,5 @@
 -- What a file says as a plan (this profile's own).
-use Rattle.std.specs.Prelude.{◌≡◌, ℕ, ◌+◌, ◌==◌, ◌||◌, Bool, true, false, if◌then◌else◌, List, [], ◌∷◌, ◌++◌, map, Result, Ok, Err}
+use Rattle.std.specs.Prelude.{◌≡◌, ℕ, ◌+◌, ◌==◌, ◌||◌, Bool, true, if◌then◌else◌, List, [], ◌∷◌, ◌++◌, map, Result, Ok, Err}
 use Rattle.std.specs.List.{list_any}
 use Rattle.l4_fpage.specs.declared.sizes.PageSize.{PageSize}
 use Rattle.l4_names.specs.Names.{Names}
@@ -15,7 +15,7 @@ use Rattle.l4_orders.specs.declared.plans.Block.{Block}
 use Rattle.l4_orders.specs.declared.plans.Plan.{Plan}
 use Rattle.l4_orders.specs.declared.plans.PlanLine.{PlanLine}
 use Rattle.l4_orders.specs.declared.parts.LineFault.{LineFault}
-use Rattle.l4_orders.specs.declared.parts.LineFault.TheVariants.{Long as TooLong, Cut as CutOff, Unread as NotRead, Repeated, OfNoThread, NoQuery, Steps as AsksSteps, NoThread}
+use Rattle.l4_orders.specs.declared.parts.LineFault.TheVariants.{Long as TooLong, Cut as CutOff, Unread as NotRead, Repeated, OfNoThread, NoQuery, Steps as AsksSteps}
 use Rattle.l4_orders.specs.declared.parts.Part.{Part}
 use Rattle.l4_orders.specs.declared.parts.Part.TheVariants.{First, Unordered as Free, Finally as Last}
 

@@ -1,5 +1,5 @@
 -- What answers lack: memory, or room in the history (this profile's own).
-use Rattle.std.specs.Prelude.{◌≡◌, ℕ, Bool, true, false, List, [], ◌∷◌, if◌then◌else◌, codes, bytes_eq}
+use Rattle.std.specs.Prelude.{◌≡◌, ℕ, List, [], ◌∷◌, if◌then◌else◌, codes, bytes_eq}
 use Rattle.l4_ipc.specs.declared.steps.Outcome.TheVariants.{NoMemory}
 use Rattle.l4_answers.specs.Reports.{Report, RefusedLine, RefusedAct, Transferred}
 use Rattle.l4_orders.specs.declared.lacking.Lack.{Lack}

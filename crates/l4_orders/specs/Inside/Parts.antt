@@ -3,7 +3,6 @@ use Rattle.std.specs.Prelude.{◌≡◌, ℕ, ◌==◌, Bool, List, Result, Ok, 
 use Rattle.l4_text.specs.declared.faults.RunFault.TheVariants.{Memory}
 use Rattle.l4_orders.specs.declared.parts.LineFault.{LineFault}
 use Rattle.l4_orders.specs.declared.parts.LineFault.TheVariants.{NoThread}
-use Rattle.l4_orders.specs.declared.parts.Part.{Part}
 use Rattle.l4_orders.specs.declared.parts.Part.TheVariants.{First}
 use Rattle.l4_orders.specs.declared.parts.PlanFault.{PlanFault}
 use Rattle.l4_orders.specs.declared.parts.PlanFault.TheVariants.{Stopped, Malformed, NoUnordered}

@@ -2,7 +2,7 @@
 use Rattle.std.proofs.Common.{◌≡◌, ℕ, List, [], ◌++◌, sym, ◌∙◌, append-nil}
 use Rattle.l4_keys.specs.Keys.{AreOfKernel, AreOfServers}
 use Rattle.l4_keys.specs.Words.{counted, counts_words, names_words}
-use Rattle.l4_keys.proofs.Prefixes.{tails, ends_counted, ends_counts, apart}
+use Rattle.l4_keys.proofs.Prefixes.{ends_counted, ends_counts, apart}
 use Rattle.l4_keys.proofs.Ends.{ends_names}
 use Rattle.l4_keys.proofs.Same.{same_kernel, same_servers}
 use Rattle.l4_orders.specs.Turns.{PlanPoint}

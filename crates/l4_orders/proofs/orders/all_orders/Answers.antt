@@ -1,4 +1,4 @@
-use Rattle.std.proofs.Common.{◌≡◌, ◌+◌, List, length, ap, subst, ◌∙◌}
+use Rattle.std.proofs.Common.{◌+◌, List, length, ap, subst, ◌∙◌}
 use Rattle.std.specs.List.{All}
 use Rattle.l4_merges.specs.declared.found.Found.{Found}
 use Rattle.l4_shell.specs.ByLines.{state_of}

@@ -1,4 +1,4 @@
-use Rattle.std.proofs.Common.{◌≡◌, ap, sym, refl, ◌∙◌}
+use Rattle.std.proofs.Common.{ap, refl, ◌∙◌}
 use Rattle.std.specs.List.{position}
 use Rattle.l4_orders.specs.Inside.Parts.{is_of}
 use Rattle.l4_orders.proofs.Adding.{on_ok}

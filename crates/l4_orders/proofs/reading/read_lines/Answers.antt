@@ -1,4 +1,4 @@
-use Rattle.std.proofs.Common.{ap, []}
+use Rattle.std.proofs.Common.{ap}
 use Rattle.l4_orders.specs.Inside.Parts.{parts_of}
 use Rattle.l4_orders.specs.Reading.{no_parts}
 use Rattle.l4_orders.proofs.PlanLines.{so_far_none, so_far_on, stops_read, ends_all, fails_at}

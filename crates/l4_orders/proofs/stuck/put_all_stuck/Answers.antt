@@ -1,4 +1,3 @@
-use Rattle.std.proofs.Common.{arith}
 use Rattle.l4_orders.proofs.Sticking.{stuck_next, stuck_all}
 use Rattle.l4_orders.proofs.stuck.put_all_stuck.Goals as goal
 

@@ -1,8 +1,7 @@
-use Rattle.std.proofs.Common.{refl, ap, ◌∙◌}
+use Rattle.std.proofs.Common.{refl}
 use Rattle.std.specs.Option.{option_copied}
 use Rattle.l4_answers.specs.Reports.{Ended}
-use Rattle.l4_orders.specs.Inside.Lacking.{then_lack}
-use Rattle.l4_orders.proofs.Noting.{noted_more, noted_other}
+use Rattle.l4_orders.proofs.Noting.{noted_other}
 use Rattle.l4_orders.proofs.lacking.LackingSink.ended.Goals as goal
 
 pub returns : goal.returns

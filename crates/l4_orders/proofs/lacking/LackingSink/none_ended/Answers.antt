@@ -1,7 +1,6 @@
-use Rattle.std.proofs.Common.{refl, ap, ◌∙◌}
+use Rattle.std.proofs.Common.{refl}
 use Rattle.l4_answers.specs.Reports.{NoneEnded}
-use Rattle.l4_orders.specs.Inside.Lacking.{then_lack}
-use Rattle.l4_orders.proofs.Noting.{noted_more, noted_other}
+use Rattle.l4_orders.proofs.Noting.{noted_other}
 use Rattle.l4_orders.proofs.lacking.LackingSink.none_ended.Goals as goal
 
 pub returns : goal.returns

@@ -1,7 +1,7 @@
-use Rattle.std.proofs.Common.{refl, ap, ◌∙◌}
+use Rattle.std.proofs.Common.{ap, ◌∙◌}
 use Rattle.l4_answers.specs.Reports.{Transferred}
 use Rattle.l4_orders.specs.Inside.Lacking.{then_lack}
-use Rattle.l4_orders.proofs.Noting.{noted_more, noted_other}
+use Rattle.l4_orders.proofs.Noting.{noted_more}
 use Rattle.l4_orders.proofs.lacking.LackingSink.transfer.Goals as goal
 
 pub returns : goal.returns

@@ -1,5 +1,4 @@
-use Rattle.std.proofs.Common.{◌≡◌, ap, subst, rules, ◌∙◌}
-use Rattle.l4_keys.specs.Words.{counts_words}
+use Rattle.std.proofs.Common.{ap, subst, rules, ◌∙◌}
 use Rattle.l4_shell.specs.ByLines.{state_of}
 use Rattle.l4_orders.specs.Inside.Words.{HasWords}
 use Rattle.l4_orders.specs.Turns.{PlanPoint, point}

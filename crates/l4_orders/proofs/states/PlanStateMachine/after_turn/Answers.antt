@@ -1,4 +1,4 @@
-use Rattle.std.proofs.Common.{◌≡◌, ap, sym, subst, ◌∙◌}
+use Rattle.std.proofs.Common.{ap, sym, subst, ◌∙◌}
 use Rattle.l4_shell.specs.ByLines.{state_of, unread}
 use Rattle.l4_orders.specs.Plans.{next_of, gone_with}
 use Rattle.l4_orders.specs.Turns.{PlanPoint, point, Turns}

@@ -1,4 +1,4 @@
-use Rattle.std.proofs.Common.{◌≡◌, ◌++◌, List, length, ap, sym, subst, ◌∙◌}
+use Rattle.std.proofs.Common.{◌++◌, List, length, ap, sym, subst, ◌∙◌}
 use Rattle.l4_shell.specs.ByLines.{state_of, unread}
 use Rattle.l4_orders.specs.declared.plans.PlanLine.{PlanLine}
 use Rattle.l4_orders.specs.Turns.{PlanPoint, HasOutcome, AnswersInTurn, stuck_lines}
