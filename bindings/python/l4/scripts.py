@@ -322,6 +322,10 @@ class Script:
         tokens.end()
         return iter(())
 
+    def _rule(self, tokens: _Tokens) -> Iterator[Event]:
+        tokens.take()
+        return iter(())
+
     def _steps(self, tokens: _Tokens) -> Iterator[Event]:
         tokens.end()
         yield self._told(f"steps {self.steps}")
@@ -435,4 +439,6 @@ _COMMANDS: Dict[str, Callable[[Script, _Tokens], Iterator[Event]]] = {
     "steps": Script._steps,
     "unordered": Script._begin_part,
     "finally": Script._begin_part,
+    "never": Script._rule,
+    "always": Script._rule,
 }

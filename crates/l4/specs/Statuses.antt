@@ -1,5 +1,5 @@
 -- The exit statuses of the commands of l4, by how their work ended (this profile's own).
-use Rattle.std.specs.Prelude.{ℕ, Bool, Result, Ok, Err, is_some, if◌then◌else◌}
+use Rattle.std.specs.Prelude.{ℕ, Bool, true, false, Result, Ok, Err, is_some, if◌then◌else◌}
 use Rattle.l4_expectations.specs.declared.outcomes.Failure.{Failure}
 use Rattle.l4_expectations.specs.declared.outcomes.Failure.TheVariants.{Differs, Malformed, Stopped as StoppedTest}
 use Rattle.l4_expectations.specs.declared.outcomes.Passed.{Passed}
@@ -45,6 +45,11 @@ orders_status (Ok done) = 0
 orders_status (Err Bound) = 1
 orders_status (Err Full) = 1
 orders_status (Err Memory) = 4
+
+-- the same by whether an outcome breaks a rule of the plan: 1 where one does
+abbrev pub ruled_status : Bool → Result (Unit {0}) GaveUp → ℕ
+ruled_status true ended = 1
+ruled_status false ended = orders_status ended
 
 -- judge: 1 where the answers differ, 2 where the list is invalid
 abbrev pub judged_status : Result Bool JudgeFault → ℕ

@@ -1,21 +1,27 @@
 //! `l4 orders`: every outcome that some order of the threads' calls can have.
 ghost use Rattle.std.specs.Prelude.{◌≡◌};
-ghost use Rattle.l4.specs.Statuses.{orders_status};
+ghost use Rattle.l4_orders.specs.Rules.{breaks_any};
+ghost use Rattle.l4.specs.Statuses.{orders_status, ruled_status};
 ghost use Rattle.l4_options.specs.Ranges.{IsFrameCount};
 
 use crate::opened;
 use l4_options::ScriptOptions;
 use l4_orders::{
-    Explored, GaveUp, LineFault, Plan, PlanFault, all_orders, orders_text, read_plan, witness_text,
+    Explored, GaveUp, LineFault, Plan, PlanFault, all_orders, breaks_any, orders_text, read_plan,
+    rules_text, witness_text,
 };
 use l4_programs::{NOT_UNDERSTOOD, WatchedReader, WatchedWriter, stopped};
 use l4_text::RunFault;
+use std::alloc::{AllocError, Global};
 use std::io;
 use std::io::{Read, Write};
 use std::rt::Files;
 
 /// The exit status if not every order was followed.
 const INCOMPLETE: u8 = 1;
+
+/// The exit status if an outcome breaks a rule of the plan.
+const BROKEN: u8 = 1;
 
 /// What is printed: the script of one outcome, or the outcomes, without their orders if `brief`.
 #[derive(Clone, Copy)]
@@ -34,8 +40,9 @@ fn report_line(rt: &impl Eprint, number: u64, fault: LineFault) {
         LineFault::Repeated =>
             "O1: a plan has one line 'unordered', and after it at most one line 'finally'",
         LineFault::OfNoThread =>
-            "O2: a query is allowed only after 'finally', and a name only before 'unordered'",
-        LineFault::NoQuery => "O3: after 'finally', only show, parent and reply are allowed",
+            "O2: a query or a rule is allowed only after 'finally', and a name only before 'unordered'",
+        LineFault::NoQuery =>
+            "O3: after 'finally', only show, parent, reply, never and always are allowed",
         LineFault::Steps =>
             "O4: 'steps' is not allowed, because its answer depends on the whole order",
         LineFault::NoThread(thread) => {
@@ -77,6 +84,30 @@ fn search_status(explored: &Explored) -> u8
     }
 }
 
+/// Returns the exit status of a search, by whether an outcome breaks a rule of the plan.
+fn ruled_status(plan: &Plan, explored: &Explored) -> u8
+    ensures { result
+        ≡ ruled_status (breaks_any plan.now explored.now.found.items) explored.now.ended }
+{
+    if breaks_any(plan, explored.found.as_slice()) {
+        return BROKEN;
+    }
+    search_status(explored)
+}
+
+/// Returns the text of the outcomes, of the summary, and of the rules that an outcome breaks.
+fn found_text(
+    alloc: Global,
+    plan: &Plan,
+    explored: &Explored,
+    brief: bool,
+) -> Result<Vec<u8>, AllocError> {
+    let mut text = orders_text(alloc, plan, explored, brief)?;
+    let broken = rules_text(alloc, plan, explored.found.as_slice())?;
+    text.extend_from_slice(broken.as_slice())?;
+    Ok(text)
+}
+
 /// Prints what is wanted of a search. Returns the exit status.
 fn print_found<R: AllocGlobal + Print + Eprint>(
     rt: &R,
@@ -85,7 +116,7 @@ fn print_found<R: AllocGlobal + Print + Eprint>(
     wanted: Wanted,
 ) -> u8 {
     let text = match wanted.witness {
-        None => orders_text(rt.alloc(), plan, explored, wanted.brief),
+        None => found_text(rt.alloc(), plan, explored, wanted.brief),
         Some(number) => {
             let index = number as usize;
             if index == 0 || index > explored.found.len() {
@@ -103,7 +134,7 @@ fn print_found<R: AllocGlobal + Print + Eprint>(
     if writer.write_all(text.as_slice()).is_err() || writer.flush().is_err() {
         return stopped(rt, RunFault::Write, None, writer.error());
     }
-    search_status(explored)
+    ruled_status(plan, explored)
 }
 
 /// Searches all orders of a plan, and prints what is wanted. Returns the exit status.

@@ -18,7 +18,7 @@ use Rattle.l4_commands.specs.declared.partners.NewSpace.{NewSpace}
 use Rattle.l4_commands.specs.declared.partners.NewSpace.TheVariants.{New, Of}
 use Rattle.l4_commands.specs.declared.requests.Which.TheVariants.{Only, Message}
 use Rattle.l4_commands.specs.declared.requests.Request.{Request}
-use Rattle.l4_commands.specs.declared.requests.Request.TheVariants.{Enter, CreateThread, EndThread, SendPlan, ListPages, TellParent, AddRegion, ServeThread, GiveName, TellReply, TellSteps, BeginUnordered, BeginFinally}
+use Rattle.l4_commands.specs.declared.requests.Request.TheVariants.{Enter, CreateThread, EndThread, SendPlan, ListPages, TellParent, AddRegion, ServeThread, GiveName, TellReply, TellSteps, BeginUnordered, BeginFinally, StateRule}
 use Rattle.l4_commands.specs.Calls.{create_call, set_pager_call, receive_call, send_call, ipc_call, unmap_call, fault_call, root}
 use Rattle.l4_commands.specs.declared.commands.ScriptFault.{ScriptFault}
 use Rattle.l4_commands.specs.declared.commands.ScriptFault.TheVariants.{UnknownCommand, BadTokens}
@@ -99,6 +99,11 @@ no_more a (token ∷ tokens) = None
 abbrev pub all_by : {A B : Type 0} → (List (List ℕ) → Option A) → (A → B) → List (List ℕ) → Option B
 all_by read make tokens = read tokens >>= λ a. Some (make a)
 
+-- a rule: its answer is one token or more, and any tokens may be an answer
+abbrev pub rule_of : List (List ℕ) → Option Request
+rule_of [] = None
+rule_of (token ∷ tokens) = Some StateRule
+
 -- rights, with no token after them
 abbrev pub last_rights_of : List (List ℕ) → Option RightsSet
 last_rights_of tokens = (rights_of ▹ no_more) (λ r. r) tokens
@@ -161,6 +166,9 @@ commands_by new_name size names =
     ∷ (codes "unordered", no_more BeginUnordered)
     -- the lines from here on are answered when no thread can execute its next line
     ∷ (codes "finally", no_more BeginFinally)
+    -- never ANSWER, always ANSWER: no outcome of the plan has this answer, or each one has it; a run prints nothing
+    ∷ (codes "never", rule_of)
+    ∷ (codes "always", rule_of)
     ∷ []
 
 -- NEW NAMES

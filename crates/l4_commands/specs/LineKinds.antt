@@ -4,7 +4,7 @@ use Rattle.l4_names.specs.Names.{Names}
 use Rattle.l4_commands.specs.Calls.{root}
 use Rattle.l4_commands.specs.Requests.{Unread, names_after}
 use Rattle.l4_commands.specs.declared.requests.Request.{Request}
-use Rattle.l4_commands.specs.declared.requests.Request.TheVariants.{Enter, CreateThread, EndThread, SendPlan, ListPages, TellParent, AddRegion, ServeThread, GiveName, TellReply, TellSteps, BeginUnordered, BeginFinally}
+use Rattle.l4_commands.specs.declared.requests.Request.TheVariants.{Enter, CreateThread, EndThread, SendPlan, ListPages, TellParent, AddRegion, ServeThread, GiveName, TellReply, TellSteps, BeginUnordered, BeginFinally, StateRule}
 use Rattle.l4_commands.specs.declared.line_kinds.LineKind.{LineKind}
 use Rattle.l4_commands.specs.declared.line_kinds.LineKind.TheVariants.{Silent, Unread as CannotRead, OfThread, Creates, Names as GivesName, Query, Steps, Unordered, Finally}
 
@@ -23,6 +23,7 @@ kind_of_request (TellReply thread) = Query
 kind_of_request TellSteps = Steps
 kind_of_request BeginUnordered = Unordered
 kind_of_request BeginFinally = Finally
+kind_of_request StateRule = Query
 
 -- the kind of a line that asks for this
 abbrev pub kind_of : Result (Option Request) Unread → LineKind

@@ -3,7 +3,7 @@ ghost use Rattle.std.specs.Prelude.{◌≡◌, ◌∷◌, [], codes, bytes_eq, M
 ghost use Rattle.l4_fpage.specs.declared.sizes.PageSize.{PageSize as APageSize};
 ghost use Rattle.l4_names.specs.Names.{Names as AllNames};
 ghost use Rattle.l4_text.specs.Tokens.{tokens_of};
-ghost use Rattle.l4_commands.specs.Commands.{asked, command_in, command_of};
+ghost use Rattle.l4_commands.specs.Commands.{asked, rule_of, command_in, command_of};
 ghost use Rattle.l4_commands.specs.Inside.Asking.{pager_commands, part_commands};
 
 use crate::calls::{read_fault, read_ipc, read_receive, read_send};
@@ -70,10 +70,14 @@ const UNORDERED: &[u8] = b"unordered";
 
 const FINALLY: &[u8] = b"finally";
 
+const NEVER: &[u8] = b"never";
+
+const ALWAYS: &[u8] = b"always";
+
 /// The names of all commands.
 pub(crate) const COMMAND_NAMES: &[&[u8]] = &[
     THREAD, SETPAGER, DELETE, RECV, SEND, IPC, DELEGATE, PART, UNMAP, SHOW, PARENT, FAULT, REGION,
-    SERVE, NAME, REPLY, STEPS, UNORDERED, FINALLY,
+    SERVE, NAME, REPLY, STEPS, UNORDERED, FINALLY, NEVER, ALWAYS,
 ];
 
 /// `N SPACE PAGER`
@@ -319,7 +323,18 @@ fn begin_finally(line: &[u8]) -> Option<Request<'static>>
     }
 }
 
-/// Reads a command that begins a part of a plan, from its name and its tokens.
+/// `ANSWER`
+#[inline(never)]
+fn rule(line: &[u8]) -> Option<Request<'static>>
+    ensures { result ≡ rule_of (tokens_of line.now) }
+{
+    match next_token(line) {
+        None => None,
+        Some(_) => Some(Request::StateRule),
+    }
+}
+
+/// Reads a command that begins a part of a plan, or states a rule over its outcomes, from its name and its tokens.
 fn part_command(name: &[u8], rest: &[u8]) -> Result<Request<'static>, ScriptFault>
     ensures { (size : APageSize) (names : AllNames) → result
         ≡ command_in (part_commands size names) name.now (tokens_of rest.now) }
@@ -329,6 +344,12 @@ fn part_command(name: &[u8], rest: &[u8]) -> Result<Request<'static>, ScriptFaul
     }
     if name == FINALLY {
         return begin_finally(rest).ok_or(ScriptFault::BadTokens);
+    }
+    if name == NEVER {
+        return rule(rest).ok_or(ScriptFault::BadTokens);
+    }
+    if name == ALWAYS {
+        return rule(rest).ok_or(ScriptFault::BadTokens);
     }
     Err(ScriptFault::UnknownCommand)
 }

@@ -25,7 +25,7 @@ pub enum LineKind {
     Creates(u32),
     /// A line that gives a name to a thread.
     Names,
-    /// A query whose answer depends on the state only.
+    /// A query whose answer depends on the state only, or a rule over the outcomes of a plan, which has no answer.
     Query,
     /// The query of the number of steps, whose answer depends on what was executed before.
     Steps,
@@ -64,6 +64,7 @@ fn follow(request: Request<'_>, names: &mut Names) -> LineKind
         Request::TellSteps => LineKind::Steps,
         Request::BeginUnordered => LineKind::Unordered,
         Request::BeginFinally => LineKind::Finally,
+        Request::StateRule => LineKind::Query,
     }
 }
 

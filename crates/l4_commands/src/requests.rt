@@ -89,6 +89,8 @@ pub enum Request<'a> {
     BeginUnordered,
     /// Begins the lines that are answered at the end of an order. Prints nothing.
     BeginFinally,
+    /// States a rule over the outcomes of a plan. Prints nothing.
+    StateRule,
 }
 
 /// Returns the id of a script's thread: its number, and version 1.

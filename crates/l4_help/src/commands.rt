@@ -234,14 +234,18 @@ Prints every outcome that some order has:
                              (most), memory ran out (memory), or the history of
                              an order is full (history). The outcomes are correct,
                              but there may be more
+  broken L K                 outcome K is the first that breaks the rule in line L;
+                             an order that produces it follows
 
 A line belongs to the thread that makes its call: root (2) for thread, setpager and
 delete, and P for region P and serve P. A thread runs its next line, with all steps
 and acts of served threads that follow, unless it waits or does not exist. Only
-show, parent and reply are allowed after 'finally', and none of them before it.
-'l4 run' executes a plan in the order in which it is written.
+show, parent, reply, never and always are allowed after 'finally', and none of them
+before it. 'never ANSWER' states that no outcome has this line, and 'always ANSWER'
+that every outcome has it. 'l4 run' executes a plan in the order in which it is
+written, and checks no rule.
 
-Exit status: 0 every order was followed; 1 not every order; 2 invalid command line,
+Exit status: 0 every order was followed, and no rule is broken; 1 otherwise; 2 invalid command line,
 file cannot be opened, or a line cannot be part of a plan; 3 read or write failed;
 4 out of memory.";
 
@@ -353,8 +357,9 @@ lines that begin with #, are skipped.
                          ended
   steps                  prints the number of steps so far: calls that started,
                          transfers and expiries
-  unordered, finally     begin parts of a plan (see l4 orders --help); they do
-                         nothing here
+  unordered, finally, never ANSWER, always ANSWER
+                         begin parts of a plan, and state its rules (see
+                         l4 orders --help); they do nothing here
 
 N, like every other thread in a line, is a thread number, below 262144, or a
 name. Thread 1 is sigma0, in whose space page i has frame i. Thread 2 is root.

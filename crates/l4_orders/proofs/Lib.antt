@@ -9,3 +9,4 @@ pub mod InTurn
 pub mod Stepping
 pub mod Sticking
 pub mod Adding
+pub mod Ruling

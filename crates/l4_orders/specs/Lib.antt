@@ -4,5 +4,6 @@ pub mod Orders
 pub mod Reading
 pub mod Files
 pub mod Telling
+pub mod Rules
 pub mod Witnesses
 pub mod Inside

@@ -28,9 +28,9 @@ pub enum LineFault {
     Unread,
     /// O1: a second line `unordered`, a second line `finally`, or a line `finally` that is not after `unordered`.
     Repeated,
-    /// O2: before `finally`, a query; or after `unordered`, a line that gives a name.
+    /// O2: before `finally`, a query or a rule; or after `unordered`, a line that gives a name.
     OfNoThread,
-    /// O3: after `finally`, a line that is not a query.
+    /// O3: after `finally`, a line that is neither a query nor a rule.
     NoQuery,
     /// O4: the query `steps`. Its answer depends on all lines before it.
     Steps,
@@ -214,7 +214,7 @@ impl Reading {
         }
     }
 
-    /// Adds a query.
+    /// Adds a query or a rule.
     fn add_query(&mut self, line: PlanLine) -> Result<(), PlanFault>
         ensures { Takes
             (add_query self.old.part (parts_of self.old) (line_in line))

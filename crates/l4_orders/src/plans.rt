@@ -19,7 +19,7 @@ pub struct Block {
     pub lines: Vec<PlanLine>,
 }
 
-/// A plan: the lines before `unordered`, the lines of each thread after it, and the queries after `finally`.
+/// A plan: the lines before `unordered`, the lines of each thread after it, and the queries and rules after `finally`.
 #[derive(Drop)]
 pub struct Plan {
     pub first: Vec<PlanLine>,

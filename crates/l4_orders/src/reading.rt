@@ -41,7 +41,7 @@ fn read_lines<R: Read>(
 /// Reads a plan for pages of this size: lines of a script, with a line `unordered` and, if there are queries, a line `finally`.
 ///
 /// Before `finally`, only lines of threads are allowed, and before `unordered` also lines that give names. After `finally`, only `show`,
-/// `parent` and `reply` are allowed. A line belongs to the thread that starts its call: root for `thread`, `setpager` and `delete`, and P for
+/// `parent`, `reply`, `never` and `always` are allowed. A line belongs to the thread that starts its call: root for `thread`, `setpager` and `delete`, and P for
 /// `region P` and `serve P`.
 ///
 /// Returns `Malformed` with the first line that cannot be part of a plan; `NoUnordered` if there is no line `unordered`; then `Malformed` with

@@ -37,7 +37,7 @@ fn put_numbers(
 }
 
 /// Appends the numbers of the lines of an order in a line.
-fn put_order(
+pub(crate) fn put_order(
     alloc: Global,
     plan: &Plan,
     order: &[usize],

@@ -13,7 +13,7 @@ use Rattle.l4_record.specs.Seated.{with_number}
 use Rattle.l4_answers.specs.Reports.{Report}
 use Rattle.l4_names.specs.Names.{Names}
 use Rattle.l4_commands.specs.declared.requests.Request.{Request}
-use Rattle.l4_commands.specs.declared.requests.Request.TheVariants.{Enter, CreateThread, EndThread, SendPlan, ListPages, TellParent, AddRegion, ServeThread, GiveName, TellReply, TellSteps, BeginUnordered, BeginFinally}
+use Rattle.l4_commands.specs.declared.requests.Request.TheVariants.{Enter, CreateThread, EndThread, SendPlan, ListPages, TellParent, AddRegion, ServeThread, GiveName, TellReply, TellSteps, BeginUnordered, BeginFinally, StateRule}
 use Rattle.l4_commands.specs.Requests.{Unread}
 use Rattle.l4_commands.specs.Calls.{root, delete_call}
 use Rattle.l4_shell.specs.Refusals.{region_refusal}
@@ -112,6 +112,7 @@ carries_longer names old line TellSteps told new c = record {
 }
 carries_longer names old line BeginUnordered told new c = same_history old new c.1
 carries_longer names old line BeginFinally told new c = same_history old new c.1
+carries_longer names old line StateRule told new c = same_history old new c.1
 
 pub line_longer : (old : State) (line : ℕ) (asked : Result (Option Request) Unread) (told : List Report) (new : State) → AnswersLine old line asked told new → Lengthens old.session new.session
 line_longer old line (Ok None) told new a = same_history old.session new.session (ap (λ (s : State). s.session) a.1)

@@ -22,7 +22,7 @@ use Rattle.l4_names.specs.Names.{Names, given}
 use Rattle.l4_record.specs.Seated.{is_among, with_number}
 use Rattle.l4_servers.specs.Servers.{Servers, RegionFails}
 use Rattle.l4_commands.specs.declared.requests.Request.{Request}
-use Rattle.l4_commands.specs.declared.requests.Request.TheVariants.{Enter, CreateThread, EndThread, SendPlan, ListPages, TellParent, AddRegion, ServeThread, GiveName, TellReply, TellSteps, BeginUnordered, BeginFinally}
+use Rattle.l4_commands.specs.declared.requests.Request.TheVariants.{Enter, CreateThread, EndThread, SendPlan, ListPages, TellParent, AddRegion, ServeThread, GiveName, TellReply, TellSteps, BeginUnordered, BeginFinally, StateRule}
 use Rattle.l4_shell.specs.Refusals.{script_refusal, plan_refusal, too_many_names, lacks_memory, call_refusal, region_refusal}
 use Rattle.l4_commands.specs.Requests.{Unread}
 use Rattle.l4_shell.specs.Scripts.{IsOneAnswer}
@@ -152,6 +152,7 @@ carries_one names old line (TellReply thread) told new c = reply_one (space_of o
 carries_one names old line TellSteps told new c = inl (ap has_refusal c.3)
 carries_one names old line BeginUnordered told new c = inl (ap has_refusal c.0)
 carries_one names old line BeginFinally told new c = inl (ap has_refusal c.0)
+carries_one names old line StateRule told new c = inl (ap has_refusal c.0)
 
 pub one_answer : (old : State) (line : ℕ) (asked : Result (Option Request) Unread) (told : List Report) (new : State) → AnswersLine old line asked told new → IsOneAnswer line told
 one_answer old line (Ok None) told new a = inl (ap has_refusal a.0)

@@ -32,7 +32,7 @@ use Rattle.l4_shell.specs.Refusals.{lacks_memory, call_refusal, region_refusal, 
 use Rattle.l4_commands.specs.Requests.{Unread, names_after}
 use Rattle.l4_shell.specs.Sessions.{Session, State, Act, AreActs, after_act, StopsActing, Follows, RefusesLine, RefusesFor, Refuses, Enters, Creates, ServesThread, RegionAdded, AddsRegion, Delegates, CarriesOut, AnswersLine}
 use Rattle.l4_commands.specs.declared.requests.Request.{Request}
-use Rattle.l4_commands.specs.declared.requests.Request.TheVariants.{Enter, CreateThread, EndThread, SendPlan, ListPages, TellParent, AddRegion, ServeThread, GiveName, TellReply, TellSteps, BeginUnordered, BeginFinally}
+use Rattle.l4_commands.specs.declared.requests.Request.TheVariants.{Enter, CreateThread, EndThread, SendPlan, ListPages, TellParent, AddRegion, ServeThread, GiveName, TellReply, TellSteps, BeginUnordered, BeginFinally, StateRule}
 use Rattle.l4_determined.specs.Inside.InOrder.{IsInOrder}
 use Rattle.l4_shell.specs.Lacking.{lacks_by_code, LacksNothing}
 use Rattle.l4_shell.specs.Inside.Alike.{AreAlike}
@@ -199,6 +199,7 @@ one_request s t names others line (GiveName name thread) told other new also ali
 one_request s t names others line (TellReply thread) told other new also alike so x y p q = kept_alike s t new also alike x.1 y.1
 one_request s t names others line BeginUnordered told other new also alike so x y p q = kept_alike s t new also alike x.1 y.1
 one_request s t names others line BeginFinally told other new also alike so x y p q = kept_alike s t new also alike x.1 y.1
+one_request s t names others line StateRule told other new also alike so x y p q = kept_alike s t new also alike x.1 y.1
 one_request s t names others line TellSteps told other new also alike so x y p q = record {
   machine = ap (λ (v : Session). v.machine) x.4 ∙ alike.machine ∙ ap (λ (v : Session). v.machine) (sym y.4);
   servers = ap (λ (v : Session). v.servers) x.4 ∙ alike.servers ∙ ap (λ (v : Session). v.servers) (sym y.4);
@@ -262,6 +263,7 @@ request_in_order old new names line (GiveName name thread) told so x = same_in_o
 request_in_order old new names line (TellReply thread) told so x = same_in_order old new x.1 so
 request_in_order old new names line BeginUnordered told so x = same_in_order old new x.1 so
 request_in_order old new names line BeginFinally told so x = same_in_order old new x.1 so
+request_in_order old new names line StateRule told so x = same_in_order old new x.1 so
 request_in_order old new names line TellSteps told so x = subst (λ (v : Session). IsInOrder v.machine.threads) (sym x.4) so
 
 pub line_in_order : (old new : State) (line : ℕ) (asked : Result (Option Request) Unread) (told : List Report) → IsInOrder old.session.machine.threads → AnswersLine old line asked told new → IsInOrder new.session.machine.threads

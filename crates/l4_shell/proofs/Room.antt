@@ -49,7 +49,7 @@ use Rattle.l4_text.specs.Grammar.{TextLine}
 use Rattle.l4_commands.specs.declared.commands.ScriptFault.{ScriptFault}
 use Rattle.l4_commands.specs.declared.commands.ScriptFault.TheVariants.{UnknownCommand, BadTokens, LineTooLong, CutLine}
 use Rattle.l4_commands.specs.declared.requests.Request.{Request}
-use Rattle.l4_commands.specs.declared.requests.Request.TheVariants.{Enter, CreateThread, EndThread, SendPlan, ListPages, TellParent, AddRegion, ServeThread, GiveName, TellReply, TellSteps, BeginUnordered, BeginFinally}
+use Rattle.l4_commands.specs.declared.requests.Request.TheVariants.{Enter, CreateThread, EndThread, SendPlan, ListPages, TellParent, AddRegion, ServeThread, GiveName, TellReply, TellSteps, BeginUnordered, BeginFinally, StateRule}
 use Rattle.l4_commands.specs.Requests.{Unread, asked_of}
 use Rattle.l4_commands.specs.Calls.{root, delete_call}
 use Rattle.l4_shell.specs.Refusals.{script_refusal, plan_refusal, too_many_names, lacks_memory, call_refusal, region_refusal}
@@ -269,6 +269,7 @@ carries_none names old line (TellReply thread) told new few c = reply_none (spac
 carries_none names old line TellSteps told new few c = ap any_full c.3
 carries_none names old line BeginUnordered told new few c = ap any_full c.0
 carries_none names old line BeginFinally told new few c = ap any_full c.0
+carries_none names old line StateRule told new few c = ap any_full c.0
 
 line_none : (old : State) (line : ℕ) (asked : Result (Option Request) Unread) (told : List Report) (new : State) → kept_in old.session < 100000 → AnswersLine old line asked told new → any_full told ≡ false
 line_none old line (Ok None) told new few a = ap any_full a.0
@@ -413,6 +414,7 @@ carries_too k names old line (TellReply thread) told new le none c = (c.0, still
 carries_too k names old line TellSteps told new le none c = (c.0, c.1, c.2, c.3, ap (moved k) c.4)
 carries_too k names old line BeginUnordered told new le none c = (c.0, still k old new c.1)
 carries_too k names old line BeginFinally told new le none c = (c.0, still k old new c.1)
+carries_too k names old line StateRule told new le none c = (c.0, still k old new c.1)
 
 answers_too : (k : ℕ) (old : State) (line : ℕ) (asked : Result (Option Request) Unread) (told : List Report) (new : State) → old.session.kept_from ≤ k → any_full told ≡ false → AnswersLine old line asked told new → AnswersLine (moved_state k old) line asked told (moved_state k new)
 answers_too k old line (Ok None) told new le none a = (a.0, ap (moved_state k) a.1)

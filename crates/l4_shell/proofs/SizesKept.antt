@@ -19,7 +19,7 @@ use Rattle.l4_pager.specs.declared.regions.Entry.{Entry}
 use Rattle.l4_servers.specs.Servers.{Servers, servers, regions_of, with_region, with_served, without, RegionFails}
 use Rattle.l4_servers.specs.Acting.{Answers, ActsNext}
 use Rattle.l4_commands.specs.declared.requests.Request.{Request}
-use Rattle.l4_commands.specs.declared.requests.Request.TheVariants.{Enter, CreateThread, EndThread, SendPlan, ListPages, TellParent, AddRegion, ServeThread, GiveName, TellReply, TellSteps, BeginUnordered, BeginFinally}
+use Rattle.l4_commands.specs.declared.requests.Request.TheVariants.{Enter, CreateThread, EndThread, SendPlan, ListPages, TellParent, AddRegion, ServeThread, GiveName, TellReply, TellSteps, BeginUnordered, BeginFinally, StateRule}
 use Rattle.l4_answers.specs.Reports.{Report}
 use Rattle.l4_names.specs.Names.{Names}
 use Rattle.l4_text.specs.Grammar.{TextLine}
@@ -160,6 +160,7 @@ carries_size size names old line (TellReply thread) told new c h = same_size siz
 carries_size size names old line TellSteps told new c h = subst (HasSize size) (sym c.4) (record { machine = h.machine; servers = h.servers })
 carries_size size names old line BeginUnordered told new c h = same_size size old new c.1 h
 carries_size size names old line BeginFinally told new c h = same_size size old new c.1 h
+carries_size size names old line StateRule told new c h = same_size size old new c.1 h
 
 same_state_size : (size : PageSize) (old new : State) → new ≡ old → HasSize size old.session → HasSize size new.session
 same_state_size size old new is h = subst (λ (s : State). HasSize size s.session) (sym is) h

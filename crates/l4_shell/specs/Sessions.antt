@@ -23,7 +23,7 @@ use Rattle.l4_record.specs.Segments.{kept_count}
 use Rattle.l4_record.specs.Sizes.{max_steps}
 use Rattle.l4_record.specs.Seated.{Seated, is_among, with_number, CanEnter, MayEnter, Refuses as RefusesCall}
 use Rattle.l4_commands.specs.declared.requests.Request.{Request}
-use Rattle.l4_commands.specs.declared.requests.Request.TheVariants.{Enter, CreateThread, EndThread, SendPlan, ListPages, TellParent, AddRegion, ServeThread, GiveName, TellReply, TellSteps, BeginUnordered, BeginFinally}
+use Rattle.l4_commands.specs.declared.requests.Request.TheVariants.{Enter, CreateThread, EndThread, SendPlan, ListPages, TellParent, AddRegion, ServeThread, GiveName, TellReply, TellSteps, BeginUnordered, BeginFinally, StateRule}
 use Rattle.l4_answers.specs.Reports.{Report, RefusedLine, UnreadLine, RefusedAct, Transferred, TimedOut, Waits, Ended, NoneEnded, Page, Shown, Parent, AddedRegion, Named, StepCount, AddsAll}
 use Rattle.l4_answers.specs.Refusals.{Refusal, kernel_refusal}
 use Rattle.l4_shell.specs.Refusals.{script_refusal, plan_refusal, too_many_names, lacks_memory, call_refusal, region_refusal}
@@ -303,6 +303,7 @@ CarriesOut names old line (TellReply thread) told new = (told ≡ reply_answer o
 CarriesOut names old line TellSteps told new = TellsCount old told new
 CarriesOut names old line BeginUnordered told new = (told ≡ []) × (new ≡ old)
 CarriesOut names old line BeginFinally told new = (told ≡ []) × (new ≡ old)
+CarriesOut names old line StateRule told new = (told ≡ []) × (new ≡ old)
 
 -- the state of a script between two lines: its session, and the names of its threads
 pub record State : Type 0 where

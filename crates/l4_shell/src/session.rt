@@ -382,6 +382,7 @@ impl Session {
             Request::TellSteps => tell_count(&mut self.kernel, sink),
             Request::BeginUnordered => {}
             Request::BeginFinally => {}
+            Request::StateRule => {}
         }
     }
 }

@@ -19,13 +19,13 @@ use Rattle.l4_symbols.specs.declared.words.WordKind.TheVariants.{Fpage, Window, 
 use Rattle.l4_text.specs.Numbers.{number_of, decimal_of}
 use Rattle.l4_commands.specs.declared.kinds.TokenKind.{TokenKind}
 use Rattle.l4_commands.specs.declared.kinds.TokenKind.TheVariants.{ThreadNumber, ThreadOrNew, ThreadOrNil, ThreadNilOrAny, Number, Symbol, Rights, NewName}
-use Rattle.l4_commands.specs.Commands.{thread_of, nil_or_thread_of, partner_of, new_space_of, rights_of, symbol_of, new_name_of, is_language_word, each_fpage, fpages_of, words_of, ◌▹◌, no_more, all_by, last_rights_of, region_of, command_of, is_word}
+use Rattle.l4_commands.specs.Commands.{thread_of, nil_or_thread_of, partner_of, new_space_of, rights_of, symbol_of, new_name_of, is_language_word, each_fpage, fpages_of, words_of, ◌▹◌, no_more, all_by, last_rights_of, region_of, rule_of, command_of, is_word}
 use Rattle.l4_commands.specs.Kinds.{is_of}
 use Rattle.l4_sinks.specs.declared.stops.Expected.{Expected}
-use Rattle.l4_sinks.specs.declared.stops.Expected.TheVariants.{TagOrEnd, WordOrEnd, FpageOrEnd, LineEnd}
+use Rattle.l4_sinks.specs.declared.stops.Expected.TheVariants.{TagOrEnd, WordOrEnd, FpageOrEnd, LineEnd, AnyAnswer}
 use Rattle.l4_sinks.specs.declared.stops.Rest.{Rest}
-use Rattle.l4_sinks.specs.declared.stops.Rest.TheVariants.{Nothing, Message, Fpages}
-use Rattle.l4_sinks.specs.Stops.{Shape, Place, wrong, shape_of, pager_shape_of, expected_for, expected_at, symbol_expected, end_stop, fpages_stop, row_or_stop, row_stop, message_stop, rest_stop, kinds_stop, shape_stop, stop_of, BeginsCommand, StopsThere, IsStop}
+use Rattle.l4_sinks.specs.declared.stops.Rest.TheVariants.{Nothing, Message, Fpages, Answer}
+use Rattle.l4_sinks.specs.Stops.{Shape, Place, wrong, shape_of, pager_shape_of, expected_for, expected_at, symbol_expected, end_stop, fpages_stop, row_or_stop, row_stop, message_stop, answer_stop, rest_stop, kinds_stop, shape_stop, stop_of, BeginsCommand, StopsThere, IsStop}
 
 -- READERS AND KINDS
 
@@ -127,6 +127,12 @@ message_ends size (token ∷ tokens) number =
 
 agrees_message : {B : Type 0} {size : PageSize} {names : Names} (make : List ℕ → B) → Agrees size names (all_by (words_of size) make) [] Message
 agrees_message {size} {names} make = record { agrees = λ tokens number. made (words_of size tokens) make ∙ message_ends size tokens number }
+
+-- ANSWERS
+
+answer_ends : (tokens : List (List ℕ)) (number : ℕ) → is_some (rule_of tokens) ≡ ends (answer_stop number tokens)
+answer_ends [] number = refl
+answer_ends (token ∷ tokens) number = refl
 
 -- KINDS
 
@@ -234,7 +240,9 @@ reads size names name tokens =
     (choose size names name tokens (is_word (codes "reply") name) _ _ _ _ (one _ _ _ ((by_thread (agrees_end size names) _).agrees tokens 2))
     (choose size names name tokens (is_word (codes "steps") name) _ _ _ _ (one _ _ _ ((agrees_end size names _).agrees tokens 2))
     (choose size names name tokens (is_word (codes "unordered") name) _ _ _ _ (one _ _ _ ((agrees_end size names _).agrees tokens 2))
-    (choose size names name tokens (is_word (codes "finally") name) _ _ _ None (one _ _ _ ((agrees_end size names _).agrees tokens 2)) refl))))))))))))))))))
+    (choose size names name tokens (is_word (codes "finally") name) _ _ _ _ (one _ _ _ ((agrees_end size names _).agrees tokens 2))
+    (choose size names name tokens (is_word (codes "never") name) _ _ _ _ (one _ _ _ (answer_ends tokens 2))
+    (choose size names name tokens (is_word (codes "always") name) _ _ _ None (one _ _ _ (answer_ends tokens 2)) refl))))))))))))))))))))
 
 -- a line is a command just where nothing stops
 command_ends : (size : PageSize) (names : Names) (tokens : List (List ℕ)) → is_ok (command_of size names tokens) ≡ ends (stop_of size names tokens)
@@ -249,15 +257,16 @@ abbrev AreFit : PageSize → Names → List TokenKind → Type 0
 AreFit size names [] = Unit {0}
 AreFit size names (kind ∷ kinds) = ((token : List ℕ) × (is_of size names kind token ≡ true)) × AreFit size names kinds
 
--- the rest may be left out
-rest_free : (size : PageSize) (names : Names) (number : ℕ) (last : Rest) → ends (rest_stop size names number last []) ≡ true
-rest_free size names number Nothing = refl
-rest_free size names number Message = refl
-rest_free size names number Fpages = refl
+-- the rest may be left out, but for an answer
+rest_fill : (size : PageSize) (names : Names) (number : ℕ) (last : Rest) → (more : List (List ℕ)) × (ends (rest_stop size names number last more) ≡ true)
+rest_fill size names number Nothing = ([], refl)
+rest_fill size names number Message = ([], refl)
+rest_fill size names number Fpages = ([], refl)
+rest_fill size names number Answer = (codes "none" ∷ [], refl)
 
 -- tokens that are right to the end
 fill : (size : PageSize) (names : Names) (kinds : List TokenKind) (number : ℕ) (last : Rest) → AreFit size names kinds → (more : List (List ℕ)) × (ends (kinds_stop size names number kinds last more) ≡ true)
-fill size names [] number last given = ([], rest_free size names number last)
+fill size names [] number last given = rest_fill size names number last
 fill size names (kind ∷ kinds) number last given =
     let rest = fill size names kinds (number + 1) last given.1 in
     (given.0.0 ∷ rest.0, ap (λ b. ends (cond b (kinds_stop size names (number + 1) kinds last rest.0) (wrong number given.0.0 (expected_at size kind given.0.0)))) given.0.1 ∙ rest.1)
@@ -343,10 +352,17 @@ message_at size first [] place is = absurd (no_stop place is)
 message_at size first (token ∷ tokens) place is =
     row_case (row_begun token) size TagOrEnd (message_stop size first) first token tokens place (λ xs. refl) refl is (λ next h. row_at size (first + 1) tokens next place h)
 
+answer_at : (first : ℕ) (tokens : List (List ℕ)) (place : Place) → answer_stop first tokens ≡ Some place → IsAt place.token (answer_stop first) first tokens place
+answer_at first [] place is =
+    let n : first ≡ first + length {A = List ℕ} [] = omega arith in
+    subst (λ (p : Place). IsAt p.token (answer_stop first) first [] p) (same_Some _ _ is) (n, (codes "none" ∷ [], refl))
+answer_at first (token ∷ tokens) place is = absurd (no_stop place is)
+
 rest_at : (size : PageSize) (names : Names) (last : Rest) (first : ℕ) (tokens : List (List ℕ)) (place : Place) → rest_stop size names first last tokens ≡ Some place → IsAt place.token (rest_stop size names first last) first tokens place
 rest_at size names Nothing first tokens place is = end_at first tokens place is
 rest_at size names Message first tokens place is = message_at size first tokens place is
 rest_at size names Fpages first tokens place is = fpages_at size names 64 first tokens place is
+rest_at size names Answer first tokens place is = answer_at first tokens place is
 
 kind_case : (b : Bool) (size : PageSize) (names : Names) (kind : TokenKind) (kinds : List TokenKind) (last : Rest) (first : ℕ) (token : List ℕ) (tokens : List (List ℕ)) (place : Place) → AreFit size names (kind ∷ kinds) → is_of size names kind token ≡ b
     → cond b (kinds_stop size names (first + 1) kinds last tokens) (wrong first token (expected_at size kind token)) ≡ Some place
@@ -422,7 +438,9 @@ pager_fit size names name =
     (fit_choose size names (is_word (codes "reply") name) _ _ (fit_thread size names, tt)
     (fit_choose size names (is_word (codes "steps") name) _ _ tt
     (fit_choose size names (is_word (codes "unordered") name) _ _ tt
-    (fit_choose size names (is_word (codes "finally") name) _ None tt tt)))))))
+    (fit_choose size names (is_word (codes "finally") name) _ _ tt
+    (fit_choose size names (is_word (codes "never") name) _ _ tt
+    (fit_choose size names (is_word (codes "always") name) _ None tt tt)))))))))
 
 all_fit : (size : PageSize) (names : Names) (name : List ℕ) → IsFit size names (shape_of name)
 all_fit size names name =

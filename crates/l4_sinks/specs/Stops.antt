@@ -13,10 +13,10 @@ use Rattle.l4_commands.specs.declared.kinds.TokenKind.TheVariants.{ThreadNumber,
 use Rattle.l4_commands.specs.Commands.{is_word, command_of}
 use Rattle.l4_commands.specs.Kinds.{is_of}
 use Rattle.l4_sinks.specs.declared.stops.Expected.{Expected}
-use Rattle.l4_sinks.specs.declared.stops.Expected.TheVariants.{CommandName, Token, Because, OtherName, TagOrEnd, WordOrEnd, FpageOrEnd, LineEnd}
+use Rattle.l4_sinks.specs.declared.stops.Expected.TheVariants.{CommandName, Token, Because, OtherName, TagOrEnd, WordOrEnd, FpageOrEnd, LineEnd, AnyAnswer}
 use Rattle.l4_sinks.specs.declared.stops.Form.{Form}
 use Rattle.l4_sinks.specs.declared.stops.Rest.{Rest}
-use Rattle.l4_sinks.specs.declared.stops.Rest.TheVariants.{Nothing, Message, Fpages}
+use Rattle.l4_sinks.specs.declared.stops.Rest.TheVariants.{Nothing, Message, Fpages, Answer}
 use Rattle.l4_sinks.specs.declared.stops.Stop.{Stop}
 
 -- the tokens behind a command's name: these in turn, and then the rest
@@ -48,7 +48,9 @@ pager_shape_of name =
     else (if is_word (codes "steps") name then just []
     else (if is_word (codes "unordered") name then just []
     else (if is_word (codes "finally") name then just []
-    else None)))))))
+    else (if is_word (codes "never") name then with_rest [] Answer
+    else (if is_word (codes "always") name then with_rest [] Answer
+    else None)))))))))
 
 -- by the command's name; None where there is no such command
 abbrev pub shape_of : List ℕ → Option Shape
@@ -126,10 +128,16 @@ abbrev pub message_stop : PageSize → ℕ → List (List ℕ) → Option Place
 message_stop size number [] = None
 message_stop size number (token ∷ tokens) = row_or_stop number token TagOrEnd (row_begun token) (λ row. row_stop size (number + 1) tokens row)
 
+-- one token or more; any tokens may be an answer
+abbrev pub answer_stop : ℕ → List (List ℕ) → Option Place
+answer_stop number [] = missing number AnyAnswer
+answer_stop number (token ∷ tokens) = None
+
 abbrev pub rest_stop : PageSize → Names → ℕ → Rest → List (List ℕ) → Option Place
 rest_stop size names number Nothing tokens = end_stop number tokens
 rest_stop size names number Message tokens = message_stop size number tokens
 rest_stop size names number Fpages tokens = fpages_stop size names number max_words tokens
+rest_stop size names number Answer tokens = answer_stop number tokens
 
 -- tokens of these kinds, and then the rest
 abbrev pub kinds_stop : PageSize → Names → ℕ → List TokenKind → Rest → List (List ℕ) → Option Place

@@ -19,7 +19,7 @@ use Rattle.l4_text.specs.Tokens.{tokens_of}
 use Rattle.l4_commands.specs.declared.kinds.TokenKind.{TokenKind}
 use Rattle.l4_commands.specs.declared.kinds.TokenKind.TheVariants.{ThreadNumber, ThreadOrNew, ThreadOrNil, ThreadNilOrAny, Number, Symbol, Rights, NewName}
 use Rattle.l4_sinks.specs.declared.stops.Expected.{Expected}
-use Rattle.l4_sinks.specs.declared.stops.Expected.TheVariants.{CommandName, Token, Because, OtherName, TagOrEnd, WordOrEnd, FpageOrEnd, LineEnd}
+use Rattle.l4_sinks.specs.declared.stops.Expected.TheVariants.{CommandName, Token, Because, OtherName, TagOrEnd, WordOrEnd, FpageOrEnd, LineEnd, AnyAnswer}
 use Rattle.l4_sinks.specs.Stops.{Place as Stopped, stop_of}
 
 unfoldable pub transfer_says : Outcome → List ℕ
@@ -143,6 +143,7 @@ expected_says TagOrEnd = codes "a number from 0 to 0xffffffff, a tag, as \"tag:7
 expected_says WordOrEnd = codes "a number from 0 to 0xffffffff, an item, as \"map:16+4>32:rwx\", or the end of the line"
 expected_says FpageOrEnd = codes "a number from 0 to 0xffffffff, an fpage, as \"16+4:rwx\", or the end of the line"
 expected_says LineEnd = codes "the end of the line"
+expected_says AnyAnswer = codes "an answer, as \"3 waits\" or \"stuck 4 9\""
 
 -- a token that is not right: its number, and what would be right
 abbrev pub wrong_says : ℕ → ℕ → List ℕ → Expected → List ℕ

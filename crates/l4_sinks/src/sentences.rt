@@ -249,6 +249,7 @@ pub(crate) fn expected_says(expected: Expected) -> &'static [u8]
             b"a number from 0 to 0xffffffff, an fpage, as \"16+4:rwx\", or the end of the line"
         }
         Expected::LineEnd => b"the end of the line",
+        Expected::AnyAnswer => b"an answer, as \"3 waits\" or \"stuck 4 9\"",
     }
 }
 

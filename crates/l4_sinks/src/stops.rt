@@ -4,7 +4,7 @@ ghost use Rattle.l4_msg.specs.Sizes.{max_words};
 ghost use Rattle.l4_symbols.specs.Computed.{word_in};
 ghost use Rattle.l4_symbols.specs.Rows.{row_in};
 ghost use Rattle.l4_text.specs.Tokens.{tokens_of};
-ghost use Rattle.l4_sinks.specs.Stops.{with_rest, pager_shape_of, shape_of, shape_in, expected_for, expected_at, symbol_expected, expected_name, end_stop, fpages_stop, row_stop, message_stop, rest_stop, kinds_stop, stop_of, place_in, IsStop};
+ghost use Rattle.l4_sinks.specs.Stops.{with_rest, pager_shape_of, shape_of, shape_in, expected_for, expected_at, symbol_expected, expected_name, end_stop, fpages_stop, row_stop, message_stop, answer_stop, rest_stop, kinds_stop, stop_of, place_in, IsStop};
 
 use crate::sentences::is;
 use l4_commands::{TokenKind, is_of_kind};
@@ -33,6 +33,8 @@ pub enum Expected {
     FpageOrEnd,
     /// The end of the line.
     LineEnd,
+    /// An answer: one token or more, of any kind.
+    AnyAnswer,
 }
 
 /// What may follow the tokens that a command always has.
@@ -44,6 +46,8 @@ pub(crate) enum Rest {
     Message,
     /// Fpages.
     Fpages,
+    /// An answer: one token or more, of any kind.
+    Answer,
 }
 
 /// The tokens behind a command's name: these in turn, and then the rest.
@@ -143,7 +147,7 @@ fn of_kinds(kinds: &'static [TokenKind], rest: Rest) -> Option<Form>
     Some(Form { kinds, rest })
 }
 
-/// The tokens of a command of pagers, of names, of replies or of the history.
+/// The tokens of a command of pagers, of names, of replies, of the history or of plans.
 fn pager_form(name: &[u8]) -> Option<Form>
     ensures form { option_map shape_in result ≡ pager_shape_of name.now }
     ensures few { IfSome result (λ f. length f.kinds.now ≤ 10) }
@@ -171,6 +175,12 @@ fn pager_form(name: &[u8]) -> Option<Form>
     }
     if is(name, b"finally") {
         return of_kinds(&[], Rest::Nothing);
+    }
+    if is(name, b"never") {
+        return of_kinds(&[], Rest::Answer);
+    }
+    if is(name, b"always") {
+        return of_kinds(&[], Rest::Answer);
     }
     None
 }
@@ -339,6 +349,20 @@ fn message_stop(first: u64, line: &[u8], size: PageSize) -> Option<Stop<'_>>
     }
 }
 
+/// Where a text stops that has an answer: one token or more. Its first token has this number.
+fn answer_stop(number: u64, line: &[u8]) -> Option<Stop<'_>>
+    ensures { option_map place_in result ≡ answer_stop number (tokens_of line.now) }
+{
+    match next_token(line) {
+        Some(_) => None,
+        None => Some(Stop {
+            number,
+            token: None,
+            expected: Expected::AnyAnswer,
+        }),
+    }
+}
+
 /// Where a text stops that is the rest of a command. Its first token has this number.
 fn rest_stop<'a>(
     number: u64,
@@ -354,6 +378,7 @@ fn rest_stop<'a>(
         Rest::Nothing => end_stop(number, line),
         Rest::Message => message_stop(number, line, size),
         Rest::Fpages => fpages_stop(number, line, size, names),
+        Rest::Answer => answer_stop(number, line),
     }
 }
 

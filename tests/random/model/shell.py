@@ -362,6 +362,12 @@ class Shell:
     def do_finally(self, tokens):
         tokens.end()
 
+    def do_never(self, tokens):
+        tokens.take()
+
+    def do_always(self, tokens):
+        self.do_never(tokens)
+
     def do_steps(self, tokens):
         tokens.end()
         self.out.append(f"steps {self.steps}")

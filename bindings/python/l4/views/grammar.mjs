@@ -5,6 +5,7 @@ const COMMANDS = {
   ipc: "thread partner partner timeouts window message", delegate: "thread partner number number number rights", part: "thread partner number number number number rights",
   unmap: "thread number fpages", fault: "thread number number rights", region: "thread number number number rights", serve: "thread",
   show: "thread number number", parent: "thread number", name: "name thread", reply: "thread", steps: "", unordered: "", finally: "",
+  never: "answer", always: "answer",
 };
 const MOST_WORDS = 64, MOST_THREADS = 1 << 18, MOST_LABELS = 1 << 16;
 const WORDS = ["nil", "any", "new", "all", "none", "never", "zero", "tag", "map", "grant"];
@@ -67,6 +68,7 @@ export function wrongToken(line, names = []) {
   if (kinds === null) return `“${command}”`;
   for (const [place, kind] of kinds.entries()) {
     if (kind === "message") return wrongInMessage(tokens.slice(place));
+    if (kind === "answer") return tokens.length ? "" : `after “${command}”: an answer is missing`;
     if (kind === "fpages") return wrongIn(tokens.slice(place), () => "fpage") || tooMany(tokens.length - place);
     const [isRight, name] = KINDS[kind], token = tokens[place];
     if (token === undefined) return `after “${[command, ...tokens].pop()}”: ${name} is missing`;

@@ -9,6 +9,6 @@ use Rattle.l4_commands.specs.declared.requests.Request.{Request}
 abbrev pub pager_commands : PageSize → Names → List (List ℕ × (List (List ℕ) → Option Request))
 pager_commands size names = drop 11 (commands size names)
 
--- the rows that begin a part of a plan
+-- the rows that begin a part of a plan, or state a rule
 abbrev pub part_commands : PageSize → Names → List (List ℕ × (List (List ℕ) → Option Request))
 part_commands size names = drop 17 (commands size names)
