@@ -2,7 +2,7 @@
 #![tactic(auto)]
 
 ghost use Rattle.std.specs.Prelude.{◌≡◌, ◌++◌, ℕ, List, MatchOption, map};
-ghost use Rattle.l4_refusals.specs.Texts.{spelled, texts, text_in, kernel_texts, message_texts, control_texts, plan_texts, check_texts, table_texts};
+ghost use Rattle.l4_refusals.specs.Texts.{spelled, texts, text_in, kernel_texts, message_texts, control_texts, plan_texts, check_texts, table_texts, order_texts};
 ghost use Rattle.l4_refusals.specs.Bytes.{bytes_of};
 
 /// A printed code, and the line of text that says what it means.
@@ -204,6 +204,38 @@ fn table_texts() -> [Text; 13]
     ]
 }
 
+/// Returns the refusals of a plan of orders, by its lines.
+fn order_texts() -> [Text; 9]
+    ensures { map bytes_of result ≡ order_texts }
+{
+    [
+        meaning(
+            b"S2",
+            b"the line has too few tokens, too many, or an invalid one",
+        ),
+        meaning(b"S3", b"the line is longer than 4,096 bytes"),
+        meaning(b"S4", b"the line does not end with a newline"),
+        meaning(
+            b"O1",
+            b"a plan has one unordered line, and after it at most one finally line",
+        ),
+        meaning(
+            b"O2",
+            b"a query is allowed only after the finally line, and a name only before the unordered line",
+        ),
+        meaning(
+            b"O3",
+            b"after the finally line, only show, parent and reply are allowed",
+        ),
+        meaning(
+            b"O4",
+            b"steps is not allowed, because its answer depends on the whole order",
+        ),
+        meaning(b"O5", b"no line creates the thread whose call this is"),
+        meaning(b"O6", b"the plan has no unordered line"),
+    ]
+}
+
 /// Returns the number of a code: its first two bytes, of which the first counts 256 times.
 pub fn number_of(code: &[u8]) -> u32
     ensures { result ≡ spelled code.now }
@@ -251,6 +283,9 @@ pub fn text_of(refusal: u32) -> Text
         return text;
     }
     if let Some(text) = found_in(&table_texts(), refusal) {
+        return text;
+    }
+    if let Some(text) = found_in(&order_texts(), refusal) {
         return text;
     }
     meaning(b"", b"")
