@@ -9,7 +9,6 @@ pub mod Planned
 pub mod Served
 pub mod Traced
 pub mod Segmented
-pub mod Written
 pub mod Versions
 pub mod Descended
 pub mod Watched

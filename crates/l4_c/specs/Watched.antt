@@ -8,7 +8,7 @@ use Rattle.l4_step_lines.specs.Watching.{JudgesStep}
 use Rattle.l4_refusals.specs.Texts.{spelled}
 use Rattle.l4_c_values.specs.Judged.{expected_of, judge_result, unjudged_result}
 use Rattle.l4_c_values.specs.declared.judgements.JudgeResult.{JudgeResult}
-use Rattle.l4_c.specs.Written.{written}
+use Rattle.l4_c_texts.specs.Written.{written}
 
 -- the result, and the array to which the kernel's line is written; it is unchanged if nothing was compared
 abbrev pub TellsJudged : Result Judgement Unjudged → List ℕ → JudgeResult → List ℕ → Type 0

@@ -3,27 +3,12 @@
 ghost use Rattle.std.specs.Prelude.{◌≡◌, ◌<◌, ◌≤◌, length};
 ghost use Rattle.l4_refusals.specs.Texts.{texts, text_in};
 ghost use Rattle.l4_c_values.specs.Lines.{reply_given, reply_line, step_line};
-ghost use Rattle.l4_c.specs.Written.{written};
+ghost use Rattle.l4_c_texts.specs.Written.{written};
 ghost use Rattle.l4_c.specs.Versions.{version_number};
 
+use l4_c_texts::write_text;
 use l4_c_values::{NextResult, ReplyResult, reply_line, step_line};
 use l4_refusals::text_of;
-
-/// Writes as much of the text as fits, and a 0 after it. Returns the length of the whole text.
-pub(crate) fn write_text(text: &[u8], out: &mut [u8]) -> usize
-    ensures length { result ≡ length text.now }
-    ensures written { out.new ≡ written text.now out.old }
-{
-    if out.is_empty() {
-        return text.len();
-    }
-    let count = text.len().min(out.len() - 1);
-    for i in 0..count {
-        out[i] = text[i];
-    }
-    out[count] = 0;
-    text.len()
-}
 
 /// Writes the printed code of a refusal, and returns its length.
 #[unsafe(no_mangle)]

@@ -2,7 +2,7 @@
 ghost use Rattle.std.specs.Prelude.{Ok};
 ghost use Rattle.l4_c.specs.Watched.{TellsJudged, JudgesFor, Judges};
 
-use crate::texts::write_text;
+use l4_c_texts::write_text;
 use l4_c_values::{
     EMPTY, JudgeResult, KernelHandle, NO_MEMORY, NO_SUCH_STEP, expected_of, judge_told, unjudged,
 };
