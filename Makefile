@@ -15,6 +15,8 @@ VERSION = 0.1.0
 # The archive calls three of the toolchain's functions for memory, which are in this archive.
 HEAP = $(dir $(firstword $(shell rt doc)))c/liblibc_c.a
 OUT = crates/l4_c/out
+PARTS = $(OUT)/libl4_c.a crates/l4_c_orders/out/libl4_c_orders.a
+PART = $(patsubst lib%.a,%,$(@F))
 SONAME = libl4.so.0
 MODULE = crates/l4_page/out/l4_page.wasm
 SOURCES = crates.txt $(shell find crates -path '*/out' -prune -o \( -name '*.rt' -o -name '*.antt' \) -print)
@@ -40,18 +42,19 @@ programs:
 
 library: $(OUT)/libl4.a $(OUT)/$(SONAME)
 
-# BUILT=yes takes the archive if it is there, and else builds it over the libraries that `rt ci` has just left.
+# BUILT=yes takes the archives if they are there, and else builds them over the libraries that `rt ci` has just left.
 ifdef BUILT
-$(OUT)/libl4_c.a:
-	tests/proofs/static-library l4_c || (cd crates/l4_c && rt lib)
+$(PARTS):
+	tests/proofs/static-library $(PART) || (cd crates/$(PART) && rt lib)
 else
-$(OUT)/libl4_c.a: $(SOURCES)
-	cd crates/l4_c && rt lib
+$(PARTS): $(SOURCES)
+	cd crates/$(PART) && rt lib
 	touch $@
 endif
 
-$(OUT)/libl4.a: $(OUT)/libl4_c.a
-	cp $< $@
+# The archive has an object for each part: a program that searches no orders links none of that part.
+$(OUT)/libl4.a: $(PARTS)
+	{ echo 'create $@'; for part in $^; do echo "addlib $$part"; done; echo save; echo end; } | ar -M
 	cd $(OUT) && ar x $(HEAP) heap.pic.o && ar qs libl4.a heap.pic.o && rm heap.pic.o
 
 # The shared library is all of the archive, and shows the names of the header alone.

@@ -14,9 +14,10 @@
  *
  * HANDLES
  *
- * A handle (l4_kernel, l4_lock, l4_sigma0, l4_pager) is a struct with one private pointer, which owns an object of the library or is empty.
- * Initialize it with L4_EMPTY, and let only the library write to it. A function that makes an object needs an empty handle. The function
- * that frees the object leaves the handle empty. Every object that is made must be freed once, or its memory leaks.
+ * A handle (l4_kernel, l4_lock, l4_segment, l4_sigma0, l4_pager, l4_orders) is a struct with one private pointer, which owns an object of
+ * the library or is empty. Initialize it with L4_EMPTY, and let only the library write to it. A function that makes an object needs an
+ * empty handle. The function that frees the object leaves the handle empty. Every object that is made must be freed once, or its memory
+ * leaks.
  *
  * Any other call on an empty handle, which holds no object yet or whose object was freed, returns B1. Freeing an empty handle is allowed
  * and has no effect. You may move a handle in memory between calls. A copy of a handle becomes invalid as soon as the original is used
@@ -45,9 +46,9 @@
  * RESULTS
  *
  * Results are returned by value. The first member of each, refusal, is L4_OK or a number that says why the call was refused. A function
- * that makes an object, l4_pager_add and l4_lock_give return this number itself. When a step is refused, nothing has changed, and every
- * other member is 0, except detail: the number that some refusals carry. The comment at each function lists its refusals in the order in
- * which they are tested.
+ * that makes an object (except l4_orders_search), l4_pager_add and l4_lock_give return this number itself. When a step is refused, nothing
+ * has changed, and every other member is 0, except detail: the number that some refusals carry. The comment at each function lists its
+ * refusals in the order in which they are tested.
  *
  * RESERVED MEMBERS
  *
@@ -185,6 +186,15 @@ uint32_t l4_version(void);
 #define L4_X1 UINT32_C(0x5831) /* the seat of this number (detail) was given out, but was not returned */
 #define L4_X2 UINT32_C(0x5832) /* the seat of this number (detail) was never given out, or was returned twice */
 #define L4_X3 UINT32_C(0x5833) /* the seat of this number (detail) does not match the lock's records */
+#define L4_S2 UINT32_C(0x5332) /* the line has too few tokens, too many, or an invalid one */
+#define L4_S3 UINT32_C(0x5333) /* the line is longer than 4,096 bytes */
+#define L4_S4 UINT32_C(0x5334) /* the line does not end with a newline */
+#define L4_O1 UINT32_C(0x4F31) /* a plan has one unordered line, and after it at most one finally line */
+#define L4_O2 UINT32_C(0x4F32) /* a query is allowed only after the finally line, and a name only before the unordered line */
+#define L4_O3 UINT32_C(0x4F33) /* after the finally line, only show, parent and reply are allowed */
+#define L4_O4 UINT32_C(0x4F34) /* steps is not allowed, because its answer depends on the whole order */
+#define L4_O5 UINT32_C(0x4F35) /* no line creates the thread (detail) whose call this is */
+#define L4_O6 UINT32_C(0x4F36) /* the plan has no unordered line */
 #define L4_NO_MEMORY UINT32_C(0x4E6F) /* there was not enough memory */
 
 /* Write the printed code of a refusal ("K1", "NoMemory"), or a line of text that explains it, to out. At most the first `room` - 1 bytes
@@ -821,6 +831,72 @@ uint32_t l4_lock_copy(l4_lock *lock, l4_kernel *copy);
  * number of a missing seat; X2 with the lowest number of a seat that was not given or comes back twice. X3 is never returned, because seats
  * never leave the library. */
 l4_verdict l4_lock_close(l4_lock *lock, const uint32_t *seats, size_t count);
+
+/* ORDERS OF CALLS
+ *
+ * A script in the language of `l4 run` with a line `unordered` is a plan: the lines after it may be executed in any order, except that the
+ * lines of one thread keep theirs. The queries after a line `finally` are the outcome of an order. The user guide describes plans, and the
+ * program `l4 orders` prints what these functions return. */
+
+/* The search of a plan: the plan, and the outcomes that its orders have. */
+typedef struct l4_orders {
+    void *hidden;
+} l4_orders;
+
+/* The result of l4_orders_search. `line` is the number of the line, from 1, that is refused with S2 to S4 or with O1 to O5, and otherwise
+ * 0. `detail` is the thread of O5. */
+typedef struct l4_searched {
+    uint32_t refusal;
+    uint32_t detail;
+    uint64_t line;
+} l4_searched;
+
+/* Reads a plan of `length` bytes, and executes it in all its orders on a new kernel with 1 to 4,096 frames. It visits at most `most`
+ * states. A state is visited once, even if several orders lead to it. Fewer frames make a search faster.
+ *
+ * The handle must be empty; it then owns the search, and you free it with l4_orders_free. Each outcome that was found is that of an order,
+ * and none was found twice. Every order's outcome was found if l4_orders_found says so. After a refusal the handle is unchanged. Refusals
+ * in this order: B2; K6; S2, S3, S4 or O1 to O4 for the first line that cannot be part of a plan; O6; O5 for the first line of a thread
+ * that is neither there at boot nor created; NoMemory, or L1 if a history is full, before the search has begun. NoMemory may come before
+ * any of those of the plan. */
+l4_searched l4_orders_search(l4_orders *orders, uint32_t frames, const char *plan, size_t length, uint64_t most);
+
+/* Does the same as l4_orders_search for pages and frames of page_bytes bytes. B4 comes before every other refusal. */
+l4_searched l4_orders_search_sized(l4_orders *orders, uint32_t frames, const char *plan, size_t length, uint64_t most, uint32_t page_bytes);
+
+/* How a search ended: it followed every order; or it ended early, because it had visited `most` states, memory ran out, or the history of
+ * an order was full. */
+#define L4_ALL_ORDERS UINT32_C(1)
+#define L4_MOST_STATES UINT32_C(2)
+#define L4_LACKED_MEMORY UINT32_C(3)
+#define L4_LACKED_HISTORY UINT32_C(4)
+
+/* How a search ended (L4_ALL_ORDERS ..), the number of outcomes, the number of orders, and the number of states that were visited. If the
+ * search ended early, orders is 0, and the plan may have more outcomes. 2^64 - 1 stands for every greater number of orders. */
+typedef struct l4_found {
+    uint32_t refusal;
+    uint32_t ended;
+    uint64_t outcomes;
+    uint64_t orders;
+    uint64_t states;
+} l4_found;
+
+/* Returns how the search ended, and what it found. Refusals: B1. */
+l4_found l4_orders_found(l4_orders *orders);
+
+/* Writes the answers of the outcome with this number, from 0: the answers to the queries, a line each, and then a line `stuck N L` for each
+ * thread N that was left before its line L of the plan. At most the first `room` - 1 bytes are written, and a 0 after them; nothing is
+ * written if room is 0. count is the length of the whole text without the 0. The text is empty if there is no such outcome. Refusals:
+ * B1. */
+l4_count l4_orders_answers(l4_orders *orders, size_t outcome, char *out, size_t room);
+
+/* Writes the script of an order that produces the outcome with this number, in the same way: the lines before `unordered`, the lines in
+ * that order, and the queries. `l4 run` executes it, and gives the outcome's answers. Nothing is written after a refusal. Refusals in this
+ * order: B1, NoMemory. */
+l4_count l4_orders_witness(l4_orders *orders, size_t outcome, char *out, size_t room);
+
+/* Frees a search with its plan, and leaves the handle empty. */
+void l4_orders_free(l4_orders *orders);
 
 /* CONSTRUCTORS AND READERS. These functions are inline, and do not call the library unless they take a handle. */
 

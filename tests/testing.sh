@@ -72,10 +72,12 @@ skip() {
 
 # needs NAME TOOL..: ends the program here, and says why, if a tool or the C library is not there
 needs() {
-    local name=$1 tool
+    local name=$1 tool part
     shift
     for tool; do there "$tool" || { skip "$name" "no $tool"; finish; }; done
-    [ -f crates/l4_c/out/libl4_c.a ] || { skip "$name" "crates/l4_c/out/libl4_c.a is not there; \`make\` builds it"; finish; }
+    for part in l4_c l4_c_orders; do
+        [ -f crates/$part/out/lib$part.a ] || { skip "$name" "crates/$part/out/lib$part.a is not there; \`make\` builds it"; finish; }
+    done
 }
 
 # install FOLDER: installs the C library, as it was built last

@@ -687,6 +687,74 @@ static void small_plans(void) {
     EXPECT(l4_check_too_long_sized(&long_region, pages, L4_TOO_MANY, 2048).refusal == L4_B4);
 }
 
+/* Root deletes thread 4 while 3 sends to it. The message is delivered before; or the send ends with ErrorCode 4, where 4 had begun to receive,
+ * or had not and is stuck before its line 7. */
+static const char plan[] =
+    "# a comment\nthread 3 new nil\nthread 4 new nil\nunordered\ndelete 4\nsend 3 4 0x10001 5\nrecv 4 any 0\nfinally\nreply 3\nreply 4\n";
+
+/* The outcome has these answers, and its witness begins and ends with the lines that are in no order. */
+static int has_outcome(l4_orders *orders, size_t outcome, const char *answers, const char *turns) {
+    char text[200], script[200];
+    l4_count told = l4_orders_answers(orders, outcome, text, sizeof text), witness = l4_orders_witness(orders, outcome, script, sizeof script);
+    size_t first = strlen("thread 3 new nil\nthread 4 new nil\n"), last = strlen("reply 3\nreply 4\n");
+    EXPECT(told.refusal == L4_OK && told.count == strlen(answers) && strcmp(text, answers) == 0);
+    EXPECT(witness.refusal == L4_OK && witness.count == strlen(script) && witness.count == first + strlen(turns) + last);
+    EXPECT(strncmp(script, "thread 3 new nil\nthread 4 new nil\n", first) == 0 && strncmp(script + first, turns, strlen(turns)) == 0);
+    return strcmp(script + first + strlen(turns), "reply 3\nreply 4\n") == 0;
+}
+
+static void found_orders(l4_orders *orders) {
+    l4_found found = l4_orders_found(orders);
+    char cut[4] = "xxx";
+    EXPECT(found.refusal == L4_OK && found.ended == L4_ALL_ORDERS && found.outcomes == 3 && found.orders == 5 && found.states == 9);
+    EXPECT(has_outcome(orders, 0, "3 ipc 00008000 4 nil\nline 6 refused K2\nstuck 4 7\n", "delete 4\nsend 3 4 0x10001 5\n"));
+    EXPECT(has_outcome(orders, 1, "3 ipc 00000000 0 nil\nline 7 refused K2\n", "send 3 4 0x10001 5\nrecv 4 any 0\ndelete 4\n"));
+    EXPECT(has_outcome(orders, 2, "3 ipc 00008000 4 nil\nline 7 refused K2\n", "recv 4 any 0\ndelete 4\nsend 3 4 0x10001 5\n"));
+    EXPECT(l4_orders_answers(orders, 1, cut, 2).count == 39 && cut[0] == '3' && cut[1] == 0 && cut[2] == 'x');
+    EXPECT(l4_orders_answers(orders, 3, cut, 4).count == 0 && cut[0] == 0 && l4_orders_witness(orders, 3, cut, 4).count == 0);
+    EXPECT(l4_orders_answers(orders, 0, NULL, 0).count == 49 && l4_orders_witness(orders, 0, NULL, 0).refusal == L4_OK);
+}
+
+/* The refusal, the line and the thread of a text that is not a plan. */
+static int refuses(const char *text, uint32_t refusal, uint64_t line, uint32_t detail) {
+    l4_orders orders = L4_EMPTY;
+    l4_searched told = l4_orders_search(&orders, 8, text, strlen(text), 100);
+    return told.refusal == refusal && told.line == line && told.detail == detail && l4_orders_found(&orders).refusal == L4_B1;
+}
+
+static void bad_plans(void) {
+    EXPECT(refuses("unordered\nsned 1 2 0\n", L4_S2, 2, 0) && refuses("unordered\nrecv 2 any 0", L4_S4, 2, 0));
+    EXPECT(refuses("unordered\n\nunordered\n", L4_O1, 3, 0) && refuses("finally\n", L4_O1, 1, 0));
+    EXPECT(refuses("show 2 0 1\nunordered\n", L4_O2, 1, 0) && refuses("unordered\nfinally\nrecv 2 any 0\n", L4_O3, 3, 0));
+    EXPECT(refuses("unordered\nfinally\nsteps\n", L4_O4, 3, 0) && refuses("unordered\nrecv 9 any 0\n", L4_O5, 2, 9));
+    EXPECT(refuses("recv 2 any 0\n", L4_O6, 0, 0) && refuses("", L4_O6, 0, 0));
+}
+
+static void orders_of_plans(void) {
+    l4_orders orders = L4_EMPTY;
+    l4_searched told;
+    char text[8];
+    l4_orders_free(&orders);
+    EXPECT(l4_orders_found(&orders).refusal == L4_B1 && l4_orders_found(&orders).outcomes == 0);
+    EXPECT(l4_orders_answers(&orders, 0, text, 8).refusal == L4_B1 && l4_orders_witness(&orders, 0, text, 8).refusal == L4_B1);
+    told = l4_orders_search(&orders, 16, plan, strlen(plan), 1000);
+    EXPECT(told.refusal == L4_OK && told.line == 0 && told.detail == 0);
+    found_orders(&orders);
+    EXPECT(l4_orders_search(&orders, 0, plan, strlen(plan), 1000).refusal == L4_B2 && l4_orders_found(&orders).outcomes == 3);
+    l4_orders_free(&orders);
+    EXPECT(l4_orders_search(&orders, 0, "", 0, 9).refusal == L4_K6 && l4_orders_search(&orders, L4_MAX_FRAMES + 1, NULL, 0, 9).refusal == L4_K6);
+    EXPECT(l4_orders_search_sized(&orders, 0, NULL, 0, 9, 2048).refusal == L4_B4);
+    EXPECT(l4_orders_search_sized(&orders, 16, plan, strlen(plan), 1000, L4_SMALL_PAGE_BYTES).refusal == L4_OK);
+    found_orders(&orders);
+    l4_orders_free(&orders);
+    EXPECT(l4_orders_search(&orders, 16, plan, strlen(plan), 2).refusal == L4_OK);
+    EXPECT(l4_orders_found(&orders).ended == L4_MOST_STATES && l4_orders_found(&orders).orders == 0);
+    l4_orders_free(&orders);
+    l4_orders_free(&orders);
+    EXPECT(l4_orders_found(&orders).refusal == L4_B1);
+    bad_plans();
+}
+
 /* NULL with a count or room of 0, wherever a pointer and its count are passed. */
 static void nulls(void) {
     static const uint32_t fault[3] = {0xffe40002, 0x21123, 0x1000};
@@ -866,7 +934,7 @@ static void texts(int shows) {
             }
         }
     }
-    EXPECT(found == 51);
+    EXPECT(found == 60);
     EXPECT(l4_refusal_code(L4_OK, code, sizeof code) == 0 && code[0] == 0);
     EXPECT(l4_refusal_code(0x10000 | L4_K1, code, sizeof code) == 0);
     EXPECT(l4_refusal_code(L4_K1, cut, 2) == 2 && cut[0] == 'K' && cut[1] == 0 && cut[2] == 'x');
@@ -898,6 +966,7 @@ int main(int count, char **words) {
     locks();
     provenance();
     segments();
+    orders_of_plans();
     nulls();
     nulls_of_locks();
     reserved();

@@ -28,6 +28,7 @@ pub use links::{
     ChainResult, Link, chain_told, fault_detail, fault_number, link_given, link_told, no_chain,
 };
 pub use locks::LockHandle;
+pub use loose::Loose;
 pub use messages::{MessageResult, message_told, no_message, no_reply, reply_told, unread};
 pub use numbers::{
     BAD_FRAMES, EMPTY, HANDED_OUT, HELD, NO_MEMORY, NO_SUCH_CALL, NO_SUCH_SIZE, NO_SUCH_STEP,

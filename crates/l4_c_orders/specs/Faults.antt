@@ -1,0 +1,38 @@
+-- Why there is no search of a text, as C gets it (this profile's own).
+use Rattle.std.specs.Prelude.{◌≡◌, ◌⊎◌, ℕ, List, codes}
+use Rattle.l4_refusals.specs.Texts.{spelled}
+use Rattle.l4_orders.specs.declared.parts.LineFault.{LineFault}
+use Rattle.l4_orders.specs.declared.parts.LineFault.TheVariants.{Long, Cut, Unread, Repeated, OfNoThread, NoQuery, Steps, NoThread}
+use Rattle.l4_orders.specs.declared.parts.PlanFault.{PlanFault}
+use Rattle.l4_orders.specs.declared.parts.PlanFault.TheVariants.{Stopped, Malformed, NoUnordered}
+use Rattle.l4_c_orders.specs.declared.faults.SearchResult.{SearchResult}
+
+-- 0, or the code of the reason why there is no search, with the thread and the line that it names
+abbrev pub search_result : ℕ → ℕ → ℕ → SearchResult
+search_result code thread line = record { refusal = code; detail = thread; line = line }
+
+-- the code of a line that cannot be part of a plan
+abbrev pub line_code : LineFault → List ℕ
+line_code Long = codes "S3"
+line_code Cut = codes "S4"
+line_code Unread = codes "S2"
+line_code Repeated = codes "O1"
+line_code OfNoThread = codes "O2"
+line_code NoQuery = codes "O3"
+line_code Steps = codes "O4"
+line_code (NoThread thread) = codes "O5"
+
+-- the thread that the refusal of a line names, or 0
+abbrev pub line_thread : LineFault → ℕ
+line_thread (NoThread thread) = thread
+line_thread fault = 0
+
+-- The result for a text that is not a plan. A text in memory can be read to its end, so memory ran out if the reading stopped.
+abbrev pub fault_result : PlanFault → SearchResult
+fault_result (Stopped fault) = search_result (spelled (codes "NoMemory")) 0 0
+fault_result (Malformed number fault) = search_result (spelled (line_code fault)) (line_thread fault) number
+fault_result NoUnordered = search_result (spelled (codes "O6")) 0 0
+
+-- memory ran out, or a history was full
+abbrev pub IsLack : SearchResult → Type 0
+IsLack r = (r ≡ search_result (spelled (codes "NoMemory")) 0 0) ⊎ (r ≡ search_result (spelled (codes "L1")) 0 0)

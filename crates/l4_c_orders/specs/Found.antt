@@ -1,0 +1,66 @@
+-- What a search found, as C gets it (this profile's own).
+use Rattle.std.specs.Prelude.{◌≡◌, ◌⊎◌, ℕ, List, [], length, slice_get, Option, None, Some, Result, Ok, Err, codes}
+use Rattle.std.specs.Option.{option_map_or}
+use Rattle.l4_merges.specs.declared.exploring.Explored.{Explored}
+use Rattle.l4_merges.specs.declared.exploring.GaveUp.{GaveUp}
+use Rattle.l4_merges.specs.declared.exploring.GaveUp.TheVariants.{Bound, Memory, Full}
+use Rattle.l4_refusals.specs.Texts.{spelled}
+use Rattle.l4_orders.specs.Telling.{witness_text}
+use Rattle.l4_c_texts.specs.Written.{written}
+use Rattle.l4_c_orders.specs.declared.outcomes.CountResult.{CountResult}
+use Rattle.l4_c_orders.specs.declared.outcomes.FoundResult.{FoundResult}
+use Rattle.l4_c_orders.specs.declared.searched.Searched.{Searched}
+
+-- every order was followed; or the search visited as many states as it may, memory ran out, or the history of an order is full
+abbrev pub end_number : Result (Unit {0}) GaveUp → ℕ
+end_number (Ok u) = 1
+end_number (Err Bound) = 2
+end_number (Err Memory) = 3
+end_number (Err Full) = 4
+
+-- the number of orders, or 0 if not every order was followed
+abbrev pub counted_orders : Result (Unit {0}) GaveUp → ℕ → ℕ
+counted_orders (Ok u) orders = orders
+counted_orders (Err why) orders = 0
+
+abbrev pub found_result : Explored → FoundResult
+found_result e =
+    record { refusal = 0; ended = end_number e.ended; outcomes = length e.found.items; orders = counted_orders e.ended e.orders; states = e.states }
+
+abbrev pub no_found : FoundResult
+no_found = record { refusal = spelled (codes "B1"); ended = 0; outcomes = 0; orders = 0; states = 0 }
+
+-- how the search ended, and what it found; an empty handle is refused (B1)
+abbrev pub TellsFound : Option Searched → FoundResult → Type 0
+TellsFound None r = r ≡ no_found
+TellsFound (Some s) r = r ≡ found_result s.explored
+
+-- TEXTS
+
+-- a number of bytes, or the code of the reason why there is no text
+abbrev pub count_result : ℕ → ℕ → CountResult
+count_result code count = record { refusal = code; count = count }
+
+-- the length of the text is returned, and as much of it as fits is written
+abbrev pub Writes : List ℕ → List ℕ → CountResult → List ℕ → Type 0
+Writes text old r new = (r ≡ count_result 0 (length text)) × (new ≡ written text old)
+
+-- the answers of the outcome with this number, from 0, or no text if there is no such outcome
+abbrev pub answers_in : Searched → ℕ → List ℕ
+answers_in s number = option_map_or (λ one. one.outcome.items) (slice_get s.explored.found.items number) []
+
+abbrev pub TellsAnswers : Option Searched → ℕ → List ℕ → CountResult → List ℕ → Type 0
+TellsAnswers None number old r new = (r ≡ count_result (spelled (codes "B1")) 0) × (new ≡ old)
+TellsAnswers (Some s) number old r new = Writes (answers_in s number) old r new
+
+-- the script of the order that was found with this outcome, or no text
+abbrev pub witness_in : Searched → ℕ → List ℕ
+witness_in s number = option_map_or (λ one. witness_text s.plan one.order.items) (slice_get s.explored.found.items number) []
+
+-- the script is written, or memory ran out
+abbrev pub WritesWitness : Searched → ℕ → List ℕ → CountResult → List ℕ → Type 0
+WritesWitness s number old r new = Writes (witness_in s number) old r new ⊎ ((r ≡ count_result (spelled (codes "NoMemory")) 0) × (new ≡ old))
+
+abbrev pub TellsWitness : Option Searched → ℕ → List ℕ → CountResult → List ℕ → Type 0
+TellsWitness None number old r new = (r ≡ count_result (spelled (codes "B1")) 0) × (new ≡ old)
+TellsWitness (Some s) number old r new = WritesWitness s number old r new

@@ -1,0 +1,79 @@
+//! Why there is no search, as C gets it.
+ghost use Rattle.std.specs.Prelude.{◌≡◌};
+ghost use Rattle.l4_refusals.specs.Texts.{spelled};
+ghost use Rattle.l4_c_orders.specs.Faults.{search_result, line_code, line_thread, fault_result, IsLack};
+
+use l4_c_values::{NO_MEMORY, TOO_LONG};
+use l4_merges::Failure;
+use l4_orders::{LineFault, PlanFault};
+use l4_refusals::number_of;
+
+/// The result of a search: 0 if there is one, or a refusal. `line` is the number of the line of the plan that is refused, and `detail` the
+/// thread that no line creates (O5).
+#[repr(C)]
+#[derive(Clone, Copy)]
+pub struct SearchResult {
+    pub refusal: u32,
+    pub detail: u32,
+    pub line: u64,
+}
+
+/// Returns the result with this refusal, or with 0.
+pub(crate) fn told(refusal: u32, detail: u32, line: u64) -> SearchResult
+    ensures { result ≡ search_result refusal detail line }
+{
+    SearchResult {
+        refusal,
+        detail,
+        line,
+    }
+}
+
+/// Returns the code of a line that cannot be part of a plan.
+fn line_code(fault: LineFault) -> &'static [u8]
+    ensures { result.now ≡ line_code fault }
+{
+    match fault {
+        LineFault::Long => b"S3",
+        LineFault::Cut => b"S4",
+        LineFault::Unread => b"S2",
+        LineFault::Repeated => b"O1",
+        LineFault::OfNoThread => b"O2",
+        LineFault::NoQuery => b"O3",
+        LineFault::Steps => b"O4",
+        LineFault::NoThread(_) => b"O5",
+    }
+}
+
+/// Returns the thread that the refusal of a line names, or 0.
+fn line_thread(fault: LineFault) -> u32
+    ensures { result ≡ line_thread fault }
+{
+    match fault {
+        LineFault::NoThread(thread) => thread,
+        _ => 0,
+    }
+}
+
+/// Returns the result for a text that is not a plan.
+pub(crate) fn fault_told(fault: PlanFault) -> SearchResult
+    ensures { result ≡ fault_result fault }
+{
+    match fault {
+        PlanFault::Stopped(_) => told(NO_MEMORY, 0, 0),
+        PlanFault::Malformed(line, fault) => {
+            told(number_of(line_code(fault)), line_thread(fault), line)
+        }
+        PlanFault::NoUnordered => told(number_of(b"O6"), 0, 0),
+    }
+}
+
+/// Returns the result for a plan whose orders cannot be executed.
+pub(crate) fn failure_told(failure: Failure) -> SearchResult
+    ensures { IsLack result }
+{
+    match failure {
+        Failure::Memory => told(NO_MEMORY, 0, 0),
+        Failure::Full => told(TOO_LONG, 0, 0),
+    }
+}

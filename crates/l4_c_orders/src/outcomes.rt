@@ -1,0 +1,184 @@
+//! What a search found.
+ghost use Rattle.std.specs.Prelude.{◌≡◌, IfOk};
+ghost use Rattle.l4_c_orders.specs.Found.{end_number, counted_orders, found_result, no_found, count_result, answers_in, witness_in, Writes, TellsFound, TellsAnswers, WritesWitness, TellsWitness};
+
+use crate::handles::OrdersHandle;
+use crate::searched::Searched;
+use l4_c_texts::write_text;
+use l4_c_values::{EMPTY, NO_MEMORY};
+use l4_orders::{Explored, GaveUp, witness_text};
+use std::alloc::{AllocError, Global};
+
+/// How a search ended, and the numbers of outcomes that it found, of all orders, and of states that it visited.
+#[repr(C)]
+#[derive(Clone, Copy)]
+pub struct FoundResult {
+    pub refusal: u32,
+    /// 1 if every order was followed; 2, 3 or 4 if the search ended early.
+    pub ended: u32,
+    pub outcomes: u64,
+    /// 0 if the search ended early.
+    pub orders: u64,
+    pub states: u64,
+}
+
+/// The length of a text.
+#[repr(C)]
+#[derive(Clone, Copy)]
+pub struct CountResult {
+    pub refusal: u32,
+    pub count: u64,
+}
+
+/// Returns how a search ended, as a number.
+fn end_number(explored: &Explored) -> u32
+    ensures { result ≡ end_number explored.now.ended }
+{
+    match explored.ended {
+        Ok(()) => 1,
+        Err(GaveUp::Bound) => 2,
+        Err(GaveUp::Memory) => 3,
+        Err(GaveUp::Full) => 4,
+    }
+}
+
+/// Returns the number of orders, or 0 if the search ended early.
+fn counted_orders(explored: &Explored) -> u64
+    ensures { result ≡ counted_orders explored.now.ended explored.now.orders }
+{
+    match explored.ended {
+        Ok(()) => explored.orders,
+        Err(_) => 0,
+    }
+}
+
+/// Returns the result for a search.
+fn found_told(search: &Searched) -> FoundResult
+    ensures { result ≡ found_result search.now.explored }
+{
+    let explored = &search.explored;
+    FoundResult {
+        refusal: 0,
+        ended: end_number(explored),
+        outcomes: explored.found.len() as u64,
+        orders: counted_orders(explored),
+        states: explored.states,
+    }
+}
+
+/// Returns the result without a search.
+fn no_found() -> FoundResult
+    ensures { result ≡ no_found }
+{
+    FoundResult {
+        refusal: EMPTY,
+        ended: 0,
+        outcomes: 0,
+        orders: 0,
+        states: 0,
+    }
+}
+
+/// Returns how the search ended, and what it found. Refuses an empty handle (B1).
+#[unsafe(no_mangle)]
+pub extern "C" fn l4_orders_found(alloc: Global, handle: &mut OrdersHandle) -> FoundResult
+    ensures kept { handle.new.value ≡ handle.old.value }
+    ensures told { TellsFound handle.old.value result }
+{
+    let Some(search) = handle.take(alloc) else {
+        return no_found();
+    };
+    let told = found_told(&search);
+    handle.put(search);
+    told
+}
+
+/// Returns a result with this refusal, or with 0 and this number.
+fn counted(refusal: u32, count: u64) -> CountResult
+    ensures { result ≡ count_result refusal count }
+{
+    CountResult { refusal, count }
+}
+
+/// Writes a text to the array, and returns its length.
+fn write(text: &[u8], out: &mut [u8]) -> CountResult
+    ensures { Writes text.now out.old result out.new }
+{
+    counted(0, write_text(text, out) as u64)
+}
+
+/// Returns the answers of the outcome with this number, or no text.
+fn answers_in(search: &Searched, number: usize) -> &[u8]
+    ensures { result.now ≡ answers_in search.now number }
+{
+    match search.explored.found.get(number) {
+        Some(one) => one.outcome.as_slice(),
+        None => &[],
+    }
+}
+
+/// Writes the answers of an outcome.
+fn write_answers(search: &Searched, number: usize, out: &mut [u8]) -> CountResult
+    ensures { Writes (answers_in search.now number) out.old result out.new }
+{
+    write(answers_in(search, number), out)
+}
+
+/// Writes the answers of the outcome with this number, from 0, and returns the length of their text. Refuses an empty handle (B1).
+#[unsafe(no_mangle)]
+pub extern "C" fn l4_orders_answers(
+    alloc: Global,
+    handle: &mut OrdersHandle,
+    outcome: usize,
+    out: &mut [u8],
+) -> CountResult
+    ensures kept { handle.new.value ≡ handle.old.value }
+    ensures told { TellsAnswers handle.old.value outcome out.old result out.new }
+{
+    let Some(search) = handle.take(alloc) else {
+        return counted(EMPTY, 0);
+    };
+    let told = write_answers(&search, outcome, out);
+    handle.put(search);
+    told
+}
+
+/// Returns the script of an order that produces the outcome with this number, or no text.
+fn witness_in(alloc: Global, search: &Searched, number: usize) -> Result<Vec<u8>, AllocError>
+    ensures { IfOk result (λ text. text.items ≡ witness_in search.now number) }
+{
+    match search.explored.found.get(number) {
+        Some(one) => witness_text(alloc, &search.plan, one.order.as_slice()),
+        None => Ok(Vec::new(alloc)),
+    }
+}
+
+/// Writes the script of an order that produces an outcome.
+fn write_witness(alloc: Global, search: &Searched, number: usize, out: &mut [u8]) -> CountResult
+    ensures { WritesWitness search.now number out.old result out.new }
+{
+    match witness_in(alloc, search, number) {
+        Ok(text) => write(text.as_slice(), out),
+        Err(_) => counted(NO_MEMORY, 0),
+    }
+}
+
+/// Writes the script of an order that produces the outcome with this number, from 0, and returns its length. The refusals are B1 and NoMemory,
+/// in this order. Nothing is written after a refusal.
+#[unsafe(no_mangle)]
+pub extern "C" fn l4_orders_witness(
+    alloc: Global,
+    handle: &mut OrdersHandle,
+    outcome: usize,
+    out: &mut [u8],
+) -> CountResult
+    ensures kept { handle.new.value ≡ handle.old.value }
+    ensures told { TellsWitness handle.old.value outcome out.old result out.new }
+{
+    let Some(search) = handle.take(alloc) else {
+        return counted(EMPTY, 0);
+    };
+    let told = write_witness(alloc, &search, outcome, out);
+    handle.put(search);
+    told
+}

@@ -1,0 +1,10 @@
+//! Plans whose orders were searched.
+
+use l4_orders::{Explored, Plan};
+
+/// A plan, and what the search of its orders found.
+#[derive(Drop)]
+pub struct Searched {
+    pub plan: Plan,
+    pub explored: Explored,
+}
