@@ -29,9 +29,10 @@ from ._library import library_version
 from .calls import Call
 from .judge import UNKNOWN, Agreement, Difference, Judge
 from .kernel import Answer, Done, Entered, Expire, Kernel, Mapping, Outcome, Place, Reply, ReplyKind, Step, Transfer
+from .outcomes import Orders, PlanOutcome, SearchEnd, orders
 from .plans import Plan, Region
 from .protocols import FrameRequest, PageFault
-from .refusals import IpcFailed, Refused, TooLong
+from .refusals import BadPlan, IpcFailed, Refused, TooLong
 from .shared import Entry, Link, Receipt, Seat, Segment, SharedKernel, Start
 from .tables import Pager, Sigma0
 from .words import (
@@ -65,6 +66,7 @@ __all__ = [
     "UNKNOWN",
     "Agreement",
     "Answer",
+    "BadPlan",
     "Call",
     "Difference",
     "Done",
@@ -80,17 +82,20 @@ __all__ = [
     "Link",
     "Mapping",
     "Message",
+    "Orders",
     "Outcome",
     "PageFault",
     "Pager",
     "Place",
     "Plan",
+    "PlanOutcome",
     "Receipt",
     "Refused",
     "Region",
     "Reply",
     "ReplyKind",
     "Rights",
+    "SearchEnd",
     "Seat",
     "Segment",
     "SharedKernel",
@@ -104,5 +109,6 @@ __all__ = [
     "Transfer",
     "draw",
     "library_version",
+    "orders",
     "timeouts",
 ]

@@ -91,6 +91,15 @@ L4_L8 = 0x4C38
 L4_X1 = 0x5831
 L4_X2 = 0x5832
 L4_X3 = 0x5833
+L4_S2 = 0x5332
+L4_S3 = 0x5333
+L4_S4 = 0x5334
+L4_O1 = 0x4F31
+L4_O2 = 0x4F32
+L4_O3 = 0x4F33
+L4_O4 = 0x4F34
+L4_O5 = 0x4F35
+L4_O6 = 0x4F36
 L4_NO_MEMORY = 0x4E6F
 
 L4_IPC = 1
@@ -124,6 +133,11 @@ L4_DIFFERS = 2
 L4_NOT_ENABLED = 3
 
 L4_START = 3
+
+L4_ALL_ORDERS = 1
+L4_MOST_STATES = 2
+L4_LACKED_MEMORY = 3
+L4_LACKED_HISTORY = 4
 
 L4_SIGMA0_ID = 0x4001
 L4_ROOT_ID = 0x8001
@@ -281,6 +295,18 @@ class l4_chain(Structure):
     _fields_ = numbers("refusal detail there") + [("count", c_uint64)]
 
 
+class l4_orders(Structure):
+    _fields_ = [("hidden", c_void_p)]
+
+
+class l4_searched(Structure):
+    _fields_ = numbers("refusal detail") + [("line", c_uint64)]
+
+
+class l4_found(Structure):
+    _fields_ = numbers("refusal ended") + [("outcomes", c_uint64), ("orders", c_uint64), ("states", c_uint64)]
+
+
 STRUCTS = [
     l4_kernel,
     l4_call,
@@ -313,6 +339,9 @@ STRUCTS = [
     l4_receipt,
     l4_link,
     l4_chain,
+    l4_orders,
+    l4_searched,
+    l4_found,
 ]
 
 KERNEL = POINTER(l4_kernel)
@@ -324,6 +353,7 @@ REGION = POINTER(l4_region)
 LOCK = POINTER(l4_lock)
 SEGMENT = POINTER(l4_segment)
 LINKS = POINTER(l4_link)
+ORDERS = POINTER(l4_orders)
 
 # the result and the parameters of each function
 FUNCTIONS: Dict[str, Tuple[Any, List[Any]]] = {
@@ -393,6 +423,12 @@ FUNCTIONS: Dict[str, Tuple[Any, List[Any]]] = {
     "l4_lock_check_provenance": (l4_verdict, [LOCK, c_uint64, c_uint32, LINKS, c_size_t]),
     "l4_lock_copy": (c_uint32, [LOCK, KERNEL]),
     "l4_lock_close": (l4_verdict, [LOCK, WORDS, c_size_t]),
+    "l4_orders_search": (l4_searched, [ORDERS, c_uint32, c_char_p, c_size_t, c_uint64]),
+    "l4_orders_search_sized": (l4_searched, [ORDERS, c_uint32, c_char_p, c_size_t, c_uint64, c_uint32]),
+    "l4_orders_found": (l4_found, [ORDERS]),
+    "l4_orders_answers": (l4_count, [ORDERS, c_size_t, c_char_p, c_size_t]),
+    "l4_orders_witness": (l4_count, [ORDERS, c_size_t, c_char_p, c_size_t]),
+    "l4_orders_free": (None, [ORDERS]),
 }
 
 

@@ -18,6 +18,7 @@ _DETAILED = {
     _library.L4_X1,
     _library.L4_X2,
     _library.L4_X3,
+    _library.L4_O5,
 }
 
 
@@ -25,7 +26,7 @@ class Refused(Exception):
     """A refused call. A refused step changes nothing.
 
     `code` is the code that the programs print, such as "K1", and `text` explains it. `detail` is the number that some refusals carry (an
-    item, a word, an entry or a place of a list, from 0; a page; or a seat), and otherwise None.
+    item, a word, an entry or a place of a list, from 0; a page; a seat; or a thread), and otherwise None.
     """
 
     code: str
@@ -51,6 +52,21 @@ class TooLong(Refused):
         super().__init__(_library.L4_N4)
         self.args = (pages,)
         self.pages = tuple(pages)
+
+
+class BadPlan(Refused):
+    """A script that is not a plan (S2 to S4, O1 to O6). `line` is the number of the refused line, from 1, or None if no line is `unordered`
+    (O6)."""
+
+    line: Optional[int]
+
+    def __init__(self, refusal: int, detail: int = 0, line: int = 0) -> None:
+        super().__init__(refusal, detail)
+        self.args = (refusal, detail, line)
+        self.line = line or None
+
+    def __str__(self) -> str:
+        return super().__str__() if self.line is None else f"line {self.line}: {super().__str__()}"
 
 
 _ERRORS = {

@@ -2,11 +2,11 @@
 import doctest
 import unittest
 
-from l4 import calls, judge, kernel, plans, protocols, shared, tables, words
+from l4 import calls, judge, kernel, outcomes, plans, protocols, shared, tables, words
 
 
 def load_tests(_loader, tests, _pattern):
-    for module in (calls, judge, kernel, plans, protocols, shared, tables, words):
+    for module in (calls, judge, kernel, outcomes, plans, protocols, shared, tables, words):
         tests.addTests(doctest.DocTestSuite(module))
     return tests
 

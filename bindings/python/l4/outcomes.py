@@ -1,0 +1,107 @@
+"""The outcomes that a plan has over all orders of its threads' calls; `l4 orders` prints the same outcomes.
+
+A plan is a script with a line `unordered`. The lines after it may be executed in any order, but the lines of one thread keep theirs. The
+queries after a line `finally` are the outcome. The user guide describes plans.
+"""
+from __future__ import annotations
+
+from ctypes import byref, create_string_buffer
+from dataclasses import dataclass
+from enum import Enum
+from typing import Any, Callable, Optional, Tuple
+
+from . import _library
+from ._library import Forks, library, number, of_type
+from .refusals import BadPlan, Refused
+from .words import PAGE_BYTES
+
+#: The number of states that a search visits at most, if you do not pass `most`.
+MOST_STATES = 1_000_000
+
+
+class SearchEnd(Enum):
+    """How a search ended: it followed every order; or it ended early, because it had visited as many states as it may, memory ran out, or the
+    history of an order was full."""
+
+    ALL_ORDERS = _library.L4_ALL_ORDERS
+    MOST_STATES = _library.L4_MOST_STATES
+    MEMORY = _library.L4_LACKED_MEMORY
+    HISTORY = _library.L4_LACKED_HISTORY
+
+
+@dataclass(frozen=True)
+class PlanOutcome:
+    """An outcome that some order of the calls has.
+
+    `answers` has the lines of the answers to the queries, and then a line `stuck N L` for each thread N that is left before its line L of the
+    plan. `witness` is the script of an order that produces this outcome: `l4 run` and `Script.run` answer its queries so.
+    """
+
+    answers: Tuple[str, ...]
+    witness: str
+
+
+@dataclass(frozen=True)
+class Orders:
+    """What a search found: each outcome once, how the search ended, and the number of states that it visited. `order_count` is the number of
+    orders, or None if the search ended early; 2^64 - 1 stands for every greater number."""
+
+    outcomes: Tuple[PlanOutcome, ...]
+    end: SearchEnd
+    order_count: Optional[int]
+    state_count: int
+
+    @property
+    def complete(self) -> bool:
+        """Returns whether every order was followed. The plan then has no other outcomes."""
+        return self.end is SearchEnd.ALL_ORDERS
+
+
+def _text(write: Callable[..., Any], search: _library.l4_orders, outcome: int) -> str:
+    """Returns a text of an outcome."""
+    room = 1 + write(byref(search), outcome, None, 0).count
+    text = create_string_buffer(room)
+    told = write(byref(search), outcome, text, room)
+    if told.refusal:
+        raise Refused(told.refusal)
+    return text.raw[: told.count].decode("utf-8", "surrogateescape")
+
+
+def _outcome(search: _library.l4_orders, place: int) -> PlanOutcome:
+    answers = _text(library.l4_orders_answers, search, place)
+    return PlanOutcome(tuple(answers.splitlines()), _text(library.l4_orders_witness, search, place))
+
+
+def _found(search: _library.l4_orders) -> Orders:
+    """Returns what a search found."""
+    told = library.l4_orders_found(byref(search))
+    end = SearchEnd(told.ended)
+    outcomes = tuple(_outcome(search, place) for place in range(told.outcomes))
+    return Orders(outcomes, end, told.orders if end is SearchEnd.ALL_ORDERS else None, told.states)
+
+
+def orders(script: str, frames: int = 256, page_bytes: int = PAGE_BYTES, most: int = MOST_STATES) -> Orders:
+    """Executes a plan in all orders of its threads' calls, and returns its outcomes, each with the script of an order that produces it.
+
+    Each order is executed on a new kernel with this number of frames. A search is faster with few frames. It visits at most `most` states.
+
+    Raises Refused, in this order, with B4 or K6; BadPlan, with the refused line; and Refused with NoMemory, or with L1 if a history is full
+    before the search has begun. NoMemory may come before BadPlan.
+
+    >>> found = orders("unordered\\nsend 1 2 0x10000\\nrecv 2 any 0\\nfinally\\nreply 2\\n", frames=1)
+    >>> [outcome.answers for outcome in found.outcomes], found.order_count, found.complete
+    ([('2 ipc 00010000 0 1',)], 2, True)
+    """
+    text = of_type(script, str, "a script").encode("utf-8", "surrogateescape")
+    given = number(frames, "the number of frames"), text, len(text), number(most, "the number of states", 64), number(page_bytes, "the number of bytes")
+    Forks.check()
+    search = _library.l4_orders()
+    told = library.l4_orders_search_sized(byref(search), *given)
+    if told.line or told.refusal == _library.L4_O6:
+        raise BadPlan(told.refusal, told.detail, told.line)
+    if told.refusal:
+        raise Refused(told.refusal)
+    try:
+        return _found(search)
+    finally:
+        library.l4_orders_free(byref(search))
