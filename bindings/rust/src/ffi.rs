@@ -138,6 +138,15 @@ constants! {
     L4_X1 = 0x5831;
     L4_X2 = 0x5832;
     L4_X3 = 0x5833;
+    L4_S2 = 0x5332;
+    L4_S3 = 0x5333;
+    L4_S4 = 0x5334;
+    L4_O1 = 0x4F31;
+    L4_O2 = 0x4F32;
+    L4_O3 = 0x4F33;
+    L4_O4 = 0x4F34;
+    L4_O5 = 0x4F35;
+    L4_O6 = 0x4F36;
     L4_NO_MEMORY = 0x4E6F;
     L4_IPC = 1;
     L4_FAULT = 2;
@@ -165,6 +174,10 @@ constants! {
     L4_DIFFERS = 2;
     L4_NOT_ENABLED = 3;
     L4_START = 3;
+    L4_ALL_ORDERS = 1;
+    L4_MOST_STATES = 2;
+    L4_LACKED_MEMORY = 3;
+    L4_LACKED_HISTORY = 4;
     L4_SIGMA0_ID = 0x4001;
     L4_ROOT_ID = 0x8001;
     L4_NIL_FPAGE = 0;
@@ -407,6 +420,24 @@ structs! {
         there: u32,
         count: u64,
     }
+
+    struct l4_orders {
+        hidden: *mut c_void,
+    }
+
+    struct l4_searched {
+        refusal: u32,
+        detail: u32,
+        line: u64,
+    }
+
+    struct l4_found {
+        refusal: u32,
+        ended: u32,
+        outcomes: u64,
+        orders: u64,
+        states: u64,
+    }
 }
 
 functions! {
@@ -476,6 +507,12 @@ functions! {
     fn l4_lock_check_provenance(lock: *mut l4_lock, space: u64, page: u32, links: *const l4_link, count: usize) -> l4_verdict;
     fn l4_lock_copy(lock: *mut l4_lock, copy: *mut l4_kernel) -> u32;
     fn l4_lock_close(lock: *mut l4_lock, seats: *const u32, count: usize) -> l4_verdict;
+    fn l4_orders_search(orders: *mut l4_orders, frames: u32, plan: *const c_char, length: usize, most: u64) -> l4_searched;
+    fn l4_orders_search_sized(orders: *mut l4_orders, frames: u32, plan: *const c_char, length: usize, most: u64, page_bytes: u32) -> l4_searched;
+    fn l4_orders_found(orders: *mut l4_orders) -> l4_found;
+    fn l4_orders_answers(orders: *mut l4_orders, outcome: usize, out: *mut c_char, room: usize) -> l4_count;
+    fn l4_orders_witness(orders: *mut l4_orders, outcome: usize, out: *mut c_char, room: usize) -> l4_count;
+    fn l4_orders_free(orders: *mut l4_orders) -> ();
 }
 
 /// No step.
@@ -588,6 +625,7 @@ hidden! {
     l4_sigma0 l4_sigma0_free;
     l4_lock l4_lock_free;
     l4_segment l4_segment_free;
+    l4_orders l4_orders_free;
 }
 
 /// A handle that owns an object from its creation to its drop. The library may write to the handle in every call, including queries. So the
@@ -864,6 +902,47 @@ impl Handle<l4_segment> {
     }
 }
 
+impl Handle<l4_orders> {
+    /// Searches the orders of a plan for pages of this many bytes, or returns the refusal.
+    pub(crate) fn search(
+        frames: u32,
+        plan: &str,
+        most: u64,
+        page_bytes: u32,
+    ) -> Result<Handle<l4_orders>, l4_searched> {
+        let mut told = l4_searched {
+            refusal: L4_OK,
+            detail: 0,
+            line: 0,
+        };
+        let (first, length) = (plan.as_ptr().cast(), plan.len());
+        let made = Handle::made(|handle| {
+            // SAFETY: as in `boot`; the plan lives as long as its borrow, and a slice's pointer is aligned and never null.
+            told =
+                unsafe { l4_orders_search_sized(handle, frames, first, length, most, page_bytes) };
+            told.refusal
+        });
+        made.map_err(|_| told)
+    }
+
+    pub(crate) fn found(&self) -> l4_found {
+        // SAFETY: as in `enabled`.
+        unsafe { l4_orders_found(self.cell.get()) }
+    }
+
+    pub(crate) fn answers(&self, outcome: usize) -> String {
+        // SAFETY: as in `enabled`; the room is that of the place, which belongs to `whole`.
+        whole(|out, room| unsafe { l4_orders_answers(self.cell.get(), outcome, out, room) })
+            .unwrap_or_default()
+    }
+
+    /// Returns the script of an outcome, or the number of the refusal.
+    pub(crate) fn witness(&self, outcome: usize) -> Result<String, u32> {
+        // SAFETY: as in `answers`.
+        whole(|out, room| unsafe { l4_orders_witness(self.cell.get(), outcome, out, room) })
+    }
+}
+
 impl Handle<l4_pager> {
     /// Makes a pager's table without regions, for pages of this many bytes, or returns the number of the refusal.
     pub(crate) fn pager(page_bytes: u32) -> Result<Handle<l4_pager>, u32> {
@@ -975,6 +1054,23 @@ fn text(write: impl FnOnce(*mut c_char, usize) -> usize) -> String {
     let mut bytes = [0u8; TEXT_ROOM];
     let length = write(bytes.as_mut_ptr().cast(), bytes.len());
     String::from_utf8_lossy(&bytes[..length]).into_owned()
+}
+
+/// Returns a text of any length that a function of the library writes to a place with this room, or the number of the refusal.
+fn whole(write: impl Fn(*mut c_char, usize) -> l4_count) -> Result<String, u32> {
+    let mut bytes = vec![0u8; TEXT_ROOM];
+    loop {
+        let room = bytes.len();
+        let told = write(bytes.as_mut_ptr().cast(), room);
+        if told.refusal != L4_OK {
+            return Err(told.refusal);
+        }
+        let length = told.count as usize;
+        if length < room {
+            return Ok(String::from_utf8_lossy(&bytes[..length]).into_owned());
+        }
+        bytes.resize(length + 1, 0);
+    }
 }
 
 pub(crate) fn reply_text(thread: u32, reply: &l4_reply) -> String {

@@ -53,8 +53,8 @@
 //!
 //! # Later versions
 //!
-//! [`Refusal`], [`Reply`], [`Outcome`], [`Step`], [`Timeout`] and [`PageSize`] may get more variants in a later version. They are marked
-//! `#[non_exhaustive]`, so a `match` on one of them needs an arm `_` in another crate.
+//! [`Refusal`], [`Reply`], [`Outcome`], [`Step`], [`Timeout`], [`PageSize`] and [`SearchEnd`] may get more variants in a later version.
+//! They are marked `#[non_exhaustive]`, so a `match` on one of them needs an arm `_` in another crate.
 #![warn(missing_docs)]
 #![deny(unsafe_code)]
 #![warn(clippy::undocumented_unsafe_blocks)]
@@ -83,6 +83,7 @@ macro_rules! grows {
 mod calls;
 mod ffi;
 mod kernel;
+mod outcomes;
 mod plans;
 mod protocols;
 mod refusals;
@@ -93,6 +94,7 @@ mod words;
 
 pub use calls::{Call, FpageCount, Ipc, Timeout};
 pub use kernel::{Answer, Done, Entered, Kernel, Mapping, Mappings, Outcome, Place, Step, Verdict};
+pub use outcomes::{orders, orders_sized, BadPlan, Orders, PlanOutcome, SearchEnd};
 pub use plans::{NoPlan, Plan, Region};
 pub use protocols::{FrameRequest, PageFault};
 pub use refusals::Refusal;
@@ -152,4 +154,5 @@ mod growth {
     grows!(Step: Transfer Expire);
     grows!(Timeout: Never Zero);
     grows!(PageSize: Kib4 Kib1);
+    grows!(SearchEnd: AllOrders MostStates Memory History);
 }

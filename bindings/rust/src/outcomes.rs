@@ -1,0 +1,137 @@
+//! The outcomes that a plan has over all orders of its threads' calls.
+use crate::ffi::{self, Handle};
+use crate::refusals::{unknown, Refusal};
+use crate::words::PageSize;
+use std::error::Error;
+use std::fmt;
+
+/// How a search ended.
+#[derive(Clone, Copy, Debug, PartialEq, Eq, Hash)]
+#[non_exhaustive]
+pub enum SearchEnd {
+    /// It followed every order: the plan has no other outcomes.
+    AllOrders,
+    /// It ended early, because it had visited as many states as it may.
+    MostStates,
+    /// It ended early, because memory ran out.
+    Memory,
+    /// It ended early, because the history of an order was full.
+    History,
+}
+
+impl SearchEnd {
+    fn of(number: u32) -> SearchEnd {
+        match number {
+            ffi::L4_ALL_ORDERS => SearchEnd::AllOrders,
+            ffi::L4_MOST_STATES => SearchEnd::MostStates,
+            ffi::L4_LACKED_MEMORY => SearchEnd::Memory,
+            ffi::L4_LACKED_HISTORY => SearchEnd::History,
+            other => unknown("end of a search", other),
+        }
+    }
+}
+
+/// An outcome that some order of the calls has.
+#[derive(Clone, Debug, PartialEq, Eq, Hash)]
+pub struct PlanOutcome {
+    /// The lines of the answers to the queries, and then a line `stuck N L` for each thread N that is left before its line L of the plan.
+    pub answers: Vec<String>,
+    /// The script of an order that produces this outcome: `l4 run` answers its queries so.
+    pub witness: String,
+}
+
+/// What a search found.
+#[derive(Clone, Debug, PartialEq, Eq)]
+pub struct Orders {
+    /// The outcomes, each once.
+    pub outcomes: Vec<PlanOutcome>,
+    /// How the search ended.
+    pub end: SearchEnd,
+    /// The number of orders, if every order was followed. 2^64 - 1 stands for every greater number.
+    pub order_count: Option<u64>,
+    /// The number of states that were visited.
+    pub state_count: u64,
+}
+
+/// A plan that is refused.
+#[derive(Clone, Copy, Debug, PartialEq, Eq, Hash)]
+pub struct BadPlan {
+    /// Why it is refused.
+    pub refusal: Refusal,
+    /// The number of the line that is refused, from 1, if it is one line.
+    pub line: Option<u64>,
+}
+
+impl fmt::Display for BadPlan {
+    fn fmt(&self, out: &mut fmt::Formatter<'_>) -> fmt::Result {
+        match self.line {
+            Some(line) => write!(out, "line {line}: {}", self.refusal),
+            None => self.refusal.fmt(out),
+        }
+    }
+}
+
+impl Error for BadPlan {}
+
+impl From<Refusal> for BadPlan {
+    fn from(refusal: Refusal) -> BadPlan {
+        BadPlan {
+            refusal,
+            line: None,
+        }
+    }
+}
+
+/// Executes a plan in all orders of its threads' calls, and returns its outcomes, each with the script of an order that produces it.
+///
+/// A plan is a script with a line `unordered`. The lines after it may be executed in any order, but the lines of one thread keep theirs. The
+/// queries after a line `finally` are the outcome. Each order is executed on a new kernel with this number of frames, of 4 KiB each. The
+/// search is faster with few frames. It visits at most `most` states.
+///
+/// ```
+/// let plan = "unordered\nsend 1 2 0x10000\nrecv 2 any 0\nfinally\nreply 2\n";
+/// let found = l4::orders(plan, 1, 1_000)?;
+/// assert_eq!(found.order_count, Some(2));
+/// assert_eq!(found.outcomes.len(), 1);
+/// assert_eq!(found.outcomes[0].answers, ["2 ipc 00010000 0 1"]);
+/// # Ok::<(), l4::BadPlan>(())
+/// ```
+///
+/// # Errors
+///
+/// In this order: [`Refusal::FrameCount`]; a line that cannot be part of a plan, which the error names; [`Refusal::NoUnordered`];
+/// [`Refusal::NeverCreated`]; and [`Refusal::NoMemory`], or [`Refusal::HistoryFull`] if a history is full before the search has begun. Memory
+/// may also run out earlier.
+pub fn orders(plan: &str, frames: u32, most: u64) -> Result<Orders, BadPlan> {
+    orders_sized(plan, frames, most, PageSize::Kib4)
+}
+
+/// Does the same as [`orders`] for pages and frames of this size.
+///
+/// # Errors
+///
+/// As [`orders`].
+pub fn orders_sized(plan: &str, frames: u32, most: u64, size: PageSize) -> Result<Orders, BadPlan> {
+    let search = Handle::search(frames, plan, most, size.bytes()).map_err(|told| BadPlan {
+        refusal: Refusal::of(told.refusal, told.detail),
+        line: (told.line != 0).then_some(told.line),
+    })?;
+    let told = search.found();
+    let end = SearchEnd::of(told.ended);
+    let mut outcomes = Vec::new();
+    for place in 0..told.outcomes as usize {
+        let answers = search.answers(place);
+        outcomes.push(PlanOutcome {
+            answers: answers.lines().map(str::to_owned).collect(),
+            witness: search
+                .witness(place)
+                .map_err(|number| Refusal::of(number, 0))?,
+        });
+    }
+    Ok(Orders {
+        outcomes,
+        end,
+        order_count: (end == SearchEnd::AllOrders).then_some(told.orders),
+        state_count: told.states,
+    })
+}
