@@ -9,20 +9,26 @@ from typing import Any, Callable, Dict, Iterator, List, Optional, Tuple
 from . import _library
 from ._library import array, library
 from .kernel import Kernel
+from .outcomes import SearchEnd
+from .outcomes import orders as search
 from .plans import Region
 from .refusals import Refused, TooLong
 from .scripts import Event, Script
 from .shared import SharedKernel
 from .words import MAX_FRAMES, PAGE_BYTES, SMALL_PAGE_BYTES, Fpage, Message, Rights, ThreadId
 
-#: The lab's limits: bytes of a script, events of its run, lines of answers, and mappings of a state.
+#: The lab's limits: bytes of a script, events of its run, lines of answers, mappings of a state, and states that a search visits.
 MOST_BYTES = 1 << 18
 MOST_EVENTS = 20_000
 MOST_ANSWERS = 50_000
 MOST_MAPPINGS = 50_000
+MOST_STATES = 100_000
 
 # the largest numbers of lines, characters of a line, answers of a line, refused lines and items of a plan that an answer has
 _LINES, _CHARACTERS, _ANSWERS, _REFUSALS, _ITEMS = 200, 300, 64, 64, 256
+
+# the words of the page for the ends of a search
+_ENDS = {SearchEnd.ALL_ORDERS: "all", SearchEnd.MOST_STATES: "most", SearchEnd.MEMORY: "memory", SearchEnd.HISTORY: "history"}
 
 _S_TEXTS = {
     "S1": "the command is unknown",
@@ -305,4 +311,17 @@ def decode(asked: Dict[str, Any]) -> Dict[str, Any]:
         return {"lines": [f"no fpage in {words[0]:#010x}"]}
 
 
-ANSWERS: Dict[str, Callable[[Dict[str, Any]], Dict[str, Any]]] = {"/run": run, "/view": view, "/why": why, "/plan": plan, "/decode": decode}
+def orders(asked: Dict[str, Any]) -> Dict[str, Any]:
+    """Returns the outcomes of a plan over all orders of its calls, each with the script of an order that produces it."""
+    most = min(whole(asked, "most", 1 << 32, MOST_STATES), MOST_STATES)
+    found = search(text_of(asked), whole(asked, "frames", MAX_FRAMES + 1, 256), page_bytes_of(asked), most)
+    return {
+        "end": _ENDS[found.end],
+        "orders": f"{found.order_count or 0:,}",
+        "states": found.state_count,
+        "outcomeCount": len(found.outcomes),
+        "outcomes": [{"answers": cut_list(list(it.answers)), "witness": it.witness} for it in found.outcomes[:_ITEMS]],
+    }
+
+
+ANSWERS: Dict[str, Callable[[Dict[str, Any]], Dict[str, Any]]] = {"/run": run, "/view": view, "/why": why, "/plan": plan, "/decode": decode, "/orders": orders}

@@ -69,6 +69,20 @@ class Labs(unittest.TestCase):
         expired = self.run_of("ipc 2 nil any 0x400 0\n")["steps"][1]
         self.assertEqual((expired["text"], expired["answers"]), ("expire 2", ["expired", "2 ipc 00008000 3 nil"]))
 
+    def test_the_outcomes_of_a_plan(self):
+        turns = "ipc 2 3 nil 0x4000000 0 0x10000\n", "recv 3 any 0\n"
+        told = self.ask("/orders", script=f"thread 3 new nil\nunordered\n{turns[0]}{turns[1]}finally\nreply 2\n", frames=1)
+        witnesses = [f"thread 3 new nil\n{first}{second}reply 2\n" for first, second in (turns, turns[::-1])]
+        outcomes = [{"answers": [f"2 ipc 0000{tag} 2 nil" if tag == "8000" else "2 ipc 00000000 0 nil"], "witness": it} for tag, it in zip(("8000", "0000"), witnesses)]
+        self.assertEqual((told["end"], told["orders"], told["outcomeCount"], told["outcomes"]), ("all", "2", 2, outcomes))
+        early = self.ask("/orders", script="unordered\nrecv 2 any 0\n", frames=1, most=1)
+        self.assertEqual((early["end"], early["states"]), ("most", 1))
+
+    def test_a_script_that_is_no_plan(self):
+        self.assertEqual(self.ask("/orders", 400, script="recv 2 any 0\n")["error"], "O6: the plan has no unordered line")
+        self.assertEqual(self.ask("/orders", 400, script="unordered\nrecv 9 any 0\n")["error"], "line 2: O5 9: no line creates the thread whose call this is")
+        self.assertEqual(self.ask("/orders", 400, script="unordered\n", most=-1)["error"], "most is a number below 4,294,967,296")
+
     def test_the_last_step_shows_all_answers(self):
         view = self.view()
         answers = [text for line in view["lines"] for text in line["answers"]]

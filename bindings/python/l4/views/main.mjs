@@ -3,6 +3,7 @@ import { decodeBy, listenToWords } from "./decoding.mjs";
 import { it, made } from "./dom.mjs";
 import { find } from "./finding.mjs";
 import { showChart } from "./message_view.mjs";
+import { search } from "./orders_view.mjs";
 import { showMaps, showPages, showTree, showWhy } from "./page_view.mjs";
 import { REGION_FIELDS, clearPlan, plan } from "./plan_view.mjs";
 import { showChanges, showLines, showRefusals, showSteps } from "./run_view.mjs";
@@ -29,7 +30,7 @@ const sayErrorOf = (asker) => (text) => {
   it("error").hidden = text === "";
 };
 
-const sayError = sayErrorOf("run"), sayPlanError = sayErrorOf("plan"), sayTextError = sayErrorOf("text");
+const sayError = sayErrorOf("run"), sayPlanError = sayErrorOf("plan"), sayTextError = sayErrorOf("text"), sayOrdersError = sayErrorOf("orders");
 
 /** Announces what has been done. */
 const sayDone = (text) => { it("status").textContent = text; };
@@ -215,6 +216,7 @@ function listenToViews() {
   on("colour", "change", () => { shown.colour = it("colour").value; showSelection(); });
   on("plan", "click", () => plan(source, sayPlanError));
   REGION_FIELDS.forEach((id) => on(id, "input", clearPlan));
+  on("search", "click", () => busy(search(source, load, sayOrdersError)));
   on("tell", "click", () => tell(source, sayTextError, sayDone));
   on("words", "keydown", (event) => { if (event.key === "Enter") tell(source, sayTextError, sayDone); });
   on("kind", "change", showFields);
