@@ -416,6 +416,33 @@ typedef struct l4_thread {
  * 1. Refusals: B1. */
 l4_thread l4_next_thread(l4_kernel *kernel, uint32_t thread);
 
+/* States of a thread. */
+#define L4_STATE_ABSENT UINT32_C(0)    /* no thread has this number */
+#define L4_STATE_NEW UINT32_C(1)       /* the thread runs, and has made no call yet */
+#define L4_STATE_RUNNING UINT32_C(2)   /* the thread runs, and its last call has ended: l4_reply_of returns the reply */
+#define L4_STATE_SENDING UINT32_C(3)   /* the thread waits until its partner receives its message */
+#define L4_STATE_RECEIVING UINT32_C(4) /* the thread waits for a message from its partner */
+
+/* What a thread is doing. id is its thread id, which has its version. pager is the thread id of its pager, or L4_NILTHREAD.
+ *
+ * partner is the thread id of the partner for which the thread waits, or L4_ANYTHREAD if it accepts a message from any thread. It is
+ * L4_NILTHREAD if the thread does not wait. expires is 1 if the wait has a timeout of zero, and 0 if it has none. fault is 1 if the wait
+ * belongs to a page fault, and otherwise 0. All members but refusal are 0 if the state is L4_STATE_ABSENT. */
+typedef struct l4_state {
+    uint32_t refusal;
+    uint32_t state;
+    uint64_t space;
+    uint32_t id;
+    uint32_t pager;
+    uint32_t partner;
+    uint32_t expires;
+    uint32_t fault;
+    uint32_t reserved[3];
+} l4_state;
+
+/* Returns what the thread with this number is doing. Refusals: B1. */
+l4_state l4_state_of(l4_kernel *kernel, uint32_t thread);
+
 /* The size of a kernel's pages in bytes: L4_PAGE_BYTES or L4_SMALL_PAGE_BYTES. */
 typedef struct l4_page_size {
     uint32_t refusal;
@@ -820,9 +847,21 @@ l4_chain l4_lock_provenance(l4_lock *lock, uint64_t space, uint32_t page, l4_lin
  * the links are not the provenance. */
 l4_verdict l4_lock_check_provenance(l4_lock *lock, uint64_t space, uint32_t page, const l4_link *links, size_t count);
 
-/* Copies the kernel of a locked kernel into an empty handle, as l4_copy does. So you can query it as any kernel: its mappings, spaces and
- * threads, their replies and the steps that are enabled. The copy has no history and no seats, and the locked kernel is unchanged. Refusals
- * in this order: B1 for the locked kernel, B2 for the copy, NoMemory. */
+/* Query the kernel of a locked kernel, as the functions without lock_ in their names query a kernel. No step of it is enabled between two
+ * calls. These functions change nothing. Their refusals are the same: B1, and NoMemory for l4_lock_descendants. */
+l4_space l4_lock_space_of(l4_lock *lock, uint32_t thread);
+l4_space l4_lock_next_space(l4_lock *lock, uint64_t space);
+l4_thread l4_lock_next_thread(l4_lock *lock, uint32_t thread);
+l4_state l4_lock_state_of(l4_lock *lock, uint32_t thread);
+l4_reply l4_lock_reply_of(l4_lock *lock, uint32_t thread);
+l4_page_size l4_lock_page_size_of(l4_lock *lock);
+l4_mapping l4_lock_mapping_of(l4_lock *lock, uint64_t space, uint32_t page);
+l4_page l4_lock_next_page(l4_lock *lock, uint64_t space, uint32_t page);
+l4_count l4_lock_descendants(l4_lock *lock, uint64_t space, uint32_t page, l4_place *places, size_t room);
+
+/* Copies the kernel of a locked kernel into an empty handle, as l4_copy does. So you can let the copy continue in another way than the locked
+ * kernel, or query one state while calls go on. The copy has no history and no seats, and the locked kernel is unchanged. Refusals in this
+ * order: B1 for the locked kernel, B2 for the copy, NoMemory. */
 uint32_t l4_lock_copy(l4_lock *lock, l4_kernel *copy);
 
 /* Takes back the seats of these numbers, and frees the locked kernel with its history if exactly the seats that were given come back, each
@@ -1034,6 +1073,21 @@ static inline l4_thread l4_next_thread_in(l4_kernel *kernel, uint64_t space, uin
     while (next.there && l4_space_of(kernel, next.thread).space != space)
         next = l4_next_thread(kernel, next.thread + 1);
     return next;
+}
+
+/* Does the same for the kernel of a locked kernel. Refusals: B1. */
+static inline l4_thread l4_lock_next_thread_in(l4_lock *lock, uint64_t space, uint32_t thread) {
+    l4_thread next = l4_lock_next_thread(lock, thread);
+    while (next.there && l4_lock_space_of(lock, next.thread).space != space)
+        next = l4_lock_next_thread(lock, next.thread + 1);
+    return next;
+}
+
+/* Returns 1 if l4_lock_take would return a reply for this seat, and 0 if not: its last call still waits, or was taken, or there is none. */
+static inline int l4_lock_poll(l4_lock *lock, uint32_t seat) {
+    l4_seat given = l4_lock_seat_of(lock, seat);
+    uint32_t state = l4_lock_state_of(lock, seat).state;
+    return given.starts > given.receipts && state != L4_STATE_SENDING && state != L4_STATE_RECEIVING;
 }
 
 #ifdef __cplusplus

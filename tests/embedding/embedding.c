@@ -65,6 +65,7 @@ static void empty_handles(void) {
     EXPECT(l4_next(&kernel).refusal == L4_B1);
     EXPECT(l4_reply_of(&kernel, 1).refusal == L4_B1);
     EXPECT(l4_space_of(&kernel, 1).refusal == L4_B1);
+    EXPECT(l4_state_of(&kernel, 2).refusal == L4_B1 && l4_state_of(&kernel, 2).id == 0);
     EXPECT(l4_page_size_of(&kernel).refusal == L4_B1 && l4_page_size_of(&kernel).page_bytes == 0);
     EXPECT(l4_mapping_of(&kernel, 0, 0).refusal == L4_B1);
     EXPECT(l4_next_page(&kernel, 0, 0).refusal == L4_B1);
@@ -209,6 +210,38 @@ static void lists(l4_kernel *kernel) {
     EXPECT(l4_next_thread(kernel, 2).thread == 2 && l4_next_thread(kernel, 3).thread == 3 && l4_next_thread(kernel, 4).there == 0);
     EXPECT(l4_next_space(kernel, 0).there == 1 && l4_next_space(kernel, 0).space == 0 && l4_next_space(kernel, 1).space == 1);
     EXPECT(l4_next_space(kernel, 2).space == 2 && l4_next_space(kernel, 3).there == 0);
+}
+
+/* Whether the thread is in this state, with this partner, and with these flags of its wait. */
+static int is_in(l4_state told, uint32_t state, uint32_t partner, uint32_t expires, uint32_t fault) {
+    return told.refusal == L4_OK && told.state == state && told.partner == partner && told.expires == expires && told.fault == fault
+        && told.reserved[0] == 0 && told.reserved[1] == 0 && told.reserved[2] == 0;
+}
+
+/* A number without a thread, threads that have made no call yet, one whose call has ended, and threads that wait in each way. */
+static void states(void) {
+    l4_kernel kernel = L4_EMPTY;
+    l4_call fault = kind(L4_FAULT), call = send(1);
+    l4_state told;
+    fault.address = 0x20123;
+    fault.access = L4_READ;
+    call.timeouts = l4_timeouts(L4_ZERO_TIMEOUT, 0);
+    EXPECT(l4_boot(&kernel, 256) == L4_OK);
+    told = l4_state_of(&kernel, 3);
+    EXPECT(is_in(told, L4_STATE_ABSENT, 0, 0, 0) && told.space == 0 && told.id == 0 && told.pager == 0);
+    told = l4_state_of(&kernel, 2);
+    EXPECT(is_in(told, L4_STATE_NEW, 0, 0, 0) && told.space == 1 && told.id == L4_ROOT_ID && told.pager == L4_SIGMA0_ID);
+    told = l4_state_of(&kernel, 1);
+    EXPECT(is_in(told, L4_STATE_NEW, 0, 0, 0) && told.space == 0 && told.id == L4_SIGMA0_ID && told.pager == L4_NILTHREAD);
+    EXPECT(plainly(&kernel, 2, create(3, 2)).refusal == L4_OK && is_in(l4_state_of(&kernel, 2), L4_STATE_RUNNING, 0, 0, 0));
+    told = l4_state_of(&kernel, 3);
+    EXPECT(is_in(told, L4_STATE_NEW, 0, 0, 0) && told.space == 2 && told.id == id(3) && told.pager == id(2));
+    EXPECT(plainly(&kernel, 3, fault).refusal == L4_OK && is_in(l4_state_of(&kernel, 3), L4_STATE_SENDING, id(2), 0, 1));
+    EXPECT(plainly(&kernel, 2, receive(0)).refusal == L4_OK && is_in(l4_state_of(&kernel, 2), L4_STATE_RECEIVING, L4_ANYTHREAD, 0, 0));
+    EXPECT(l4_next(&kernel).outcome == L4_DELIVERED && is_in(l4_state_of(&kernel, 3), L4_STATE_RECEIVING, id(2), 0, 1));
+    EXPECT(l4_start(&kernel, 2, &call, no_words, 1).refusal == L4_OK && is_in(l4_state_of(&kernel, 2), L4_STATE_SENDING, id(1), 1, 0));
+    EXPECT(l4_next(&kernel).outcome == L4_EXPIRED && is_in(l4_state_of(&kernel, 2), L4_STATE_RUNNING, 0, 0, 0));
+    l4_free(&kernel);
 }
 
 /* Two continuations of the run that `delivers` leaves: thread 1 waits to send to thread 2, with a timeout of zero. */
@@ -551,6 +584,37 @@ static void segments(void) {
     EXPECT(l4_segment_first(&first).refusal == L4_B1 && l4_segment_length(&second).refusal == L4_B1);
 }
 
+/* The kernel of a lock that `maps` has used, queried under the lock. */
+static void locked_queries(void) {
+    l4_lock lock = L4_EMPTY;
+    l4_mapping mapping;
+    l4_place places[2];
+    maps(&lock);
+    EXPECT(l4_lock_next_thread(&lock, 3).thread == 3 && l4_lock_next_thread(&lock, 4).thread == 4 && l4_lock_next_thread(&lock, 5).there == 0);
+    EXPECT(l4_lock_next_space(&lock, 2).space == 2 && l4_lock_next_space(&lock, 4).there == 0 && l4_lock_page_size_of(&lock).page_bytes == L4_PAGE_BYTES);
+    EXPECT(l4_lock_next_thread_in(&lock, 3, 0).thread == 4 && l4_lock_next_thread_in(&lock, 3, 5).there == 0);
+    EXPECT(l4_lock_space_of(&lock, 4).space == 3 && l4_lock_space_of(&lock, 3).space == 2 && l4_lock_space_of(&lock, 5).there == 0);
+    mapping = l4_lock_mapping_of(&lock, 3, 7);
+    EXPECT(mapping.there == 1 && mapping.frame == 16 && mapping.rights == 6 && mapping.parent_space == 2 && mapping.parent_page == 32);
+    EXPECT(l4_lock_mapping_of(&lock, 2, 32).rights == 7 && l4_lock_mapping_of(&lock, 2, 7).there == 0);
+    EXPECT(l4_lock_next_page(&lock, 2, 0).page == 32 && l4_lock_next_page(&lock, 3, 0).page == 7 && l4_lock_next_page(&lock, 3, 8).there == 0);
+    EXPECT(l4_lock_descendants(&lock, 0, 16, places, 2).count == 2 && l4_lock_descendants(&lock, 2, 32, places, 2).count == 1);
+    EXPECT(places[0].space == 3 && places[0].page == 7);
+    EXPECT(l4_lock_reply_of(&lock, 4).from == id(3) && l4_lock_reply_of(&lock, 3).from == 0 && is_in(l4_lock_state_of(&lock, 4), L4_STATE_RUNNING, 0, 0, 0));
+    EXPECT(by_seat(&lock, 4, receive(0), no_words, 0).reply.kind == L4_NONE && l4_lock_reply_of(&lock, 4).kind == L4_NONE);
+    EXPECT(is_in(l4_lock_state_of(&lock, 4), L4_STATE_RECEIVING, L4_ANYTHREAD, 0, 0) && l4_lock_state_of(&lock, 4).id == id(4));
+    EXPECT(l4_lock_state_of(&lock, 5).state == L4_STATE_ABSENT && l4_lock_length(&lock).count == 9);
+    l4_lock_free(&lock);
+}
+
+static void empty_lock_queries(void) {
+    l4_lock lock = L4_EMPTY;
+    EXPECT(l4_lock_space_of(&lock, 1).refusal == L4_B1 && l4_lock_next_space(&lock, 0).refusal == L4_B1 && l4_lock_next_thread(&lock, 0).refusal == L4_B1);
+    EXPECT(l4_lock_state_of(&lock, 1).refusal == L4_B1 && l4_lock_reply_of(&lock, 1).refusal == L4_B1 && l4_lock_page_size_of(&lock).refusal == L4_B1);
+    EXPECT(l4_lock_mapping_of(&lock, 0, 0).refusal == L4_B1 && l4_lock_next_page(&lock, 0, 0).refusal == L4_B1);
+    EXPECT(l4_lock_descendants(&lock, 0, 0, NULL, 0).refusal == L4_B1);
+}
+
 static void empty_locks(void) {
     l4_lock lock = L4_EMPTY;
     l4_lock_free(&lock);
@@ -574,14 +638,15 @@ static void locks_wait(l4_lock *lock) {
     EXPECT(by_seat(lock, 2, kind(0), no_words, 0).refusal == L4_B3);
     EXPECT(by_seat(lock, 2, create(3, 2), no_words, 0).reply.kind == L4_REPLY_CONTROLLED);
     entered = by_seat(lock, 3, fault, no_words, 0);
-    EXPECT(entered.refusal == L4_OK && entered.reply.kind == L4_NONE && l4_lock_take(lock, 3).kind == L4_NONE);
+    EXPECT(entered.refusal == L4_OK && entered.reply.kind == L4_NONE && l4_lock_poll(lock, 3) == 0 && l4_lock_take(lock, 3).kind == L4_NONE);
     EXPECT(by_seat(lock, 3, fault, no_words, 0).refusal == L4_K3);
     EXPECT(l4_lock_seat_of(lock, 3).starts == 1 && l4_lock_seat_of(lock, 3).receipts == 0);
     entered = by_seat(lock, 2, receive(0), no_words, 0);
     EXPECT(entered.reply.kind == L4_REPLY_IPC && entered.reply.from == id(3) && entered.reply.words[0] == 0x20123);
     EXPECT(by_seat(lock, 2, answer, nothing, 3).reply.kind == L4_REPLY_IPC);
     EXPECT(by_seat(lock, 3, fault, no_words, 0).refusal == L4_L3);
-    EXPECT(l4_lock_take(lock, 3).kind == L4_REPLY_ANSWERED && l4_lock_take(lock, 3).kind == L4_NONE);
+    EXPECT(l4_lock_poll(lock, 3) == 1 && l4_lock_take(lock, 3).kind == L4_REPLY_ANSWERED && l4_lock_take(lock, 3).kind == L4_NONE);
+    EXPECT(l4_lock_poll(lock, 3) == 0 && l4_lock_poll(lock, 2) == 0 && l4_lock_poll(lock, 9) == 0);
 }
 
 static void locks(void) {
@@ -955,6 +1020,7 @@ int main(int count, char **words) {
     refusals(&kernel);
     enters(&kernel);
     l4_free(&kernel);
+    states();
     copies();
     descendants();
     readers();
@@ -963,6 +1029,8 @@ int main(int count, char **words) {
     small_tables();
     small_plans();
     empty_locks();
+    empty_lock_queries();
+    locked_queries();
     locks();
     provenance();
     segments();

@@ -14,10 +14,8 @@ use Rattle.l4_plan_check.specs.declared.faults.Fault.TheVariants.{Region as InRe
 use Rattle.l4_answers.specs.Refusals.{message_refusal}
 use Rattle.l4_refusals.specs.Texts.{spelled}
 use Rattle.l4_c_values.specs.Told.{carried, told_place}
-use Rattle.l4_c.specs.declared.checking.Verdict.{Verdict}
-
-abbrev pub verdict_of : ℕ → ℕ → Verdict
-verdict_of code number = record { refusal = code; detail = number }
+use Rattle.l4_c_queries.specs.Traced.{verdict_of}
+use Rattle.l4_c_queries.specs.declared.tracing.Verdict.{Verdict}
 
 abbrev pub fault_verdict : AFault → Verdict
 fault_verdict InRegion = verdict_of (spelled (codes "C6")) 0

@@ -1,14 +1,10 @@
-pub mod Asked
 pub mod Copied
-pub mod Listed
 pub mod Read
 pub mod Checked
 pub mod Exports
 pub mod Locking
 pub mod Planned
 pub mod Served
-pub mod Traced
 pub mod Segmented
 pub mod Versions
-pub mod Descended
 pub mod Watched

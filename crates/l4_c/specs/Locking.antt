@@ -22,8 +22,8 @@ use Rattle.l4_c_values.specs.declared.recorded.ReceiptResult.{ReceiptResult}
 use Rattle.l4_c_values.specs.declared.recorded.SeatResult.{SeatResult}
 use Rattle.l4_c_values.specs.declared.recorded.SeatedResult.{SeatedResult}
 use Rattle.l4_c_values.specs.declared.results.ReplyResult.{ReplyResult}
-use Rattle.l4_c.specs.declared.locking.CountResult.{CountResult}
-use Rattle.l4_c.specs.declared.checking.Verdict.{Verdict}
+use Rattle.l4_c_queries.specs.declared.descending.CountResult.{CountResult}
+use Rattle.l4_c_queries.specs.declared.tracing.Verdict.{Verdict}
 
 -- An empty handle then holds a locked kernel in its boot state with pages of this size and without seats, unless the number of frames is
 -- not 1 to 4,096 (K6) or an allocation failed. A handle that is not empty is refused (B2) and unchanged.

@@ -9,6 +9,7 @@ use Rattle.l4_plan.specs.Plan.{Listing, Sends}
 use Rattle.l4_plan.specs.Shortest.{IsShortest, IsTooLong}
 use Rattle.l4_refusals.specs.Texts.{spelled}
 use Rattle.l4_c_values.specs.Told.{filled}
+use Rattle.l4_c_queries.specs.Placed.{placed}
 use Rattle.l4_c.specs.declared.planning.PartResult.{PartResult}
 use Rattle.l4_c.specs.declared.planning.PlanResult.{PlanResult}
 
@@ -51,12 +52,6 @@ TellsPart size r number p =
     ⊎ ((0 < r.count) × IsOutOfSpace size r × (p ≡ part_result (spelled (codes "N2")) 0 [] []))
     ⊎ ((0 < r.count) × InSpace size r × HasNoRights r × (p ≡ part_result (spelled (codes "N3")) 0 [] []))
     ⊎ ((pages : List ℕ) × IsTooLong size r pages × (p ≡ part_result (spelled (codes "N4")) 0 [] []))
-
--- the places after as many of the items as fit were written to them, from the first place on
-abbrev pub placed : {X : Type 0} → List X → List X → List X
-placed [] places = places
-placed (item ∷ items) [] = []
-placed (item ∷ items) (place ∷ places) = item ∷ placed items places
 
 -- the pages of the shortest plan of the region for pages of this size, or those that prove every list to be too long, or none
 abbrev pub TellsPages : PageSize → Region → List ℕ → List ℕ → ℕ → Type 0

@@ -4,9 +4,10 @@ use Rattle.l4_record.specs.declared.segments.Segment.{Segment}
 use Rattle.l4_record.specs.Sizes.{max_handed_out}
 use Rattle.l4_lock.specs.Locked.{Lock, HandsOut}
 use Rattle.l4_refusals.specs.Texts.{spelled}
-use Rattle.l4_c_values.specs.Recorded.{no_entry_result, entry_result}
+use Rattle.l4_c_values.specs.Recorded.{no_entry_result}
+use Rattle.l4_c_queries.specs.Recalled.{entry_in}
 use Rattle.l4_c_values.specs.declared.recorded.EntryResult.{EntryResult}
-use Rattle.l4_c.specs.declared.locking.CountResult.{CountResult}
+use Rattle.l4_c_queries.specs.declared.descending.CountResult.{CountResult}
 
 -- The entries that are kept are handed out to an empty handle, unless an allocation fails or too many entries were recorded (L1). A handle
 -- that is not empty is refused (B2). After a refusal nothing has changed.
@@ -31,10 +32,7 @@ abbrev pub TellsSegmentLength : Option Segment → CountResult → Type 0
 TellsSegmentLength None r = r ≡ record { refusal = spelled (codes "B1"); count = 0 }
 TellsSegmentLength (Some s) r = r ≡ record { refusal = 0; count = length s.history.entries }
 
--- the entry with this number since boot, or none if the segment lacks it
-abbrev pub entry_in : Segment → ℕ → EntryResult
-entry_in s number = if nat_le s.first number then entry_result (slice_get s.history.entries (number - s.first)) else no_entry_result 0
-
+-- the entry with this number since boot, or none if the segment lacks it; an empty handle is refused (B1)
 abbrev pub TellsSegmentEntry : Option Segment → ℕ → EntryResult → Type 0
 TellsSegmentEntry None number r = r ≡ no_entry_result (spelled (codes "B1"))
 TellsSegmentEntry (Some s) number r = r ≡ entry_in s number

@@ -5,9 +5,11 @@ ghost use Rattle.l4_msg.specs.Words.{ItemsRead, FirstFails};
 ghost use Rattle.l4_refusals.specs.Texts.{spelled};
 ghost use Rattle.l4_c_values.specs.InBytes.{InBytes};
 ghost use Rattle.l4_c_values.specs.Regions.{region_of};
-ghost use Rattle.l4_c.specs.Checked.{ItemsFail, max_plan_words, verdict_of, fault_verdict, TellsCheck, TellsLongCheck};
+ghost use Rattle.l4_c_queries.specs.Traced.{verdict_of};
+ghost use Rattle.l4_c.specs.Checked.{ItemsFail, max_plan_words, fault_verdict, TellsCheck, TellsLongCheck};
 
 use arrayvec::ArrayVec;
+use l4_c_queries::{Verdict, verdict_of};
 use l4_c_values::{
     NO_SUCH_SIZE, RegionGiven, message_detail, message_number, place_told, region_of, size_of,
 };
@@ -15,21 +17,6 @@ use l4_fpage::Fpage;
 use l4_ipc::PageSize;
 use l4_msg::{Item, ItemFault, MAX_PLAN_ITEMS, MsgFault};
 use l4_plan_check::{Fault, Proved, check, check_too_long};
-
-/// The result of a check: 0 if the claim is proved, or the reason why it does not hold.
-#[repr(C)]
-#[derive(Clone, Copy)]
-pub struct Verdict {
-    pub refusal: u32,
-    pub detail: u32,
-}
-
-/// Returns a result with this refusal, or with 0 if the claim is proved.
-pub(crate) fn verdict_of(refusal: u32, detail: u32) -> Verdict
-    ensures { result ≡ verdict_of refusal detail }
-{
-    Verdict { refusal, detail }
-}
 
 /// Returns the result for a fault of a plan.
 fn fault_told(fault: Fault) -> Verdict

@@ -10,24 +10,24 @@ mod owning;
 mod paging;
 mod planning;
 mod segments;
+mod sharing;
 mod stepping;
 mod texts;
 mod tracing;
 mod watching;
 
 pub use asking::{
-    ThreadResult, l4_mapping_of, l4_next_page, l4_next_space, l4_next_thread, l4_page_size_of,
-    l4_reply_of, l4_space_of,
+    l4_mapping_of, l4_next_page, l4_next_space, l4_next_thread, l4_page_size_of, l4_reply_of,
+    l4_space_of, l4_state_of,
 };
 pub use checking::{
-    Verdict, l4_check_plan, l4_check_plan_sized, l4_check_too_long, l4_check_too_long_sized,
+    l4_check_plan, l4_check_plan_sized, l4_check_too_long, l4_check_too_long_sized,
 };
-pub use descending::{PlaceResult, l4_descendants};
+pub use descending::l4_descendants;
 pub use giving::{l4_sigma0_answer, l4_sigma0_free, l4_sigma0_new, l4_sigma0_new_sized};
 pub use locking::{
-    CountResult, l4_lock_close, l4_lock_enter, l4_lock_entry, l4_lock_free, l4_lock_give,
-    l4_lock_kept_from, l4_lock_length, l4_lock_new, l4_lock_new_sized, l4_lock_receipt,
-    l4_lock_seat_of, l4_lock_take,
+    l4_lock_close, l4_lock_enter, l4_lock_entry, l4_lock_free, l4_lock_give, l4_lock_kept_from,
+    l4_lock_length, l4_lock_new, l4_lock_new_sized, l4_lock_receipt, l4_lock_seat_of, l4_lock_take,
 };
 pub use owning::{l4_boot, l4_boot_sized, l4_copy, l4_free, l4_lock_copy};
 pub use paging::{
@@ -40,6 +40,11 @@ pub use planning::{
 };
 pub use segments::{
     l4_lock_hand_out, l4_segment_entry, l4_segment_first, l4_segment_free, l4_segment_length,
+};
+pub use sharing::{
+    l4_lock_descendants, l4_lock_mapping_of, l4_lock_next_page, l4_lock_next_space,
+    l4_lock_next_thread, l4_lock_page_size_of, l4_lock_reply_of, l4_lock_space_of,
+    l4_lock_state_of,
 };
 pub use stepping::{l4_enabled, l4_enter, l4_expire, l4_next, l4_start, l4_transfer};
 pub use texts::{l4_refusal_code, l4_refusal_text, l4_reply_text, l4_step_text, l4_version};

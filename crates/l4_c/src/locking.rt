@@ -1,38 +1,20 @@
 //! Locked kernels with their seats, for C.
 ghost use Rattle.std.specs.Prelude.{◌≡◌, None, Some, codes};
 ghost use Rattle.l4_fpage.specs.declared.sizes.PageSize.TheVariants.{Kib4};
-ghost use Rattle.l4_seated_lock.specs.Seated.{seat_at};
 ghost use Rattle.l4_refusals.specs.Texts.{spelled};
-ghost use Rattle.l4_c_values.specs.Recorded.{entry_result, kept_entry_result, kept_receipt_result};
 ghost use Rattle.l4_c_values.specs.InBytes.{InBytes};
 ghost use Rattle.l4_c.specs.Locking.{MakesLock, Gives, GivesSeat, EntersCall, EntersSeat, TakesReply, TakesSeat, TellsLength, TellsKeptFrom, TellsEntry, TellsSeat, TellsReceipt, ClosesLock};
 
-use crate::checking::{Verdict, verdict_of};
+use l4_c_queries::{CountResult, Verdict, counted, entry_of, receipt_of, verdict_of};
 use l4_c_values::{
-    CallGiven, EMPTY, EntryResult, HANDED_OUT, HELD, LockHandle, NO_MEMORY, NO_SUCH_CALL,
-    NO_SUCH_SIZE, ReceiptResult, ReplyResult, SeatResult, SeatedResult, entered_told, entry_told,
-    lock_detail, lock_number, mismatch_told, no_entry, no_receipt, no_reply, no_seat, receipt_told,
-    reply_told, seat_told, size_of, unseated, write_call,
+    CallGiven, EMPTY, EntryResult, HELD, LockHandle, NO_MEMORY, NO_SUCH_CALL, NO_SUCH_SIZE,
+    ReceiptResult, ReplyResult, SeatResult, SeatedResult, entered_told, lock_detail, lock_number,
+    mismatch_told, no_entry, no_receipt, no_reply, no_seat, reply_told, seat_told, size_of,
+    unseated, write_call,
 };
 use l4_ipc::{ArrayVec, Call, IpcCall, PageSize, ThreadId};
-use l4_record::Entry;
 use l4_seated_lock::SeatedLock;
 use std::alloc::Global;
-
-/// A number of entries.
-#[repr(C)]
-#[derive(Clone, Copy)]
-pub struct CountResult {
-    pub refusal: u32,
-    pub count: u64,
-}
-
-/// Returns a result with this refusal, or with 0 and this number.
-pub(crate) fn counted(refusal: u32, count: u64) -> CountResult
-    ensures { result ≡ record { refusal = refusal; count = count } }
-{
-    CountResult { refusal, count }
-}
 
 /// Boots a locked kernel with pages of this size.
 fn make(alloc: Global, handle: &mut LockHandle, size: PageSize, frames: u32) -> u32
@@ -202,27 +184,6 @@ pub extern "C" fn l4_lock_kept_from(alloc: Global, handle: &mut LockHandle) -> C
     counted(0, count)
 }
 
-/// Returns the result for an entry, or the one without an entry.
-pub(crate) fn told(entry: Option<Entry>) -> EntryResult
-    ensures { result ≡ entry_result entry }
-{
-    match entry {
-        Some(entry) => entry_told(&entry),
-        None => no_entry(0),
-    }
-}
-
-/// Returns the entry with this number since boot.
-fn entry(lock: &SeatedLock, number: usize) -> EntryResult
-    ensures { result ≡ kept_entry_result lock.now.kept_from lock.now.history number }
-{
-    let first = lock.kept_from();
-    if number < first {
-        return no_entry(HANDED_OUT);
-    }
-    told(lock.history().get(number - first))
-}
-
 /// Returns the entry with this number since boot, from 0. Refuses an empty handle (B1), and an entry that was handed out (L8).
 #[unsafe(no_mangle)]
 pub extern "C" fn l4_lock_entry(
@@ -236,7 +197,7 @@ pub extern "C" fn l4_lock_entry(
     let Some(lock) = handle.take(alloc) else {
         return no_entry(EMPTY);
     };
-    let told = entry(&lock, number);
+    let told = entry_of(&lock, number);
     handle.put(lock);
     told
 }
@@ -258,23 +219,6 @@ pub extern "C" fn l4_lock_seat_of(alloc: Global, handle: &mut LockHandle, number
     told
 }
 
-/// Returns the receipt of a seat with this number.
-fn receipt(lock: &SeatedLock, number: u32, place: usize) -> ReceiptResult
-    ensures { result ≡ kept_receipt_result (seat_at lock.now.books number) place }
-{
-    let Some(seat) = lock.seat(number) else {
-        return no_receipt(0);
-    };
-    let receipts = seat.receipts();
-    if place < receipts.kept_from() {
-        return no_receipt(HANDED_OUT);
-    }
-    match receipts.get(place) {
-        Some(receipt) => receipt_told(&receipt),
-        None => no_receipt(0),
-    }
-}
-
 /// Returns the receipt of a seat with this number, from 0. Refuses an empty handle (B1), and a receipt that was handed out (L8).
 #[unsafe(no_mangle)]
 pub extern "C" fn l4_lock_receipt(
@@ -289,7 +233,7 @@ pub extern "C" fn l4_lock_receipt(
     let Some(lock) = handle.take(alloc) else {
         return no_receipt(EMPTY);
     };
-    let told = receipt(&lock, number, place);
+    let told = receipt_of(&lock, number, place);
     handle.put(lock);
     told
 }

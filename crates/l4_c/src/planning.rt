@@ -3,7 +3,8 @@ ghost use Rattle.std.specs.Prelude.{◌≡◌, ◌≤◌, [], length, codes};
 ghost use Rattle.l4_fpage.specs.declared.sizes.PageSize.TheVariants.{Kib4};
 ghost use Rattle.l4_refusals.specs.Texts.{spelled};
 ghost use Rattle.l4_c_values.specs.InBytes.{InBytes};
-ghost use Rattle.l4_c.specs.Planned.{plan_result, part_result, PartIsTold, TellsPlan, TellsPart, placed, TellsPages};
+ghost use Rattle.l4_c.specs.Planned.{plan_result, part_result, PartIsTold, TellsPlan, TellsPart, TellsPages};
+ghost use Rattle.l4_c_queries.specs.Placed.{placed};
 ghost use Rattle.l4_c_values.specs.Regions.{region_of};
 
 use l4_c_values::{NO_SUCH_SIZE, RegionGiven, padded, region_of, size_of};

@@ -1,8 +1,8 @@
 //! Segments of the history of a locked kernel, for C.
 ghost use Rattle.std.specs.Prelude.{◌≡◌, None};
-ghost use Rattle.l4_c.specs.Segmented.{HandsOutTo, HandsOutSegment, TellsFirst, TellsSegmentLength, entry_in, TellsSegmentEntry};
+ghost use Rattle.l4_c.specs.Segmented.{HandsOutTo, HandsOutSegment, TellsFirst, TellsSegmentLength, TellsSegmentEntry};
 
-use crate::locking::{CountResult, counted, told};
+use l4_c_queries::{CountResult, counted, segment_entry};
 use l4_c_values::{
     EMPTY, EntryResult, HELD, LockHandle, NO_MEMORY, SegmentHandle, TOO_LONG, no_entry,
 };
@@ -87,16 +87,6 @@ pub extern "C" fn l4_segment_length(alloc: Global, handle: &mut SegmentHandle) -
     counted(0, count)
 }
 
-/// Returns the entry with this number since boot.
-fn entry(segment: &Segment, number: usize) -> EntryResult
-    ensures { result ≡ entry_in segment.now number }
-{
-    if number < segment.first {
-        return no_entry(0);
-    }
-    told(segment.history.get(number - segment.first))
-}
-
 /// Returns the segment's entry with this number since boot. Refuses an empty handle (B1).
 #[unsafe(no_mangle)]
 pub extern "C" fn l4_segment_entry(
@@ -110,7 +100,7 @@ pub extern "C" fn l4_segment_entry(
     let Some(segment) = handle.take(alloc) else {
         return no_entry(EMPTY);
     };
-    let told = entry(&segment, number);
+    let told = segment_entry(&segment, number);
     handle.put(segment);
     told
 }

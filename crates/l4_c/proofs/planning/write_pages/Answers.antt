@@ -1,6 +1,6 @@
 use Rattle.std.proofs.Common.{ap, arith, List, ℕ}
-use Rattle.l4_c.specs.Planned.{placed}
-use Rattle.l4_c.proofs.Placing.{placed_more, placed_all, placed_full}
+use Rattle.l4_c_queries.specs.Placed.{placed}
+use Rattle.l4_c_queries.proofs.Placing.{placed_more, placed_all, placed_full}
 use Rattle.l4_c.proofs.planning.write_pages.Goals as goal
 
 pub loop-page-init : goal.loop-page-init

@@ -1,5 +1,5 @@
 use Rattle.std.proofs.Common.{◌≡◌, ◌++◌, take, drop}
-use Rattle.l4_c.specs.Planned.{placed}
+use Rattle.l4_c_queries.specs.Placed.{placed}
 use Rattle.l4_c.proofs.planning.write_pages.Given as goal
 
 abbrev pub invariant-loop-page : goal.invariant-loop-page

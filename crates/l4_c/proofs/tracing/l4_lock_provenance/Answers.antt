@@ -1,6 +1,6 @@
 use Rattle.std.proofs.Common.{Option, sym, subst}
 use Rattle.l4_lock.specs.Locked.{Lock}
-use Rattle.l4_c.specs.Traced.{TracesPage, TellsProvenance}
+use Rattle.l4_c_queries.specs.Traced.{TracesPage, TellsProvenance}
 use Rattle.l4_c.proofs.tracing.l4_lock_provenance.Goals as goal
 
 pub returns-clause-told : goal.returns-clause-told

@@ -1,7 +1,0 @@
-use Rattle.std.proofs.Common.{◌≡◌, ◌++◌, take, drop, map}
-use Rattle.l4_c_values.specs.Linked.{link_result}
-use Rattle.l4_c.specs.Planned.{placed}
-use Rattle.l4_c.proofs.tracing.write_links.Given as goal
-
-abbrev pub invariant-loop-at : goal.invariant-loop-at
-invariant-loop-at l = take l.at l.out ++ placed (map link_result (drop l.at l.links)) (drop l.at l.out) ≡ placed (map link_result l.links) l.initial.out

@@ -1,0 +1,4 @@
+pub mod Placing
+pub mod Below
+pub mod Found
+pub mod Kept

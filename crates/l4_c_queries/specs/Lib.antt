@@ -1,0 +1,7 @@
+pub mod Asked
+pub mod Descended
+pub mod Listed
+pub mod Placed
+pub mod Recalled
+pub mod States
+pub mod Traced

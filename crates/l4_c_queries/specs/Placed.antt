@@ -1,0 +1,8 @@
+-- Items that are written to an array (this profile's own).
+use Rattle.std.specs.Prelude.{List, [], ◌∷◌}
+
+-- the places after as many of the items as fit were written to them, from the first place on
+abbrev pub placed : {X : Type 0} → List X → List X → List X
+placed [] places = places
+placed (item ∷ items) [] = []
+placed (item ∷ items) (place ∷ places) = item ∷ placed items places
