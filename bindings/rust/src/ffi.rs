@@ -170,6 +170,11 @@ constants! {
     L4_REPLY_UNMAPPED = 5;
     L4_REPLY_CONTROLLED = 6;
     L4_REPLY_GONE = 7;
+    L4_STATE_ABSENT = 0;
+    L4_STATE_NEW = 1;
+    L4_STATE_RUNNING = 2;
+    L4_STATE_SENDING = 3;
+    L4_STATE_RECEIVING = 4;
     L4_AGREES = 1;
     L4_DIFFERS = 2;
     L4_NOT_ENABLED = 3;
@@ -261,6 +266,18 @@ structs! {
         refusal: u32,
         there: u32,
         thread: u32,
+    }
+
+    struct l4_state {
+        refusal: u32,
+        state: u32,
+        space: u64,
+        id: u32,
+        pager: u32,
+        partner: u32,
+        expires: u32,
+        fault: u32,
+        reserved: [u32; 3],
     }
 
     struct l4_page_size {
@@ -461,6 +478,7 @@ functions! {
     fn l4_space_of(kernel: *mut l4_kernel, thread: u32) -> l4_space;
     fn l4_next_space(kernel: *mut l4_kernel, space: u64) -> l4_space;
     fn l4_next_thread(kernel: *mut l4_kernel, thread: u32) -> l4_thread;
+    fn l4_state_of(kernel: *mut l4_kernel, thread: u32) -> l4_state;
     fn l4_page_size_of(kernel: *mut l4_kernel) -> l4_page_size;
     fn l4_mapping_of(kernel: *mut l4_kernel, space: u64, page: u32) -> l4_mapping;
     fn l4_next_page(kernel: *mut l4_kernel, space: u64, page: u32) -> l4_page;
@@ -505,6 +523,15 @@ functions! {
     fn l4_lock_receipt(lock: *mut l4_lock, seat: u32, number: usize) -> l4_receipt;
     fn l4_lock_provenance(lock: *mut l4_lock, space: u64, page: u32, links: *mut l4_link, room: usize) -> l4_chain;
     fn l4_lock_check_provenance(lock: *mut l4_lock, space: u64, page: u32, links: *const l4_link, count: usize) -> l4_verdict;
+    fn l4_lock_space_of(lock: *mut l4_lock, thread: u32) -> l4_space;
+    fn l4_lock_next_space(lock: *mut l4_lock, space: u64) -> l4_space;
+    fn l4_lock_next_thread(lock: *mut l4_lock, thread: u32) -> l4_thread;
+    fn l4_lock_state_of(lock: *mut l4_lock, thread: u32) -> l4_state;
+    fn l4_lock_reply_of(lock: *mut l4_lock, thread: u32) -> l4_reply;
+    fn l4_lock_page_size_of(lock: *mut l4_lock) -> l4_page_size;
+    fn l4_lock_mapping_of(lock: *mut l4_lock, space: u64, page: u32) -> l4_mapping;
+    fn l4_lock_next_page(lock: *mut l4_lock, space: u64, page: u32) -> l4_page;
+    fn l4_lock_descendants(lock: *mut l4_lock, space: u64, page: u32, places: *mut l4_place, room: usize) -> l4_count;
     fn l4_lock_copy(lock: *mut l4_lock, copy: *mut l4_kernel) -> u32;
     fn l4_lock_close(lock: *mut l4_lock, seats: *const u32, count: usize) -> l4_verdict;
     fn l4_orders_search(orders: *mut l4_orders, frames: u32, plan: *const c_char, length: usize, most: u64) -> l4_searched;
@@ -723,11 +750,6 @@ impl Handle<l4_kernel> {
         (entered, steps)
     }
 
-    pub(crate) fn reply_of(&self, thread: u32) -> l4_reply {
-        // SAFETY: as in `enabled`.
-        unsafe { l4_reply_of(self.cell.get(), thread) }
-    }
-
     /// Compares an answer, and returns the line that was expected too.
     pub(crate) fn judge(&mut self, step: &str, found: &str) -> (l4_judgement, String) {
         let mut line = [0u8; TEXT_ROOM];
@@ -749,53 +771,119 @@ impl Handle<l4_kernel> {
         let expected = String::from_utf8_lossy(&line[..length]).into_owned();
         (judgement, expected)
     }
+}
 
-    pub(crate) fn space_of(&self, thread: u32) -> l4_space {
-        // SAFETY: as in `enabled`.
-        unsafe { l4_space_of(self.cell.get(), thread) }
-    }
-
-    pub(crate) fn next_space(&self, space: u64) -> l4_space {
-        // SAFETY: as in `enabled`.
-        unsafe { l4_next_space(self.cell.get(), space) }
-    }
-
-    pub(crate) fn next_thread(&self, thread: u32) -> l4_thread {
-        // SAFETY: as in `enabled`.
-        unsafe { l4_next_thread(self.cell.get(), thread) }
-    }
-
-    pub(crate) fn page_size(&self) -> l4_page_size {
-        // SAFETY: as in `enabled`.
-        unsafe { l4_page_size_of(self.cell.get()) }
-    }
-
-    pub(crate) fn mapping_of(&self, space: u64, page: u32) -> l4_mapping {
-        // SAFETY: as in `enabled`.
-        unsafe { l4_mapping_of(self.cell.get(), space, page) }
-    }
-
-    pub(crate) fn next_page(&self, space: u64, page: u32) -> l4_page {
-        // SAFETY: as in `enabled`.
-        unsafe { l4_next_page(self.cell.get(), space, page) }
-    }
-
+/// The queries that a kernel and a locked kernel answer.
+pub(crate) trait Asked {
+    fn space_of(&self, thread: u32) -> l4_space;
+    fn next_space(&self, space: u64) -> l4_space;
+    fn next_thread(&self, thread: u32) -> l4_thread;
+    fn state_of(&self, thread: u32) -> l4_state;
+    fn reply_of(&self, thread: u32) -> l4_reply;
+    fn page_size(&self) -> l4_page_size;
+    fn mapping_of(&self, space: u64, page: u32) -> l4_mapping;
+    fn next_page(&self, space: u64, page: u32) -> l4_page;
     /// Returns the pages that descend from a page, as many as the result counts.
-    pub(crate) fn descendants(&self, space: u64, page: u32) -> (l4_count, Vec<l4_place>) {
-        let mut places = vec![NO_PLACE; PLACE_ROOM];
-        loop {
-            let room = places.len();
-            // SAFETY: as in `enabled`; the places belong to this function, and their room is their length.
-            let told =
-                unsafe { l4_descendants(self.cell.get(), space, page, places.as_mut_ptr(), room) };
-            let count = told.count as usize;
-            places.resize(count, NO_PLACE);
-            if count <= room {
-                return (told, places);
+    fn descendants(&self, space: u64, page: u32) -> (l4_count, Vec<l4_place>);
+}
+
+/// Implements the queries by these functions of the header.
+macro_rules! asked {
+    (
+        $handle:ident,
+        $space_of:ident,
+        $next_space:ident,
+        $next_thread:ident,
+        $state_of:ident,
+        $reply_of:ident,
+        $page_size_of:ident,
+        $mapping_of:ident,
+        $next_page:ident,
+        $descendants:ident
+    ) => {
+        impl Asked for Handle<$handle> {
+            fn space_of(&self, thread: u32) -> l4_space {
+                // SAFETY: as in `enabled`.
+                unsafe { $space_of(self.cell.get(), thread) }
+            }
+
+            fn next_space(&self, space: u64) -> l4_space {
+                // SAFETY: as in `enabled`.
+                unsafe { $next_space(self.cell.get(), space) }
+            }
+
+            fn next_thread(&self, thread: u32) -> l4_thread {
+                // SAFETY: as in `enabled`.
+                unsafe { $next_thread(self.cell.get(), thread) }
+            }
+
+            fn state_of(&self, thread: u32) -> l4_state {
+                // SAFETY: as in `enabled`.
+                unsafe { $state_of(self.cell.get(), thread) }
+            }
+
+            fn reply_of(&self, thread: u32) -> l4_reply {
+                // SAFETY: as in `enabled`.
+                unsafe { $reply_of(self.cell.get(), thread) }
+            }
+
+            fn page_size(&self) -> l4_page_size {
+                // SAFETY: as in `enabled`.
+                unsafe { $page_size_of(self.cell.get()) }
+            }
+
+            fn mapping_of(&self, space: u64, page: u32) -> l4_mapping {
+                // SAFETY: as in `enabled`.
+                unsafe { $mapping_of(self.cell.get(), space, page) }
+            }
+
+            fn next_page(&self, space: u64, page: u32) -> l4_page {
+                // SAFETY: as in `enabled`.
+                unsafe { $next_page(self.cell.get(), space, page) }
+            }
+
+            fn descendants(&self, space: u64, page: u32) -> (l4_count, Vec<l4_place>) {
+                let mut places = vec![NO_PLACE; PLACE_ROOM];
+                loop {
+                    let (room, first) = (places.len(), places.as_mut_ptr());
+                    // SAFETY: as in `enabled`; the places belong to this function, and their room is their length.
+                    let told = unsafe { $descendants(self.cell.get(), space, page, first, room) };
+                    let count = told.count as usize;
+                    places.resize(count, NO_PLACE);
+                    if count <= room {
+                        return (told, places);
+                    }
+                }
             }
         }
-    }
+    };
 }
+
+asked!(
+    l4_kernel,
+    l4_space_of,
+    l4_next_space,
+    l4_next_thread,
+    l4_state_of,
+    l4_reply_of,
+    l4_page_size_of,
+    l4_mapping_of,
+    l4_next_page,
+    l4_descendants
+);
+
+asked!(
+    l4_lock,
+    l4_lock_space_of,
+    l4_lock_next_space,
+    l4_lock_next_thread,
+    l4_lock_state_of,
+    l4_lock_reply_of,
+    l4_lock_page_size_of,
+    l4_lock_mapping_of,
+    l4_lock_next_page,
+    l4_lock_descendants
+);
 
 impl Handle<l4_lock> {
     /// Boots a locked kernel with pages of this many bytes, or returns the number of the refusal.

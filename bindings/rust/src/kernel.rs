@@ -1,7 +1,7 @@
 //! Kernels, their steps, and queries about their state.
 use crate::ffi;
 use crate::refusals::unknown;
-use crate::{Call, PageSize, Refusal, Reply, Rights, MAX_THREADS};
+use crate::{queries, Call, PageSize, Refusal, Reply, Rights, Thread, MAX_THREADS};
 use std::{fmt, iter};
 
 /// A step that does not start a call.
@@ -315,7 +315,7 @@ impl Kernel {
 
     /// Returns the size of the pages and frames with which the kernel was booted.
     pub fn page_size(&self) -> PageSize {
-        PageSize::of_bytes(self.handle.page_size().page_bytes)
+        queries::page_size(&self.handle)
     }
 
     /// Starts a call of a thread. The call ends at once if it needs no partner or can have none; otherwise the thread waits.
@@ -394,10 +394,28 @@ impl Kernel {
         Done::of(&self.handle.next())
     }
 
+    /// Returns the thread with this number: its id, space and pager, and what it is doing. Returns `None` if there is no such thread.
+    ///
+    /// ```
+    /// use l4::{Call, Fpage, Kernel, ThreadId, ThreadState, Timeout, Wait};
+    /// let mut kernel = Kernel::boot(1)?;
+    /// let root = kernel.thread(2).expect("root exists");
+    /// assert_eq!((root.id, root.space, root.pager), (ThreadId::ROOT, 1, ThreadId::SIGMA0));
+    /// assert_eq!(root.state, ThreadState::New);
+    /// kernel.enter(2, &Call::receive(ThreadId::SIGMA0, Fpage::NIL, Timeout::Never))?;
+    /// let wait = Wait { partner: ThreadId::SIGMA0, expires: false, fault: false };
+    /// assert_eq!(kernel.thread(2).map(|root| root.state), Some(ThreadState::Receiving(wait)));
+    /// assert_eq!(kernel.thread(3), None);
+    /// # Ok::<(), l4::Refusal>(())
+    /// ```
+    pub fn thread(&self, number: u32) -> Option<Thread> {
+        queries::thread(&self.handle, number)
+    }
+
     /// Returns the reply of the thread's last call, which has ended. Returns `None` if the thread waits, does not exist, or has made no
-    /// call yet.
+    /// call yet; [`thread`](Kernel::thread) tells these apart.
     pub fn reply(&self, thread: u32) -> Option<Reply> {
-        Reply::of(&self.handle.reply_of(thread))
+        queries::reply(&self.handle, thread)
     }
 
     /// Watches another kernel: executes a step that the other kernel executed, and compares the other kernel's answer with this kernel's,
@@ -443,11 +461,7 @@ impl Kernel {
     /// # Ok::<(), l4::Refusal>(())
     /// ```
     pub fn threads(&self) -> Vec<u32> {
-        let next = |from| {
-            let told = self.handle.next_thread(from);
-            (told.there != 0).then_some(told.thread)
-        };
-        iter::successors(next(0), |thread| next(thread + 1)).collect()
+        queries::threads(&self.handle)
     }
 
     /// Returns the numbers of the threads of a space, by rising number.
@@ -460,46 +474,28 @@ impl Kernel {
     /// # Ok::<(), l4::Refusal>(())
     /// ```
     pub fn threads_in(&self, space: u64) -> Vec<u32> {
-        let mut threads = self.threads();
-        threads.retain(|&thread| self.space_of(thread) == Some(space));
-        threads
+        queries::threads_in(&self.handle, space)
     }
 
     /// Returns the numbers of the spaces, by rising number.
     pub fn spaces(&self) -> Vec<u64> {
-        let next = |from| {
-            let told = self.handle.next_space(from);
-            (told.there != 0).then_some(told.space)
-        };
-        iter::successors(next(0), |space| next(space + 1)).collect()
+        queries::spaces(&self.handle)
     }
 
     /// Returns the number of a thread's space, or `None` if there is no such thread.
     pub fn space_of(&self, thread: u32) -> Option<u64> {
-        let told = self.handle.space_of(thread);
-        (told.there != 0).then_some(told.space)
+        queries::space_of(&self.handle, thread)
     }
 
     /// Returns the mapping of a page of a space, or `None` if the page is not present. `page` is any number: a page of a space that does
     /// not exist, or beyond the space, is not present.
     pub fn mapping(&self, space: u64, page: u32) -> Option<Mapping> {
-        let told = self.handle.mapping_of(space, page);
-        let parent = Place {
-            space: told.parent_space,
-            page: told.parent_page,
-        };
-        (told.there != 0).then_some(Mapping {
-            place: Place { space, page },
-            frame: told.frame,
-            rights: Rights::of_bits(told.rights),
-            parent: (told.has_parent != 0).then_some(parent),
-        })
+        queries::mapping(&self.handle, space, page)
     }
 
     /// Returns the lowest present page of a space that is not below `page`, or `None` if there is none.
     pub fn next_page(&self, space: u64, page: u32) -> Option<u32> {
-        let told = self.handle.next_page(space, page);
-        (told.there != 0).then_some(told.page)
+        queries::next_page(&self.handle, space, page)
     }
 
     /// Returns the pages that descend from a page of a space: those that were mapped from it, those that were mapped from these, and so
@@ -518,15 +514,7 @@ impl Kernel {
     /// # Ok::<(), l4::Refusal>(())
     /// ```
     pub fn descendants(&self, space: u64, page: u32) -> Result<Vec<Place>, Refusal> {
-        let (told, places) = self.handle.descendants(space, page);
-        if told.refusal != ffi::L4_OK {
-            return Err(Refusal::of(told.refusal, 0));
-        }
-        let found = places.iter().map(|place| Place {
-            space: place.space,
-            page: place.page,
-        });
-        Ok(found.collect())
+        queries::descendants(&self.handle, space, page)
     }
 
     /// Returns an iterator over the mappings of a space's present pages, by rising page number.

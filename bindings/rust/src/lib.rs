@@ -53,8 +53,8 @@
 //!
 //! # Later versions
 //!
-//! [`Refusal`], [`Reply`], [`Outcome`], [`Step`], [`Timeout`], [`PageSize`] and [`SearchEnd`] may get more variants in a later version.
-//! They are marked `#[non_exhaustive]`, so a `match` on one of them needs an arm `_` in another crate.
+//! [`Refusal`], [`Reply`], [`Outcome`], [`Step`], [`ThreadState`], [`Timeout`], [`PageSize`] and [`SearchEnd`] may get more variants in a
+//! later version. They are marked `#[non_exhaustive]`, so a `match` on one of them needs an arm `_` in another crate.
 #![warn(missing_docs)]
 #![deny(unsafe_code)]
 #![warn(clippy::undocumented_unsafe_blocks)]
@@ -86,6 +86,7 @@ mod kernel;
 mod outcomes;
 mod plans;
 mod protocols;
+mod queries;
 mod refusals;
 mod replies;
 mod shared;
@@ -97,6 +98,7 @@ pub use kernel::{Answer, Done, Entered, Kernel, Mapping, Mappings, Outcome, Plac
 pub use outcomes::{orders, orders_sized, BadPlan, Orders, PlanOutcome, SearchEnd};
 pub use plans::{NoPlan, Plan, Region};
 pub use protocols::{FrameRequest, PageFault};
+pub use queries::{Thread, ThreadState, Wait};
 pub use refusals::Refusal;
 pub use replies::{ErrorCode, Received, Reply};
 pub use shared::{Entry, Link, Receipt, Recorded, Seat, Segment, SharedKernel, Unclosed};
@@ -152,6 +154,7 @@ mod growth {
     grows!(Reply: Ipc Hit Answered Failed Unmapped Controlled Gone);
     grows!(Outcome: Started Delivered NoWindow Entangled WantsMemory Expired);
     grows!(Step: Transfer Expire);
+    grows!(ThreadState: New Running Sending Receiving);
     grows!(Timeout: Never Zero);
     grows!(PageSize: Kib4 Kib1);
     grows!(SearchEnd: AllOrders MostStates Memory History);

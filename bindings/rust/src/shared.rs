@@ -1,6 +1,8 @@
 //! A kernel that threads share, with its history and its seats.
 use crate::ffi::{self, Handle};
-use crate::{Call, Kernel, Outcome, PageSize, Place, Refusal, Reply, Rights, Step};
+use crate::{
+    queries, Call, Kernel, Mapping, Outcome, PageSize, Place, Refusal, Reply, Rights, Step, Thread,
+};
 use std::collections::HashSet;
 use std::error::Error;
 use std::fmt;
@@ -307,8 +309,81 @@ impl SharedKernel {
         }
     }
 
-    /// Returns a copy of the kernel, in memory of its own, at one moment between two calls. You can query it as any kernel: its mappings,
-    /// spaces and threads, and their replies. The copy has no history and no seats.
+    /// Returns the thread with this number, as [`Kernel::thread`] does. This query and those below it see the kernel at one moment between
+    /// two calls, and change nothing.
+    ///
+    /// ```
+    /// use l4::{Call, Fpage, SharedKernel, ThreadId, ThreadState, Timeout};
+    /// use std::time::Duration;
+    /// let kernel = SharedKernel::new(1)?;
+    /// let mut root = kernel.seat(2)?;
+    /// let receive = Call::receive(ThreadId::ANY, Fpage::NIL, Timeout::Never);
+    /// assert_eq!(root.call_for(&receive, Duration::ZERO)?, None);
+    /// let state = kernel.thread(2).map(|thread| thread.state);
+    /// assert!(matches!(state, Some(ThreadState::Receiving(wait)) if wait.partner == ThreadId::ANY));
+    /// # Ok::<(), l4::Refusal>(())
+    /// ```
+    pub fn thread(&self, number: u32) -> Option<Thread> {
+        queries::thread(&*self.shared.lock(), number)
+    }
+
+    /// Returns the numbers of the threads, by rising number.
+    pub fn threads(&self) -> Vec<u32> {
+        queries::threads(&*self.shared.lock())
+    }
+
+    /// Returns the numbers of the threads of a space, by rising number.
+    pub fn threads_in(&self, space: u64) -> Vec<u32> {
+        queries::threads_in(&*self.shared.lock(), space)
+    }
+
+    /// Returns the numbers of the spaces, by rising number.
+    pub fn spaces(&self) -> Vec<u64> {
+        queries::spaces(&*self.shared.lock())
+    }
+
+    /// Returns the number of a thread's space, or `None` if there is no such thread.
+    pub fn space_of(&self, thread: u32) -> Option<u64> {
+        queries::space_of(&*self.shared.lock(), thread)
+    }
+
+    /// Returns the reply of the thread's last call, as [`Kernel::reply`] does, whether or not its seat has taken it.
+    pub fn reply(&self, thread: u32) -> Option<Reply> {
+        queries::reply(&*self.shared.lock(), thread)
+    }
+
+    /// Returns the size of the pages and frames with which the kernel was booted.
+    pub fn page_size(&self) -> PageSize {
+        queries::page_size(&*self.shared.lock())
+    }
+
+    /// Returns the mapping of a page of a space, as [`Kernel::mapping`] does.
+    pub fn mapping(&self, space: u64, page: u32) -> Option<Mapping> {
+        queries::mapping(&*self.shared.lock(), space, page)
+    }
+
+    /// Returns the lowest present page of a space that is not below `page`, or `None` if there is none.
+    pub fn next_page(&self, space: u64, page: u32) -> Option<u32> {
+        queries::next_page(&*self.shared.lock(), space, page)
+    }
+
+    /// Returns the mappings of a space's present pages, by rising page number. Calls of seats wait until all have been found.
+    pub fn mappings(&self, space: u64) -> Vec<Mapping> {
+        let lock = self.shared.lock();
+        queries::mappings(&*lock, space)
+    }
+
+    /// Returns the pages that descend from a page of a space, as [`Kernel::descendants`] does.
+    ///
+    /// # Errors
+    ///
+    /// NoMemory.
+    pub fn descendants(&self, space: u64, page: u32) -> Result<Vec<Place>, Refusal> {
+        queries::descendants(&*self.shared.lock(), space, page)
+    }
+
+    /// Returns a copy of the kernel, in memory of its own, at one moment between two calls. You can query it while calls go on, or let it
+    /// continue in another way. The copy has no history and no seats.
     ///
     /// # Errors
     ///
@@ -512,6 +587,15 @@ impl Seat {
     /// [`SharedKernel::end_wait`] ended the wait, or if there is no such call.
     pub fn wait_for(&mut self, limit: Duration) -> Option<Reply> {
         self.wait(self.shared.lock(), limit)
+    }
+
+    /// Returns whether an earlier call has ended since, so that [`take`](Seat::take) returns its reply. This method never waits for the end
+    /// of a call.
+    pub fn poll(&self) -> bool {
+        let lock = self.shared.lock();
+        let told = lock.seat_of(self.number);
+        let thread = queries::thread(&*lock, self.number);
+        told.starts > told.receipts && !thread.is_some_and(|thread| thread.waits())
     }
 
     /// Takes the reply of an earlier call that has ended since. This method never waits for the end of a call.

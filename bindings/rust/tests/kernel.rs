@@ -593,3 +593,48 @@ fn refusals_are_errors() {
     );
     assert_eq!(Refusal::NoMemory.code(), "NoMemory");
 }
+
+#[test]
+fn a_thread_is_absent_or_new_or_runs_or_waits() {
+    let mut kernel = Kernel::boot(256).unwrap();
+    assert_eq!(kernel.thread(3), None);
+    let sigma0 = Thread {
+        id: ThreadId::SIGMA0,
+        space: 0,
+        pager: ThreadId::NIL,
+        state: ThreadState::New,
+    };
+    assert_eq!(kernel.thread(1), Some(sigma0));
+    kernel
+        .start(2, &Call::create(id(3), id(3), ThreadId::ROOT))
+        .unwrap();
+    assert_eq!(kernel.thread(2).unwrap().state, ThreadState::Running);
+    let own = Thread {
+        id: id(3),
+        space: 2,
+        pager: ThreadId::ROOT,
+        state: ThreadState::New,
+    };
+    assert_eq!(kernel.thread(3), Some(own));
+    kernel
+        .start(3, &Call::fault(0x20123, 0x1000, Rights::READ))
+        .unwrap();
+    let wait = Wait {
+        partner: ThreadId::ROOT,
+        expires: false,
+        fault: true,
+    };
+    assert_eq!(kernel.thread(3).unwrap().state, ThreadState::Sending(wait));
+    kernel
+        .start(2, &Call::receive(ThreadId::ANY, Fpage::NIL, Timeout::Zero))
+        .unwrap();
+    let wait = Wait {
+        partner: ThreadId::ANY,
+        expires: true,
+        fault: false,
+    };
+    assert_eq!(
+        kernel.thread(2).unwrap().state,
+        ThreadState::Receiving(wait)
+    );
+}

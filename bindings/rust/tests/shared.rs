@@ -1,7 +1,7 @@
 //! Threads share a kernel.
 use l4::{
-    Call, Entry, Fpage, Item, Message, Place, Recorded, Refusal, Reply, Rights, Seat, SharedKernel,
-    ThreadId, Timeout,
+    Call, Entry, Fpage, Item, Message, PageSize, Place, Recorded, Refusal, Reply, Rights, Seat,
+    SharedKernel, ThreadId, ThreadState, Timeout, Wait,
 };
 use std::thread;
 use std::time::Duration;
@@ -347,4 +347,48 @@ fn a_shared_kernel_is_sent_and_shared() {
     shared::<SharedKernel>();
     shared::<Seat>();
     assert_eq!(SharedKernel::new(0).unwrap_err(), Refusal::FrameCount);
+}
+
+#[test]
+fn a_shared_kernel_answers_queries() {
+    let kernel = SharedKernel::new(256).expect("a kernel");
+    let (mut sigma0, mut root) = (
+        kernel.seat(1).expect("a seat"),
+        kernel.seat(2).expect("a seat"),
+    );
+    let everywhere = Fpage::complete(Rights::NONE);
+    let receive = Call::receive(ThreadId::SIGMA0, everywhere, Timeout::Never);
+    assert_eq!(root.call_for(&receive, Duration::ZERO), Ok(None));
+    let wait = Wait {
+        partner: ThreadId::SIGMA0,
+        expires: false,
+        fault: false,
+    };
+    let waiting = kernel.thread(2).expect("root exists");
+    assert_eq!(waiting.state, ThreadState::Receiving(wait));
+    assert_eq!((waiting.id, waiting.space), (ThreadId::ROOT, 1));
+    assert_eq!((waiting.pager, kernel.reply(2)), (ThreadId::SIGMA0, None));
+    let page = Fpage::page(16, Rights::ALL).expect("a page");
+    let message = Message::new(0, &[], &[Item::map(page, 0x20000)]).expect("a message");
+    let send = Call::send(ThreadId::ROOT, &message, Timeout::Never);
+    assert!(waiting.waits() && !root.poll());
+    sigma0.call(&send).expect("a reply");
+    assert!(root.poll() && !sigma0.poll());
+    assert_eq!(
+        (kernel.threads(), kernel.threads_in(1)),
+        (vec![1, 2], vec![2])
+    );
+    assert_eq!((kernel.spaces(), kernel.space_of(3)), (vec![0, 1], None));
+    assert_eq!(kernel.page_size(), PageSize::Kib4);
+    let mapping = kernel.mapping(1, 32).expect("the page is present");
+    assert_eq!((mapping.frame, kernel.next_page(1, 33)), (16, None));
+    assert_eq!(kernel.mappings(1), [mapping]);
+    let descends = Place { space: 1, page: 32 };
+    assert_eq!(kernel.descendants(0, 16), Ok(vec![descends]));
+    assert_eq!(
+        kernel.thread(2).map(|root| root.state),
+        Some(ThreadState::Running)
+    );
+    assert!(kernel.reply(2).is_some() && root.take().is_some() && !root.poll());
+    assert_eq!(kernel.thread(3), None);
 }
