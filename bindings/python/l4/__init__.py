@@ -28,11 +28,13 @@ from . import draw
 from ._library import library_version
 from .calls import Call
 from .judge import UNKNOWN, Agreement, Difference, Judge
-from .kernel import Answer, Done, Entered, Expire, Kernel, Mapping, Outcome, Place, Reply, ReplyKind, Step, Transfer
+from .kernel import Answer, Done, Entered, Expire, Kernel, Outcome, Step, Transfer
 from .outcomes import Orders, PlanOutcome, SearchEnd, orders
 from .plans import Plan, Region
 from .protocols import FrameRequest, PageFault
+from .queries import Mapping, Place, Thread, ThreadState
 from .refusals import BadPlan, IpcFailed, Refused, TooLong
+from .replies import Reply, ReplyKind
 from .shared import Entry, Link, Receipt, Seat, Segment, SharedKernel, Start
 from .tables import Pager, Sigma0
 from .words import (
@@ -103,7 +105,9 @@ __all__ = [
     "Start",
     "Step",
     "Tag",
+    "Thread",
     "ThreadId",
+    "ThreadState",
     "Timeout",
     "TooLong",
     "Transfer",

@@ -128,6 +128,12 @@ L4_REPLY_UNMAPPED = 5
 L4_REPLY_CONTROLLED = 6
 L4_REPLY_GONE = 7
 
+L4_STATE_ABSENT = 0
+L4_STATE_NEW = 1
+L4_STATE_RUNNING = 2
+L4_STATE_SENDING = 3
+L4_STATE_RECEIVING = 4
+
 L4_AGREES = 1
 L4_DIFFERS = 2
 L4_NOT_ENABLED = 3
@@ -191,6 +197,10 @@ class l4_space(Structure):
 
 class l4_thread(Structure):
     _fields_ = numbers("refusal there thread")
+
+
+class l4_state(Structure):
+    _fields_ = numbers("refusal state") + [("space", c_uint64)] + numbers("id pager partner expires fault") + [("reserved", c_uint32 * 3)]
 
 
 class l4_page_size(Structure):
@@ -317,6 +327,7 @@ STRUCTS = [
     l4_judgement,
     l4_space,
     l4_thread,
+    l4_state,
     l4_page_size,
     l4_mapping,
     l4_page,
@@ -377,6 +388,7 @@ FUNCTIONS: Dict[str, Tuple[Any, List[Any]]] = {
     "l4_space_of": (l4_space, [KERNEL, c_uint32]),
     "l4_next_space": (l4_space, [KERNEL, c_uint64]),
     "l4_next_thread": (l4_thread, [KERNEL, c_uint32]),
+    "l4_state_of": (l4_state, [KERNEL, c_uint32]),
     "l4_page_size_of": (l4_page_size, [KERNEL]),
     "l4_mapping_of": (l4_mapping, [KERNEL, c_uint64, c_uint32]),
     "l4_next_page": (l4_page, [KERNEL, c_uint64, c_uint32]),
@@ -421,6 +433,15 @@ FUNCTIONS: Dict[str, Tuple[Any, List[Any]]] = {
     "l4_lock_receipt": (l4_receipt, [LOCK, c_uint32, c_size_t]),
     "l4_lock_provenance": (l4_chain, [LOCK, c_uint64, c_uint32, LINKS, c_size_t]),
     "l4_lock_check_provenance": (l4_verdict, [LOCK, c_uint64, c_uint32, LINKS, c_size_t]),
+    "l4_lock_space_of": (l4_space, [LOCK, c_uint32]),
+    "l4_lock_next_space": (l4_space, [LOCK, c_uint64]),
+    "l4_lock_next_thread": (l4_thread, [LOCK, c_uint32]),
+    "l4_lock_state_of": (l4_state, [LOCK, c_uint32]),
+    "l4_lock_reply_of": (l4_reply, [LOCK, c_uint32]),
+    "l4_lock_page_size_of": (l4_page_size, [LOCK]),
+    "l4_lock_mapping_of": (l4_mapping, [LOCK, c_uint64, c_uint32]),
+    "l4_lock_next_page": (l4_page, [LOCK, c_uint64, c_uint32]),
+    "l4_lock_descendants": (l4_count, [LOCK, c_uint64, c_uint32, PLACES, c_size_t]),
     "l4_lock_copy": (c_uint32, [LOCK, KERNEL]),
     "l4_lock_close": (l4_verdict, [LOCK, WORDS, c_size_t]),
     "l4_orders_search": (l4_searched, [ORDERS, c_uint32, c_char_p, c_size_t, c_uint64]),

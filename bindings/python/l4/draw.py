@@ -5,7 +5,8 @@ from dataclasses import dataclass
 from typing import Dict, List, Tuple
 
 from ._shown import table
-from .kernel import Kernel, Mapping, Place
+from .kernel import Kernel
+from .queries import Mapping, Place
 
 #: The largest number of mappings that are drawn as SVG, or listed in a table.
 MOST_SHOWN = 256

@@ -1,4 +1,4 @@
-"""Kernels, their steps, and queries about their state."""
+"""Kernels and their steps."""
 from __future__ import annotations
 
 import enum
@@ -9,10 +9,10 @@ from typing import Any, Callable, Iterator, Optional, Tuple, Union
 from . import _library
 from ._handles import Handle
 from ._library import library, number, of_type
-from ._shown import hexadecimal
 from .calls import Call
-from .refusals import IpcFailed, Refused
-from .words import MAX_THREADS, MAX_WORDS, PAGE_BYTES, SMALL_SPACE_PAGES, Item, Message, Rights, Tag, ThreadId, items_of
+from .queries import Queries
+from .refusals import Refused
+from .words import MAX_THREADS, PAGE_BYTES
 
 
 class Outcome(enum.Enum):
@@ -102,135 +102,6 @@ class Entered:
     steps: Tuple[Done, ...]
 
 
-class ReplyKind(enum.Enum):
-    """How a call ended."""
-
-    #: An Ipc ended with or without a message, or failed.
-    IPC = _library.L4_REPLY_IPC
-    #: A fault: the page is present with the rights that the access needs.
-    HIT = _library.L4_REPLY_HIT
-    #: A fault that the pager answered.
-    ANSWERED = _library.L4_REPLY_ANSWERED
-    #: A fault that failed.
-    FAILED = _library.L4_REPLY_FAILED
-    #: An Unmap was executed.
-    UNMAPPED = _library.L4_REPLY_UNMAPPED
-    #: A Create, SetPager or Delete was executed.
-    CONTROLLED = _library.L4_REPLY_CONTROLLED
-    #: The thread was deleted.
-    GONE = _library.L4_REPLY_GONE
-
-
-# Room for as many pages as descend from most pages.
-_PLACE_ROOM = 16
-
-_ENDS = {
-    ReplyKind.HIT: "the page is there with the rights that the access needs",
-    ReplyKind.ANSWERED: "the pager has answered the fault",
-    ReplyKind.FAILED: "the fault failed",
-    ReplyKind.UNMAPPED: "the Unmap is done",
-    ReplyKind.CONTROLLED: "the control of threads is done",
-    ReplyKind.GONE: "the thread is gone",
-}
-
-
-@dataclass(frozen=True, repr=False)
-class Reply:
-    """The result of a thread's last call.
-
-    `error` is the ErrorCode of an Ipc or a fault that failed, and otherwise 0. The other members are for an Ipc: `tag` is the message's tag
-    (0x8000 if the call failed), `sender` is the sender's thread id or `ThreadId.NIL`, and `words` are the words after the tag, at most 63.
-
-    >>> Reply(ReplyKind.IPC, 0x70001, 0, ThreadId.SIGMA0, (5,))
-    <Reply ipc 0x00070001 0x00000005: message of thread 1: label 0x0007; 1 untyped>
-    """
-
-    kind: ReplyKind
-    tag: int = 0
-    error: int = 0
-    sender: ThreadId = ThreadId.NIL
-    words: Tuple[int, ...] = ()
-
-    def check(self) -> Reply:
-        """Returns the reply itself; raises IpcFailed if it has an ErrorCode."""
-        if self.error:
-            raise IpcFailed(self.error)
-        return self
-
-    @property
-    def message(self) -> Message:
-        """Returns the message, the tag first. Pass it to `Pager.answer` or `Sigma0.answer` to compute the answer."""
-        return Message((self.tag, *self.words))
-
-    @property
-    def label(self) -> int:
-        """Returns the message's label."""
-        return Tag(self.tag).label
-
-    @property
-    def untyped(self) -> Tuple[int, ...]:
-        """Returns the message's untyped words, which come before its items."""
-        return self.words[: Tag(self.tag).untyped]
-
-    @property
-    def items(self) -> Tuple[Item, ...]:
-        """Returns the message's items."""
-        return items_of(self.words[Tag(self.tag).untyped :])
-
-    def line(self, thread: int) -> str:
-        """Returns the line that `l4 run` prints for this reply of a thread, without its newline.
-
-        >>> Reply(ReplyKind.IPC, 0x1, 0, ThreadId.SIGMA0, (5,)).line(3)
-        '3 ipc 00000001 0 1 00000005'
-        """
-        words = self.words[:MAX_WORDS]
-        given = _library.l4_reply(kind=self.kind.value, tag=self.tag, error=self.error, word_count=len(words))
-        setattr(given, "from", self.sender.word)
-        given.words[: len(words)] = words
-        return _library.reply_text(number(thread, "a thread number"), given)
-
-    def __str__(self) -> str:
-        if self.error:
-            return str(IpcFailed(self.error))
-        if self.kind is not ReplyKind.IPC:
-            return _ENDS[self.kind]
-        return f"message of {self.sender}: {self.message}" if self.sender != ThreadId.NIL else "no message was received"
-
-    def __repr__(self) -> str:
-        words = f" {hexadecimal(self.message.words)}" if self.kind is ReplyKind.IPC else ""
-        return f"<Reply {self.kind.name.lower()}{words}: {self}>"
-
-
-@dataclass(frozen=True, order=True)
-class Place:
-    """A page of a space, by the numbers of both."""
-
-    space: int
-    page: int
-
-
-@dataclass(frozen=True)
-class Mapping:
-    """The frame and the rights of a present page, and its parent.
-
-    The parent is the page from which the page was mapped; a granted page keeps the parent that it had before the grant. It is None for
-    sigma0's boot pages, also after a grant of them.
-    """
-
-    place: Place
-    frame: int
-    rights: Rights
-    parent: Optional[Place]
-
-
-def reply_of(told: _library.l4_reply) -> Optional[Reply]:
-    """Returns the reply that the library reports, or None if there is none."""
-    if told.kind == _library.L4_NONE:
-        return None
-    words = tuple(told.words[: told.word_count])
-    return Reply(ReplyKind(told.kind), told.tag, told.error, ThreadId(getattr(told, "from")), words)
-
-
 def step_of(kind: int, thread: int, receiver: int) -> Optional[Step]:
     """Returns the step of this kind and of these threads, or None if there is none."""
     if kind == _library.L4_TRANSFER:
@@ -260,7 +131,7 @@ def _answer(told: _library.l4_answer) -> Answer:
     return Answer(Outcome(told.outcome), tuple(told.ended[: told.ended_count]))
 
 
-class Kernel(Handle):
+class Kernel(Handle, Queries):
     """A kernel with its threads, spaces and mappings.
 
     `Kernel(frames, page_bytes)` boots a machine with 1 to 4,096 frames; its pages and frames have 4,096 or 1,024 bytes. The refusals, in
@@ -316,10 +187,9 @@ class Kernel(Handle):
         """Returns the number of frames with which the kernel was booted."""
         return self._frames
 
-    @property
-    def page_bytes(self) -> int:
-        """Returns the size in bytes of a page and of a frame, with which the kernel was booted."""
-        return self._told(self._ask(library.l4_page_size_of)).page_bytes
+
+    def _query(self, name: str, *values: Any) -> Any:
+        return self._told(self._ask(getattr(library, f"l4_{name}"), *values))
 
     def _begin(self, function: Callable[..., Any], thread: int, call: Call, *rest: Any) -> Any:
         """Passes a call to the library, and returns its result."""
@@ -373,10 +243,6 @@ class Kernel(Handle):
         """Executes the next step again and again, until no step is enabled, and yields each."""
         return iter(self.next, None)
 
-    def reply(self, thread: int) -> Optional[Reply]:
-        """Returns the reply of the thread's last call, which has ended. Returns None if the thread waits, does not exist, or has made no
-        call yet."""
-        return reply_of(self._told(self._ask(library.l4_reply_of, number(thread, "a thread number"))))
 
     def _judge(self, step: bytes, found: bytes) -> Tuple[_library.l4_judgement, str]:
         """Executes a step or query, which is a line of a step list, and compares another kernel's answer. Returns what the library found, and
@@ -386,83 +252,3 @@ class Kernel(Handle):
         if told.refusal:
             raise Refused(told.refusal)
         return told, expected.value.decode()
-
-    def space_of(self, thread: int) -> Optional[int]:
-        """Returns the number of a thread's space, or None if there is no such thread."""
-        told = self._told(self._ask(library.l4_space_of, number(thread, "a thread number")))
-        return told.space if told.there else None
-
-    def mapping(self, space: int, page: int) -> Optional[Mapping]:
-        """Returns the mapping of a page of a space, or None if the page is not present. `page` is from 0 to 4,294,967,295; a page of a
-        space that does not exist, or beyond the space, is not present."""
-        place = number(space, "a space", 64), number(page, "a page")
-        told = self._told(self._ask(library.l4_mapping_of, *place))
-        if not told.there:
-            return None
-        parent = Place(told.parent_space, told.parent_page) if told.has_parent else None
-        return Mapping(Place(space, page), told.frame, Rights.of_bits(told.rights), parent)
-
-    def next_page(self, space: int, page: int) -> Optional[int]:
-        """Returns the lowest present page of a space that is not below `page`, or None if there is none."""
-        place = number(space, "a space", 64), number(page, "a page")
-        told = self._told(self._ask(library.l4_next_page, *place))
-        return told.page if told.there else None
-
-    def mappings(self, space: int) -> Iterator[Mapping]:
-        """Yields the mappings of a space's present pages, by rising page number.
-
-        You may execute steps in between: a page is yielded if it is present when its turn comes.
-        """
-        page = self.next_page(space, 0)
-        while page is not None:
-            mapping = self.mapping(space, page)
-            if mapping is not None:
-                yield mapping
-            page = self.next_page(space, page + 1) if page + 1 < SMALL_SPACE_PAGES else None
-
-    def descendants(self, space: int, page: int) -> Tuple[Place, ...]:
-        """Returns the pages that descend from a page of a space: those that were mapped from it, those that were mapped from these, and so
-        on. Each is returned once, in no fixed order; there are none if the page is not present. The cost depends only on their number.
-
-        A step changes at most the pages that it names and what descends from them before the step. A message names the pages that its items
-        fill, and the source pages of its grant items.
-
-        Refused with NoMemory.
-
-        >>> kernel = Kernel(256)
-        >>> kernel.descendants(0, 16)
-        ()
-        """
-        place = number(space, "a space", 64), number(page, "a page")
-        with self._turn:
-            room = _PLACE_ROOM
-            while True:
-                places = (_library.l4_place * room)()
-                told = self._told(self._ask(library.l4_descendants, *place, places, room))
-                if told.count <= room:
-                    return tuple(Place(found.space, found.page) for found in places[: told.count])
-                room = told.count
-
-    def threads(self) -> Tuple[int, ...]:
-        """Returns the numbers of the threads, by rising number."""
-        with self._turn:
-            return tuple(self._listed(library.l4_next_thread, "thread"))
-
-    def threads_in(self, space: int) -> Tuple[int, ...]:
-        """Returns the numbers of the threads of a space, by rising number."""
-        number(space, "a space", 64)
-        with self._turn:
-            return tuple(thread for thread in self.threads() if self.space_of(thread) == space)
-
-    def spaces(self) -> Tuple[int, ...]:
-        """Returns the numbers of the spaces, by rising number."""
-        with self._turn:
-            return tuple(self._listed(library.l4_next_space, "space"))
-
-    def _listed(self, function: Callable[..., Any], member: str) -> Iterator[int]:
-        """Yields the numbers that the library function finds, each search starting after the number found last."""
-        told = self._told(self._ask(function, 0))
-        while told.there:
-            found = getattr(told, member)
-            yield found
-            told = self._told(self._ask(function, found + 1))

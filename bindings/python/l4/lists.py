@@ -5,8 +5,9 @@ import re
 from typing import Callable, Iterable, Iterator, List, Optional
 
 from .calls import Call
-from .kernel import Answer, Expire, Kernel, Outcome, Reply, ReplyKind, Step, Transfer
+from .kernel import Answer, Expire, Kernel, Outcome, Transfer
 from .refusals import Refused
+from .replies import Reply, ReplyKind
 from .words import MAX_WORDS, Message, Rights, ThreadId
 
 #: The largest number of bytes of a line.

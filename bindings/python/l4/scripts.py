@@ -11,9 +11,10 @@ from typing import Callable, Dict, Iterable, Iterator, List, Optional, Set, Tupl
 from . import _symbols
 from ._library import L4_DELETE
 from .calls import Call
-from .kernel import Kernel, Reply, ReplyKind, Transfer
+from .kernel import Kernel, Transfer
 from .plans import Plan, Region
 from .refusals import Refused
+from .replies import Reply, ReplyKind
 from .tables import Pager, Sigma0
 from .words import MAX_WORDS, PAGE_BYTES, Message, Rights, ThreadId
 

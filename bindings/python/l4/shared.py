@@ -6,14 +6,16 @@ import time
 from ctypes import byref
 from dataclasses import dataclass
 from itertools import count
-from typing import Any, Callable, Iterable, Iterator, List, Optional, Set, Tuple, Union
+from typing import Any, Callable, ContextManager, Iterable, Iterator, List, Optional, Set, Tuple, Union
 
 from . import _library
 from ._handles import Handle, Unique
 from ._library import Forks, library, number, of_type
 from .calls import Call
-from .kernel import Expire, Kernel, Outcome, Place, Reply, Transfer, reply_of, step_of
+from .kernel import Expire, Kernel, Outcome, Transfer, step_of
+from .queries import Mapping, Place, Queries
 from .refusals import Refused
+from .replies import Reply, reply_of
 from .words import PAGE_BYTES, Rights
 
 
@@ -179,8 +181,10 @@ class Segment(Handle):
             yield entry
 
 
-class SharedKernel(Unique):
+class SharedKernel(Unique, Queries):
     """A kernel that threads share. It keeps the history of its steps, and gives out one `Seat` for each thread number that makes calls.
+
+    The queries of `Kernel` (`thread`, `threads`, `spaces`, `mapping`, `descendants` ..) see the kernel at one moment between two calls.
 
     `SharedKernel(frames, page_bytes)` boots as `Kernel` does, with the same refusals. While the call of one seat waits, other threads can
     run and other seats can make calls. The kernel keeps at most 1,000,000 entries of its history. Once it keeps more than 999,871, every
@@ -255,9 +259,21 @@ class SharedKernel(Unique):
                     raise ValueError("the SharedKernel is closed") from None
                 raise
 
+    @property
+    def _turn(self) -> ContextManager[Any]:
+        return self._lock.entered
+
+    def _query(self, name: str, *values: Any) -> Any:
+        return self._lock.answer(getattr(library, f"l4_lock_{name}"), *values)
+
+    def mappings(self, space: int) -> Iterator[Mapping]:
+        """Yields the mappings of a space's present pages at one moment, by rising page number."""
+        with self._turn:
+            return iter(tuple(super().mappings(space)))
+
     def copy(self) -> Kernel:
-        """Returns a copy of the kernel, in memory of its own, at one moment between two calls. You can query it as any `Kernel`: its
-        mappings, spaces and threads, and their replies. The copy has no history and no seats. Raises Refused with NoMemory.
+        """Returns a copy of the kernel, in memory of its own, at one moment between two calls. You can query it while calls go on, or let
+        it continue in another way. The copy has no history and no seats. Raises Refused with NoMemory.
         """
         return Kernel._copied(lambda made: self._lock._ask(library.l4_lock_copy, made), self._lock, self._frames)
 
@@ -396,6 +412,12 @@ class Seat(Unique):
                 if reply is not None or left <= 0 or self._number in lock.ended:
                     return reply
                 lock.entered.wait(left)
+
+    def poll(self) -> bool:
+        """Returns whether an earlier call has ended since, so that `take` returns its reply. This method never waits for the end of a call."""
+        with self._kernel._lock.entered:
+            told, thread = self._kernel._lock.answer(library.l4_lock_seat_of, self._number), self._kernel.thread(self._number)
+            return told.starts > told.receipts and not (thread and thread.waits)
 
     def take(self) -> Optional[Reply]:
         """Takes the reply of a call whose wait has ended before the call: after `call_for` or `wait_for`, or by an exception, such as

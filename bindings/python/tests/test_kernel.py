@@ -26,7 +26,9 @@ from l4 import (
     Reply,
     ReplyKind,
     Rights,
+    Thread,
     ThreadId,
+    ThreadState,
     Timeout,
     Transfer,
 )
@@ -138,6 +140,19 @@ class Kernels(unittest.TestCase):
         self.assertEqual([kernel.threads_in(space) for space in range(4)], [(1,), (2,), (3, 9), ()])
         with self.assertRaises(ValueError):
             kernel.threads_in(-1)
+
+    def test_a_thread_is_absent_or_new_or_runs_or_waits(self):
+        kernel = Kernel(256)
+        self.assertIsNone(kernel.thread(3))
+        self.assertEqual(kernel.thread(1), Thread(ThreadId.SIGMA0, 0, ThreadId.NIL, ThreadState.NEW))
+        kernel.start(2, Call.create(THREAD, THREAD, ThreadId.ROOT))
+        self.assertEqual(kernel.thread(3), Thread(THREAD, 2, ThreadId.ROOT, ThreadState.NEW))
+        self.assertEqual((kernel.thread(2).state, kernel.thread(2).waits), (ThreadState.RUNNING, False))
+        kernel.start(3, Call.fault(0x20123, 0x1000, Rights.READ))
+        self.assertEqual(kernel.thread(3), Thread(THREAD, 2, ThreadId.ROOT, ThreadState.SENDING, ThreadId.ROOT, fault=True))
+        kernel.start(2, Call.receive(timeout=Timeout.ZERO))
+        waiting = kernel.thread(2)
+        self.assertEqual((waiting.state, waiting.partner, waiting.expires, waiting.waits), (ThreadState.RECEIVING, ThreadId.ANY, True, True))
 
     def test_steps_and_replies_have_the_lines_of_scripts(self):
         kernel = delivered()
@@ -262,6 +277,7 @@ class Kernels(unittest.TestCase):
             (kernel.expire, (1 << 32,)),
             (kernel.reply, (1 << 32,)),
             (kernel.space_of, (1 << 32 | 1,)),
+            (kernel.thread, (1 << 32 | 1,)),
             (kernel.mapping, (1 << 64, 0)),
             (kernel.mapping, (0, 1 << 32)),
             (kernel.next_page, (1 << 64, 0)),
@@ -308,6 +324,7 @@ class Kernels(unittest.TestCase):
             (kernel.next,),
             (kernel.reply, 1),
             (kernel.space_of, 1),
+            (kernel.thread, 1),
             (kernel.mapping, 0, 0),
             (kernel.next_page, 0, 0),
             (kernel.threads,),

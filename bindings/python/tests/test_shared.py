@@ -6,7 +6,23 @@ import threading
 import time
 import unittest
 
-from l4 import PAGE_BYTES, Call, Fpage, Item, Message, Place, Refused, ReplyKind, Rights, SharedKernel, Start, ThreadId, Transfer
+from l4 import (
+    PAGE_BYTES,
+    Call,
+    Fpage,
+    Item,
+    Message,
+    Place,
+    Refused,
+    ReplyKind,
+    Rights,
+    SharedKernel,
+    Start,
+    Thread,
+    ThreadId,
+    ThreadState,
+    Transfer,
+)
 
 PAGE = Message.of(items=[Item.map(Fpage.page(16, Rights.ALL), 16 * PAGE_BYTES)])
 
@@ -322,9 +338,31 @@ class Shared(unittest.TestCase):
             (root.take,),
             (getattr, root, "starts"),
             (getattr, root, "receipts"),
+            (kernel.thread, 2),
+            (kernel.threads,),
+            (kernel.mappings, 0),
         ):
             with self.assertRaisesRegex(ValueError, "^the SharedKernel is closed$"):
                 step(*values)
+
+    def test_a_shared_kernel_answers_queries(self):
+        kernel = SharedKernel(256)
+        sigma0, root = kernel.seat(1), kernel.seat(2)
+        self.assertIsNone(root.call_for(Call.receive(ThreadId.SIGMA0, Fpage.complete()), 0))
+        waiting = Thread(ThreadId.ROOT, 1, ThreadId.SIGMA0, ThreadState.RECEIVING, ThreadId.SIGMA0)
+        self.assertEqual((kernel.thread(2), kernel.reply(2), root.poll()), (waiting, None, False))
+        sigma0.call(Call.send(ThreadId.ROOT, PAGE))
+        self.assertEqual((root.poll(), sigma0.poll()), (True, False))
+        self.assertEqual((kernel.threads(), kernel.threads_in(1), kernel.spaces()), ((1, 2), (2,), (0, 1)))
+        self.assertEqual((kernel.space_of(2), kernel.space_of(3), kernel.page_bytes), (1, None, PAGE_BYTES))
+        mapping = kernel.mapping(1, 16)
+        self.assertEqual((mapping.frame, mapping.rights, mapping.parent), (16, Rights.ALL, Place(0, 16)))
+        self.assertEqual((list(kernel.mappings(1)), kernel.next_page(1, 17)), ([mapping], None))
+        self.assertEqual(kernel.descendants(0, 16), (Place(1, 16),))
+        self.assertIs(kernel.thread(2).state, ThreadState.RUNNING)
+        self.assertEqual(kernel.reply(2), root.take())
+        self.assertFalse(root.poll())
+        self.assertIsNone(kernel.thread(3))
 
     def test_kernels_and_seats_are_not_copied(self):
         kernel = SharedKernel(1)
