@@ -6,14 +6,17 @@ import argparse
 import sys
 import webbrowser
 from contextlib import nullcontext
-from typing import List, Optional
+from typing import List, Optional, Tuple
 
 from . import draw
 from .judge import Adapter, Difference, Unfit, judge, shrink, unanswered
 from .kernel import Kernel
 from .lab import Lab, read_script
+from .lab_answers import MOST_BYTES
+from .lab_steps import read_history
 from .lists import Unread, replay
 from .refusals import Refused
+from .segments import BadSegments
 from .words import PAGE_BYTES, SMALL_PAGE_BYTES
 
 
@@ -36,12 +39,15 @@ def parse(words: Optional[List[str]]) -> argparse.Namespace:
     judged.add_argument("--with", dest="command_line", metavar="COMMAND", help="judge the answers that this command of the shell writes for the list")
     judged.add_argument("--shrink", action="store_true", help="leave out lines until the answers of COMMAND agree without any single one, and print that list")
     lab = commands.add_parser("lab", help="show the run of a script in a browser until interrupted")
-    lab.add_argument("script", nargs="?", help="a file with a script, which you can edit on the page")
+    lab.add_argument("script", nargs="?", help="a file with a script or step list, which you can edit on the page")
+    lab.add_argument("--from", dest="segments", nargs="+", metavar="SEGMENTS", help="show the history in these files, which `l4 run --history-to` wrote")
     lab.add_argument("--port", type=int, default=0, help="port of 127.0.0.1 for the page [default: a free one]")
     lab.add_argument("--no-open", action="store_true", help="do not open a browser")
     options = parser.parse_args(words)
     if options.command == "judge" and options.shrink and options.command_line is None:
         parser.error("--shrink needs --with COMMAND")
+    if options.command == "lab" and options.segments and options.script:
+        parser.error("the lab shows a script or, with --from, files of segments")
     return options
 
 
@@ -77,11 +83,20 @@ def run(options: argparse.Namespace) -> None:
             sys.stdout.write(str(draw.space(kernel, options.space)))
 
 
+def given(options: argparse.Namespace) -> Tuple[str, int, int]:
+    """Returns the text that the lab shows first, and the frames and the page size of its kernel."""
+    if not options.segments:
+        Kernel(options.frames, options.page_size).close()
+        return read_script(options.script) if options.script else "", options.frames, options.page_size
+    text, shown, count = read_history(options.segments, MOST_BYTES)
+    if len(shown.entries) < count:
+        print(f"The lab shows the first {len(shown.entries):,} of {count:,} steps; `l4 history --from` prints all.")
+    return text, shown.frames, shown.page_bytes
+
+
 def show(options: argparse.Namespace) -> None:
     """Serves the lab's page until the program is interrupted."""
-    Kernel(options.frames, options.page_size).close()
-    script = read_script(options.script) if options.script else ""
-    with Lab(script, options.frames, options.page_size, options.port) as lab:
+    with Lab(*given(options), options.port) as lab:
         print(f"The lab is at {lab.address} until it is interrupted.", flush=True)
         if not options.no_open:
             webbrowser.open(lab.address)
@@ -100,7 +115,7 @@ def main(words: Optional[List[str]] = None) -> int:
             show(options)
         else:
             run(options)
-    except (Refused, Unread, Unfit, ValueError, OSError, OverflowError) as why:
+    except (Refused, Unread, Unfit, BadSegments, ValueError, OSError, OverflowError) as why:
         sys.stdout.flush()
         print(f"error: {why}", file=sys.stderr)
         return 2

@@ -1,14 +1,15 @@
-"""What the lab answers to the questions of its page: a run of a script, its state after a step, plans, and the meaning of words.
+"""What the lab answers to the questions of its page: a run of a script or step list, its state after a step, plans, and the meaning of words.
 
 No answer depends on an earlier one: each question carries the script, which is run again up to the step that the page shows.
 """
 from __future__ import annotations
 
-from typing import Any, Callable, Dict, Iterator, List, Optional, Tuple
+from typing import Any, Callable, Dict, Iterator, List, Optional, Tuple, Union
 
 from . import _library
 from ._library import array, library
 from .kernel import Kernel
+from .lab_steps import StepList, is_step_list
 from .outcomes import SearchEnd
 from .outcomes import orders as search
 from .plans import Region
@@ -88,11 +89,12 @@ def cut_list(texts: List[str]) -> List[str]:
 
 
 class Run:
-    """The events of a run of a script, up to the lab's limits."""
+    """The events of a run of a script or step list, up to the lab's limits."""
 
     def __init__(self, asked: Dict[str, Any]) -> None:
         self.text = text_of(asked)
-        self.script = Script(whole(asked, "frames", MAX_FRAMES + 1, 256), page_bytes_of(asked))
+        made: Callable[..., Union[Script, StepList]] = StepList if is_step_list(self.text) else Script
+        self.script = made(whole(asked, "frames", MAX_FRAMES + 1, 256), page_bytes_of(asked))
         self.notes: List[str] = []
 
     def __iter__(self) -> Iterator[Event]:
@@ -170,7 +172,7 @@ def state(kernel: Kernel) -> Dict[str, Any]:
     return {"spaces": spaces, "isWhole": left >= 0}
 
 
-def _regions(script: Script) -> List[Dict[str, Any]]:
+def _regions(script: Union[Script, StepList]) -> List[Dict[str, Any]]:
     return [
         {"thread": thread, "first": region.target, "source": region.source, "count": region.count, "rights": str(region.rights)}
         for thread, pager in sorted(script.pagers.items())
@@ -200,7 +202,7 @@ class _Place:
                 self.line = event.line if at else 0
                 self._note(events.script)
 
-    def _note(self, script: Script) -> None:
+    def _note(self, script: Union[Script, StepList]) -> None:
         self.regions, self.served = _regions(script), sorted(script.served)
 
 

@@ -2,12 +2,13 @@
 from __future__ import annotations
 
 import re
-from typing import Callable, Iterable, Iterator, List, Optional
+from typing import Callable, Iterable, Iterator, List, Optional, Union
 
 from .calls import Call
 from .kernel import Answer, Expire, Kernel, Outcome, Transfer
 from .refusals import Refused
 from .replies import Reply, ReplyKind
+from .shared import Start
 from .words import MAX_WORDS, Message, Rights, ThreadId
 
 #: The largest number of bytes of a line.
@@ -120,22 +121,48 @@ def _question(kernel: Kernel, name: bytes, numbers: List[int]) -> List[str]:
     raise _NoLine
 
 
-def _line(kernel: Kernel, line: bytes) -> List[str]:
-    """Returns the lines that answer this one."""
-    tokens = [token for token in line.split(b" ") if token]
-    if not tokens or line.startswith(b"#"):
-        return []
+def _tokens(line: bytes) -> List[bytes]:
+    """Returns the tokens of a line: none if it is empty or a comment."""
+    return [] if line.startswith(b"#") else [token for token in line.split(b" ") if token]
+
+
+def _step(tokens: List[bytes]) -> Union[Start, Transfer, Expire, None]:
+    """Returns the step that these tokens are, or None if they may be a query."""
     if tokens[0] == b"start":
         if len(tokens) < 3:
             raise _NoLine
-        thread, call = _number(tokens[1]), _call(tokens[2], [_number(token) for token in tokens[3:]])
-        return _answer(kernel, lambda: kernel.start(thread, call))
+        return Start(_number(tokens[1]), _call(tokens[2], [_number(token) for token in tokens[3:]]))
     numbers = [_number(token) for token in tokens[1:]]
     if tokens[0] == b"transfer" and len(numbers) == 2:
-        return _answer(kernel, lambda: kernel.transfer(*numbers))
-    if tokens[0] == b"expire" and len(numbers) == 1:
-        return _answer(kernel, lambda: kernel.expire(*numbers))
-    return _question(kernel, tokens[0], numbers)
+        return Transfer(*numbers)
+    return Expire(*numbers) if tokens[0] == b"expire" and len(numbers) == 1 else None
+
+
+def execute(kernel: Kernel, step: Union[Start, Transfer, Expire]) -> Answer:
+    """Executes a step. Raises Refused as the kernel does."""
+    if isinstance(step, Start):
+        return kernel.start(step.thread, step.call)
+    return kernel.transfer(step.sender, step.receiver) if isinstance(step, Transfer) else kernel.expire(step.thread)
+
+
+def _line(kernel: Kernel, line: bytes) -> List[str]:
+    """Returns the lines that answer this one."""
+    tokens = _tokens(line)
+    if not tokens:
+        return []
+    step = _step(tokens)
+    if step is not None:
+        return _answer(kernel, lambda: execute(kernel, step))
+    return _question(kernel, tokens[0], [_number(token) for token in tokens[1:]])
+
+
+def step_in(line: bytes) -> Union[Start, Transfer, Expire, None]:
+    """Returns the step in a line of a list, or None if the line is a query, a comment or empty. Raises ValueError if it is none of these."""
+    try:
+        tokens = _tokens(line)
+        return _step(tokens) if tokens else None
+    except _NoLine:
+        raise ValueError("the line is not a valid step") from None
 
 
 def answers_to(kernel: Kernel, line: bytes) -> Optional[List[str]]:
