@@ -1,5 +1,6 @@
-/* Sends messages over a locked kernel and hands out its entries in segments, each of which is checked: it begins where the one before it
- * ended, and every entry gets the recorded answer on a second kernel, which replays all segments from boot. */
+/* Sends messages and pages over a locked kernel, and hands out its entries in segments, each of which is checked: it begins where the one
+ * before it ended, and every entry gets the recorded answer on a second kernel, which replays all segments from boot. At the end the second
+ * kernel has the same threads, replies and mappings as the locked one. */
 #include <l4.h>
 #include <stdio.h>
 #include <stdlib.h>
@@ -51,6 +52,26 @@ static uint64_t hand_out(l4_lock *lock, l4_kernel *kernel, uint64_t next) {
     return end;
 }
 
+/* Compares the second kernel with the locked one: what each thread is doing, its last reply, and the mappings of each space. */
+static void compare(l4_lock *lock, l4_kernel *kernel) {
+    l4_thread thread = l4_next_thread(kernel, 0);
+    l4_space space = l4_next_space(kernel, 0);
+    for (; thread.there; thread = l4_next_thread(kernel, thread.thread + 1)) {
+        l4_state state = l4_state_of(kernel, thread.thread), locked = l4_lock_state_of(lock, thread.thread);
+        l4_reply reply = l4_reply_of(kernel, thread.thread), taken = l4_lock_reply_of(lock, thread.thread);
+        must(memcmp(&state, &locked, sizeof state) == 0, "a thread is doing something else");
+        must(memcmp(&reply, &taken, sizeof reply) == 0, "a thread has another reply");
+    }
+    for (; space.there; space = l4_next_space(kernel, space.space + 1)) {
+        l4_page page = l4_next_page(kernel, space.space, 0);
+        must(page.page == l4_lock_next_page(lock, space.space, 0).page, "another page is the first one");
+        for (; page.there; page = l4_next_page(kernel, space.space, page.page + 1)) {
+            l4_mapping mapping = l4_mapping_of(kernel, space.space, page.page), locked = l4_lock_mapping_of(lock, space.space, page.page);
+            must(memcmp(&mapping, &locked, sizeof mapping) == 0, "a mapping differs");
+        }
+    }
+}
+
 /* The memory that the process has in use, in pages of the system. */
 static unsigned long resident(void) {
     unsigned long size = 0, pages = 0;
@@ -62,7 +83,7 @@ static unsigned long resident(void) {
 
 int main(int argc, char **argv) {
     unsigned long long calls = argc > 1 ? strtoull(argv[1], NULL, 10) : 1000000, call;
-    uint32_t words[5] = {4, 0, 2, 3, 5};
+    uint32_t words[5] = {0, 0, 0, 0, 0};
     uint64_t next = 0;
     l4_lock lock = L4_EMPTY;
     l4_kernel kernel = L4_EMPTY;
@@ -70,13 +91,16 @@ int main(int argc, char **argv) {
     memset(&receiving, 0, sizeof receiving);
     receiving.kind = L4_IPC;
     receiving.from = L4_ANYTHREAD;
+    receiving.acceptor = l4_acceptor(L4_COMPLETE_FPAGE);
     memset(&sending, 0, sizeof sending);
     sending.kind = L4_IPC;
     sending.to = L4_ROOT_ID;
     must(l4_lock_new(&lock, FRAMES) == L4_OK && l4_boot(&kernel, FRAMES) == L4_OK, "no kernel");
     must(l4_lock_give(&lock, SENDER) == L4_OK && l4_lock_give(&lock, RECEIVER) == L4_OK, "no seat");
     for (call = 0; call < calls; call += 2) {
+        words[0] = l4_tag(0, 2, 2);
         words[1] = (uint32_t)call;
+        l4_map_item(words + 3, (uint32_t)(call / 2 % 1024) * L4_PAGE_BYTES, l4_fpage_of_page((uint32_t)(call / 2 % FRAMES), L4_READ | L4_WRITE));
         must(l4_lock_enter(&lock, RECEIVER, &receiving, words, 0).reply.kind == L4_NONE, "a receive does not wait");
         must(l4_lock_enter(&lock, SENDER, &sending, words, 5).reply.kind == L4_REPLY_IPC, "a message is not sent");
         must(l4_lock_take(&lock, RECEIVER).words[0] == (uint32_t)call, "another message arrived");
@@ -91,6 +115,7 @@ int main(int argc, char **argv) {
     next = hand_out(&lock, &kernel, next);
     must(next == l4_lock_length(&lock).count && next == calls / 2 * 3, "entries are missing");
     must(l4_lock_seat_of(&lock, RECEIVER).receipts == calls / 2, "receipts are missing");
+    compare(&lock, &kernel);
     printf("%llu entries\n", (unsigned long long)next);
     l4_free(&kernel);
     l4_lock_free(&lock);
