@@ -13,3 +13,4 @@ pub mod Appending
 pub mod Gates
 pub mod HandedOut
 pub mod Forgetting
+pub mod Taken

@@ -1,5 +1,5 @@
 -- The effect of a call through the shared lock on a seat (this profile's own).
-use Rattle.std.specs.Prelude.{◌≡◌, ℕ, ◌<◌, List, [], ◌∷◌, ◌++◌, drop, length, map}
+use Rattle.std.specs.Prelude.{◌≡◌, ℕ, ◌+◌, ◌<◌, List, [], ◌∷◌, ◌++◌, drop, length, map}
 use Rattle.l4_threads.specs.declared.Reply.{Reply}
 use Rattle.l4_ipc.specs.declared.calls.Call.{Call}
 use Rattle.l4_record.specs.declared.segments.Segment.{Segment}
@@ -7,6 +7,7 @@ use Rattle.l4_record.specs.Sizes.{max_handed_out}
 use Rattle.l4_lock.specs.declared.entries.Receipt.{Receipt}
 use Rattle.l4_pager.specs.declared.serving.GateFault.{GateFault}
 use Rattle.l4_lock.specs.Books.{SeatState}
+use Rattle.l4_lock.specs.Receipts.{Proves}
 use Rattle.l4_lock.specs.Locked.{Lock, IsKept, Refuses, RefusesSeat, HandsOut}
 use Rattle.l4_lock.specs.declared.refusals.LockRefusal.{LockRefusal}
 use Rattle.l4_lock.specs.declared.refusals.LockRefusal.TheVariants.{HistoryFull, NoMemory, ReplyWaiting, SeatTaken, Kernel as ByKernel}
@@ -20,6 +21,23 @@ pub record IsAnswered (before after : SeatState) (call : Call) (reply : Reply) :
   pub kept_from : after.kept_from ≡ before.kept_from
   pub gives : receipt.call ≡ call
   pub answers : receipt.reply ≡ reply
+
+-- the call was entered and has not ended: the seat has one more call that was left waiting
+abbrev pub LeavesWaiting : SeatState → SeatState → Type 0
+LeavesWaiting before after = after ≡ record before { waiting = before.waiting + 1 }
+
+-- A call of the seat that was left waiting has ended, and is taken with this reply. The seat gained its receipt, which is right about the
+-- history of the locked kernel that was under the lock at that time.
+pub record IsTaken (before after : SeatState) (reply : Reply) : Type 0 where
+  pub receipt : Receipt
+  pub number : after.number ≡ before.number
+  pub waiting : before.waiting ≡ after.waiting + 1
+  pub receipts : after.receipts ≡ before.receipts ++ receipt ∷ []
+  pub kept_from : after.kept_from ≡ before.kept_from
+  pub answers : receipt.reply ≡ reply
+  pub lock : Lock
+  pub kept : IsKept lock
+  pub proves : Proves lock.frames lock.history before.number receipt
 
 -- The reason why a call is not entered through the shared lock: the locked kernel that was under the lock at that time refuses it. Every
 -- invariant of its type held.

@@ -12,6 +12,7 @@ mod refusals;
 mod seats;
 mod shared;
 mod steps;
+mod timed;
 mod words;
 
 pub use closing::{Mismatch, Unclosed};

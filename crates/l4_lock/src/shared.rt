@@ -17,14 +17,17 @@ use l4_pager::{Gate, GateFault};
 use l4_record::Segment;
 use std::alloc::Global;
 use std::marker::Model;
+use std::sync::atomic::AtomicU64;
 use std::sync::{Condvar, Mutex, Wait};
 
 /// A locked kernel that threads share, and its board. Contracts see which board it is. They know the invariant of `Locked` for the value
 /// under the lock, but not the value.
 #[derive(Drop)]
 pub struct KernelLock {
-    locked: Mutex<Locked>,
-    ended: Condvar,
+    pub(crate) locked: Mutex<Locked>,
+    pub(crate) ended: Condvar,
+    /// How often the waits with a limit were ended.
+    pub(crate) ends: AtomicU64,
     board: Board,
 }
 
@@ -58,6 +61,7 @@ impl KernelLock {
                 KernelLock {
                     locked: Mutex::new(locked),
                     ended: Condvar::new(),
+                    ends: AtomicU64::new(0),
                     board,
                 },
                 watches,
@@ -149,6 +153,7 @@ impl KernelLock {
         let KernelLock {
             locked,
             ended: _,
+            ends: _,
             board: _,
         } = self;
         let locked = locked.into_inner();

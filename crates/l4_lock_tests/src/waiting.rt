@@ -12,7 +12,7 @@ use std::thread::{Threads, join, sleep};
 use std::time::{Clock, Duration};
 
 /// A thread that waits.
-const THIRD: u32 = 3;
+pub const THIRD: u32 = 3;
 
 /// How often the watch looks at most.
 const LOOKS: u32 = 10_000;
@@ -69,7 +69,7 @@ fn gone_once(rt: HostRuntime) {
 }
 
 /// Waits until the board shows this number. Returns whether it does.
-fn shows<R: Clock>(rt: &R, board: &Board, watch: &mut Watch, number: u64) -> bool
+pub fn shows<R: Clock>(rt: &R, board: &Board, watch: &mut Watch, number: u64) -> bool
     requires { watch.old.board ≡ board.now }
 {
     for _ in 0..LOOKS {
