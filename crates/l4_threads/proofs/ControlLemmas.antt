@@ -91,3 +91,16 @@ ready t id space own holds free found room =
                       omega arith
                 ] refl k
           ] h
+
+-- a table with a higher number of the next new space
+pub later_table : (es : Entries) (queue : List ℕ) (next later : ℕ) → IsTable es queue next → next ≤ later → later < 2 ^ 64 → IsTable es queue later
+later_table es queue next later table rises fits = record {
+  once = table.once;
+  number = table.number;
+  small = table.small;
+  space = λ n thread at. let below = table.space n thread at in omega (arith, below, rises);
+  few = table.few;
+  fits = fits;
+  queue_once = table.queue_once;
+  queued = table.queued;
+}

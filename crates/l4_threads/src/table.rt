@@ -145,6 +145,14 @@ impl Threads {
         self.next_space
     }
 
+    /// Raises the number of the next new space. The numbers below it that no space has are never used.
+    pub fn skip_spaces(&mut self, next: u64)
+        requires { self.old.next_space ≤ next }
+        ensures { self.new ≡ record self.old { next_space = next } }
+    {
+        self.next_space = next;
+    }
+
     /// Returns the least number of a thread that is at least `from`, or `None`.
     pub fn next_thread(&self, from: u32) -> Option<u32>
         ensures { MatchOption result (NoThreadFrom self.now from) (IsNextThread self.now from) }
