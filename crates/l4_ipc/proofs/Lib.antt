@@ -20,3 +20,4 @@ pub mod OneChain
 pub mod Examples
 pub mod SizeStays
 pub mod Fitting
+pub mod Holding

@@ -55,7 +55,7 @@ use Rattle.l4_fpage.specs.declared.sizes.PageSize.TheVariants.{Kib4}
 -- THREADS
 
 -- in this state the items of a message that waits are those of its words
-abbrev IsFaithful : State → Type 0
+abbrev pub IsFaithful : State → Type 0
 IsFaithful (Running reply) = Unit {0}
 IsFaithful (IsSender s) = IsOfWords s
 IsFaithful (IsReceiver r) = Unit {0}
@@ -63,7 +63,7 @@ IsFaithful (IsReceiver r) = Unit {0}
 faithful_sends : (state : State) (sends : Sending) → IsFaithful state → state ≡ IsSender sends → IsOfWords sends
 faithful_sends state sends faithful is = subst IsFaithful is faithful
 
-sound_state : (spaces : set.FinSet nat_cmp) (t : Threads) (before : set.FinSet pair_cmp) (n : ℕ) (state : State) → IsFaithful state → AreSound spaces t
+pub sound_state : (spaces : set.FinSet nat_cmp) (t : Threads) (before : set.FinSet pair_cmp) (n : ℕ) (state : State) → IsFaithful state → AreSound spaces t
     → AreSound spaces (with_state (record t { before = before }) n state)
 sound_state spaces t before n state faithful sound =
     let u : Threads = record t { before = before } in

@@ -13,4 +13,5 @@ pub mod Events
 pub mod Provenance
 pub mod Delegation
 pub mod Placed
+pub mod Parts
 pub mod Inside

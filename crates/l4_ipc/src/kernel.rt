@@ -1,15 +1,17 @@
 //! The kernel.
-ghost use Rattle.std.specs.Prelude.{◌≡◌, ◌<◌, ◌≤◌, ◌⊎◌, ℕ, List, IsTrue, Ok, Err, IfOk, IfErr, OnErr, MatchOption, MatchResult};
+ghost use Rattle.std.specs.Prelude.{◌≡◌, ◌<◌, ◌≤◌, ◌⊎◌, ℕ, List, length, false, IsTrue, Ok, Err, IfOk, IfErr, OnErr, MatchOption, MatchResult};
 ghost use Rattle.std.specs.List.{All};
 ghost use Rattle.std.specs.Option.{option_copied};
 ghost use Rattle.l4_mapdb.specs.declared.Place.{Place};
 
 use crate::acting::{carry_over, expire, expire_untold, start, start_answered, transfer};
 use crate::calls::Call;
+use crate::parts::are_parts;
 use crate::steps::{Answer, Lower, NextStep, Refused, Step};
 use l4_forest::{Forest, MAX_FRAMES, Mapping, NoMemory};
 use l4_fpage::PageSize;
-use l4_threads::{ROOT_SPACE, Reply, Thread, Threads};
+use l4_msg::{MAX_WORDS, Message};
+use l4_threads::{ROOT_SPACE, Reply, SendPhase, Thread, Threads};
 use std::alloc::Global;
 use std::marker::Model;
 
@@ -45,7 +47,11 @@ impl Kernel {
     ghost use Rattle.l4_forest.specs.Places.{NonePresentFrom, IsNextPresent};
     ghost use Rattle.l4_threads.specs.Listed.{NoThreadFrom, IsNextThread};
     ghost use Rattle.l4_forest.specs.Listed.{NoSpaceFrom, IsNextSpace};
-    ghost use Rattle.l4_ipc.specs.Machine.{IsBoot};
+    ghost use Rattle.l4_ipc.specs.Machine.{IsBoot, machine};
+    ghost use Rattle.l4_ipc.specs.Parts.{AreParts, Sends};
+    ghost use Rattle.l4_msg.specs.Messages.{MessageReads};
+    ghost use Rattle.l4_msg.specs.Sizes.{max_words};
+    ghost use Rattle.l4_msg.specs.declared.messages.Message.{Message as AMessage};
     ghost use Rattle.l4_ipc.specs.SpacePages.{FitIn};
     ghost use Rattle.l4_ipc.specs.Steps.{IsNext, IsIdle, Steps};
     ghost use Rattle.l4_ipc.specs.NextSteps.{step_of, answer_of};
@@ -84,6 +90,51 @@ impl Kernel {
             }),
             Err(_) => Err(Refused::Lower(Lower::NoMemory)),
         }
+    }
+
+    /// Returns the kernel with these threads and mappings, and with pages of this size, as when a state is read from a file.
+    /// `resume_send` then makes its senders send.
+    ///
+    /// Returns `None` if a thread sends, or its space does not exist, if the number of a space is not below that of the next new one, or if
+    /// a present page is beyond the last one of a space.
+    pub fn of_parts(
+        alloc: Global,
+        threads: Threads,
+        forest: Forest,
+        size: PageSize,
+    ) -> Option<Kernel>
+        ensures { MatchOption result (¬ (AreParts size threads forest))
+            (λ kernel. AreParts size threads forest × (kernel ≡ machine size threads forest)) }
+    {
+        if !are_parts(&threads, &forest, size) {
+            return None;
+        }
+        Some(Kernel {
+            threads,
+            forest,
+            size,
+            alloc,
+        })
+    }
+
+    /// Makes a running thread send these message registers. It goes to the end of the queue of senders.
+    ///
+    /// Returns false if the thread does not run, or the words are not a message of at most 64 words. Then nothing changes.
+    pub fn resume_send(&mut self, number: u32, words: &[u32], phase: SendPhase) -> bool
+        ensures sends { IsTrue result → Sends self.old number words.now phase self.new }
+        ensures refused { result ≡ false → self.new ≡ self.old }
+        ensures only { IsTrue (runs self.old.threads number) → length words.now ≤ max_words
+            → (message : AMessage) → MessageReads words.now message → IsTrue result }
+    {
+        if words.len() > MAX_WORDS || !self.runs(number) {
+            return false;
+        }
+        let Ok(message) = Message::read(words) else {
+            return false;
+        };
+        self.threads
+            .start_message(number, words, message.items.as_slice(), phase);
+        true
     }
 
     /// Copies the kernel: threads with their states and message registers, the queue of senders, and the mappings of

@@ -9,6 +9,7 @@ mod delivering;
 mod faulting;
 mod kernel;
 mod laws;
+mod parts;
 mod reading;
 mod starting;
 mod steps;
