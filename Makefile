@@ -1,7 +1,7 @@
 # make try            builds l4 and l4_steps without proofs in out/unproved, and runs a script (SCRIPT=FILE)
 # make                proves the crates and builds the programs l4 and l4_steps, and the C library
 # make check          runs the tests on what has been built, and proves nothing; TEST=NAME runs one group or folder of tests
-# make test-programs  proves and builds what only tests run: l4_judge, l4_growths, and l4 and l4_steps as Rattle's own compiler builds them
+# make test-programs  proves and builds what only tests run: l4_judge, l4_resumed, l4_growths, and l4 and l4_steps as Rattle's own compiler builds them
 # make test           the gate: everything from nothing, and then all tests on the programs that this leaves
 # make bed            builds the bed for L4 programs in bed/out, over the C library; make check-bed runs its checks
 # make install        puts the programs, the C library with its header and packages, the bed and the manual pages under PREFIX (/usr/local
@@ -90,6 +90,7 @@ check:
 # `rt run --backend rattle` overwrites the build by LLVM, which is restored afterwards.
 test-programs: programs
 	cd crates/l4_judge && rt run < stdin
+	cd crates/l4_resumed && rt run < stdin
 	cd crates/l4_growths && rt run < /dev/null > /dev/null
 	for name in l4 l4_steps; do \
 	    cd crates/$$name/out && mkdir -p kept && cp -p $$name $$name.o $$name.stamp kept/ || exit; \

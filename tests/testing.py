@@ -17,7 +17,8 @@ from typing import NamedTuple
 
 TOP = pathlib.Path(__file__).resolve().parents[1]
 # the programs under test: the variable that names another file, and the command that builds the program
-PROGRAMS = {"l4": ("L4", "make"), "l4_steps": ("L4_STEPS", "make"), "l4_judge": ("L4_JUDGE", "make test-programs"), "l4_growths": ("L4_GROWTHS", "make test-programs")}
+PROGRAMS = {"l4": ("L4", "make"), "l4_steps": ("L4_STEPS", "make"), "l4_judge": ("L4_JUDGE", "make test-programs"), "l4_growths": ("L4_GROWTHS", "make test-programs"),
+            "l4_resumed": ("L4_RESUMED", "make test-programs")}
 # other files that a test may need
 FILES = {
     "the C library": ("crates/l4_c/out/libl4_c.a", "make"),
@@ -25,7 +26,7 @@ FILES = {
     "l4 as Rattle's own compiler builds it": ("crates/l4/out/l4.by-rattle", "make test-programs"),
     "l4_steps as Rattle's own compiler builds it": ("crates/l4_steps/out/l4_steps.by-rattle", "make test-programs"),
 }
-ENVIRONMENT = "environment: L4, L4_STEPS, L4_JUDGE and L4_GROWTHS name other programs than those in crates/NAME/out"
+ENVIRONMENT = "environment: L4, L4_STEPS, L4_JUDGE, L4_GROWTHS and L4_RESUMED name other programs than those in crates/NAME/out"
 SECONDS = 600
 MOST_LINES, MOST_BYTES = 12, 2000
 

@@ -33,7 +33,7 @@ pub struct Heading {
 }
 
 /// Returns the bytes of a page.
-fn page_bytes(size: PageSize) -> u32
+pub fn page_bytes(size: PageSize) -> u32
     ensures { result ≡ page_bytes size }
 {
     match size {
@@ -56,7 +56,7 @@ fn put_heading(out: &mut Record, heading: &Heading)
 }
 
 /// Appends words as bytes.
-fn push_words(out: &mut Vec<u8>, words: &[u32]) -> Result<(), AllocError>
+pub fn push_words(out: &mut Vec<u8>, words: &[u32]) -> Result<(), AllocError>
     ensures { IfOk result (λ _. out.new.items ≡ out.old.items ++ bytes_of words.now) }
 {
     for i in 0..words.len() {

@@ -20,7 +20,7 @@ const HEADING_WORDS: usize = 8;
 pub(crate) const HEADING_BYTES: usize = 4 * HEADING_WORDS;
 
 /// Returns the size of pages with this number of bytes.
-fn size_of(bytes: u32) -> Option<PageSize>
+pub fn size_of(bytes: u32) -> Option<PageSize>
     ensures { MatchOption result ((size : APageSize) → bytes ≢ page_bytes size)
         (λ size. bytes ≡ page_bytes size) }
 {
@@ -32,7 +32,7 @@ fn size_of(bytes: u32) -> Option<PageSize>
 }
 
 /// Returns the number that these two words are, the lower one first.
-fn number_of(lower: u32, upper: u32) -> usize
+pub fn number_of(lower: u32, upper: u32) -> usize
     ensures { result ≡ lower + 2 ^ 32 * upper }
 {
     lower as usize + 0x1_0000_0000 * upper as usize

@@ -7,7 +7,7 @@ ghost use Rattle.l4_segments.specs.Files.{bytes_of};
 use l4_journal::{RECORD_WORDS, Record};
 
 /// Returns the word at a position.
-pub(crate) fn word_at(bytes: &[u8], at: usize) -> u32
+pub fn word_at(bytes: &[u8], at: usize) -> u32
     requires { at + 4 ≤ length bytes.now }
     ensures { drop at bytes.now ≡ to_le_bytes w32 result ++ drop (at + 4) bytes.now }
 {
@@ -37,7 +37,7 @@ pub(crate) fn are_same(words: &[u32], others: &[u32]) -> bool
 }
 
 /// Returns whether these bytes are at a position.
-pub(crate) fn are_at(bytes: &[u8], at: usize, part: &[u8]) -> bool
+pub fn are_at(bytes: &[u8], at: usize, part: &[u8]) -> bool
     requires { at + length part.now ≤ length bytes.now }
     ensures { IsTrue result ↔ (take (length part.now) (drop at bytes.now) ≡ part.now) }
 {
