@@ -9,29 +9,22 @@ use Rattle.l4_nodes.specs.declared.nodes.Slot.{Slot}
 use Rattle.l4_links.specs.Inside.Trees.{Limb, Sheds, SameOrder}
 use Rattle.l4_links.specs.Inside.Orders.{IsIn, first_of, last_of, position}
 use Rattle.l4_nodes.specs.Slots.{Slots, slot_at, node_at, spot_of}
-use Rattle.l4_links.specs.Inside.Nodes.{limbs, Marks, Doom, dooms, IsOrder, IsForest, TakesSlot}
+use Rattle.l4_links.specs.Inside.Nodes.{limbs, Doom, dooms, IsOrder, IsForest, TakesSlot}
 use Rattle.l4_links.specs.Inside.Stacks.{IsStack, HasStack, IsBuried, IsLeft, Buries}
 use Rattle.l4_links.specs.Inside.Keeping.{standing_of, entries_of, IsWithin, IsFresh, IsSound}
-use Rattle.l4_links.specs.Entries.{standing_at, entry_at}
 use Rattle.l4_links.specs.Entries as entries
-use Rattle.l4_links.proofs.Writes.{no_slot, doom_of}
-use Rattle.l4_links.proofs.Linking.{parted}
+use Rattle.l4_links.proofs.Writes.{no_slot, doom_of, limb_of, worth_of, marks_of}
+use Rattle.l4_links.proofs.Linking.{parted, last_some}
 use Rattle.l4_links.proofs.Positions.{same_order_out}
-use Rattle.l4_links.proofs.Neighbours.{worth_of, neighbours_at}
+use Rattle.l4_links.proofs.Neighbours.{neighbours_at}
 use Rattle.l4_links.proofs.Growing.{tree_sheds}
 use Rattle.l4_links.proofs.Cutting.{once_fits, node_within}
 use Rattle.l4_links.proofs.Depths.{order_on}
 use Rattle.l4_links.proofs.Walking.{node_from_limb}
 use Rattle.l4_links.proofs.Kept.{first_unique, within_kept, sound_fresh}
-use Rattle.l4_links.proofs.Seen.{entry_same, standing_is}
+use Rattle.l4_links.proofs.Seen.{entry_same, standing_is, standing_node}
 use Rattle.l4_links.proofs.Views.{view_gone}
 use Rattle.l4_links.proofs.Stacking.{common_none, doom_node, doom_at, same_doom, stacked_none, stack_popped}
-
-abbrev limb_of : Node → Limb
-limb_of n = record { parent = n.parent; depth = n.depth }
-
-abbrev marks_of : Node → Marks
-marks_of n = record { mark = n.mark; seen = n.seen }
 
 -- what a piece of a slot that has gone is
 piece_gone : {X : Type 0} (F : Node → X) (slots : Slots) (k : ℕ) → slot_at slots k ≡ None → option_map F (node_at slots k) ≡ None
@@ -94,10 +87,6 @@ first_left : (front back : List ℕ) (key : ℕ) (prev next begin after : Option
     → first_of (front ++ key ∷ back) None ≡ begin → first_of (front ++ back) None ≡ after
 first_left [] back key prev next begin after p n onto stay f = sym n ∙ sym (onto p)
 first_left (x ∷ xs) back key prev next begin after p n onto stay f = f ∙ sym (stay (λ none. last_some x xs (sym p ∙ none)))
-  where
-    last_some : (b : ℕ) (xs : List ℕ) → last_of (Some b) xs ≢ None
-    last_some b [] e = let w : ◌≡◌ {A = Option ℕ} (Some b) None = e in absurd (let z : ◌≡◌ {A = Option ℕ} (Some b) None = w in cc)
-    last_some b (x ∷ xs) e = last_some x xs e
 
 -- one more node is buried
 buried_step : (old cur new : Slots) (first begin after at : Option ℕ) (count key : ℕ) (node : Node) (c : BuriedSoFar old cur first begin at count) (rest : List ℕ) → c.stack ≡ key ∷ rest → node_at cur key ≡ Some node
@@ -231,9 +220,3 @@ view_buries old new first after b = record {
     | inr l ↦ entry_same old new k l.spot l.limb l.value
   ];
 }
-  where
-    standing_node : (slots : Slots) (k : ℕ) (t : Standing) → standing_at (entries_of slots) k ≡ Some t → (n : Node) × (node_at slots k ≡ Some n) × (standing_of n ≡ t)
-    standing_node slots k t is = elim (node_at slots k) as (λ o. node_at slots k ≡ o → option_map standing_of o ≡ Some t → (n : Node) × (node_at slots k ≡ Some n) × (standing_of n ≡ t)) [
-      | None ↦ λ e w. absurd (let z : ◌≡◌ {A = Option Standing} None (Some t) = w in cc)
-      | Some n ↦ λ e w. (n, e, (let z : ◌≡◌ {A = Option Standing} (Some (standing_of n)) (Some t) = w in cc))
-    ] refl (sym (standing_is slots k) ∙ is)

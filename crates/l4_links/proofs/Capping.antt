@@ -9,21 +9,17 @@ use Rattle.l4_nodes.specs.declared.nodes.Slot.{Slot}
 use Rattle.l4_links.specs.Leads.{Leads, step}
 use Rattle.l4_links.specs.Inside.Trees.{Limb, parent_at}
 use Rattle.l4_nodes.specs.Slots.{Slots, Spot, slot_at, node_at, spots, spot_of}
-use Rattle.l4_links.specs.Inside.Nodes.{limbs, values, Worth, capped_worth, IsForest, IsLow, IsMarked, IsStamped, HasMarks, Caps, CapsBelow}
+use Rattle.l4_links.specs.Inside.Nodes.{limbs, values, Worth, capped_worth, IsForest, IsLow, IsStamped, HasMarks, Caps, CapsBelow}
 use Rattle.l4_links.specs.Inside.Nodes as nodes
 use Rattle.l4_links.specs.Entries.{entry_at, CapsTree, capped}
 use Rattle.l4_links.specs.Inside.Keeping.{standing_of, entry_of, entries_of, IsWithin, LiesWithin, IsSound}
-use Rattle.l4_links.proofs.Writes.{map_at, stamped_same, marks_of}
-use Rattle.l4_links.proofs.Neighbours.{worth_of}
+use Rattle.l4_links.proofs.Writes.{map_at, stamped_same, marks_of, limb_of, worth_of}
 use Rattle.l4_links.proofs.Runs.{parent_is}
 use Rattle.l4_links.proofs.Walking.{low_of_common, low_stays, node_from_limb, caps_lowers, forest_same, done_same, marks_capped, values_capped}
 use Rattle.l4_links.proofs.Clearing.{apart}
 use Rattle.l4_links.proofs.Kept.{parent_stands, same_worth, bits_back, no_sources_walk, sound_capped}
 use Rattle.l4_links.proofs.Seen.{joined, at_seen, shown_is, entry_same, leads_of, descends_of, capped_joined}
 use Rattle.l4_links.proofs.Views.{nothing_below}
-
-abbrev limb_of : Node → Limb
-limb_of n = record { parent = n.parent; depth = n.depth }
 
 all_over : (l h c : Bool) → l && (h && c) ≡ (l && h) && c
 all_over false h c = refl

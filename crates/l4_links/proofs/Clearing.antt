@@ -10,12 +10,10 @@ use Rattle.l4_nodes.specs.Slots.{Slots, node_at}
 use Rattle.l4_links.specs.Inside.Nodes.{limbs, IsOrder, IsForest, Parts, Prunes, Clears}
 use Rattle.l4_links.proofs.Positions.{same_order_out}
 use Rattle.l4_links.proofs.Growing.{tree_sheds}
-use Rattle.l4_links.proofs.Neighbours.{neighbours_at, some_from}
-use Rattle.l4_links.proofs.Cutting.{none_of}
+use Rattle.l4_links.proofs.Neighbours.{neighbours_at, some_from, no_node}
 use Rattle.l4_links.proofs.Runs.{parent_is, run_from_leads}
-
-abbrev limb_of : Node → Limb
-limb_of n = record { parent = n.parent; depth = n.depth }
+use Rattle.l4_links.proofs.Writes.{limb_of}
+use Rattle.l4_links.proofs.Linking.{last_some}
 
 -- a key does not descend from itself
 pub apart : (slots : Slots) (ks : List ℕ) → IsForest slots ks → (k : ℕ) → ¬ (Leads (parent_at (limbs slots)) k k)
@@ -34,10 +32,6 @@ first_gone : (front left : List ℕ) (top : ℕ) (rest : List ℕ) (prev next fi
     → ((prev ≡ None → first_of (front ++ left) None ≡ next) × (prev ≢ None → first_of (front ++ left) None ≡ first))
 first_gone [] left top rest prev next first p n f = (λ _. sym n, λ some. absurd (some p))
 first_gone (x ∷ xs) left top rest prev next first p n f = (λ none. absurd (last_some x xs (sym p ∙ none)), λ _. f)
-  where
-    last_some : (b : ℕ) (xs : List ℕ) → last_of (Some b) xs ≢ None
-    last_some b [] e = let w : ◌≡◌ {A = Option ℕ} (Some b) None = e in absurd (let z : ◌≡◌ {A = Option ℕ} (Some b) None = w in cc)
-    last_some b (x ∷ xs) e = last_some x xs e
 
 -- what the cut and the writes to the neighbours make of the nodes
 pub cleared : (old mid new : Slots) (top : ℕ) (node : Node) (first after : Option ℕ) → Prunes top old mid → node_at mid top ≡ Some node → Parts top mid new → ((xs ys : List ℕ) → IsOrder mid (xs ++ top ∷ ys) → IsOrder new (xs ++ ys))
@@ -56,7 +50,7 @@ cleared old mid new top node first after p at q order onto keep =
           old_up (step (parent_is (limbs old) a x was_old ∙ up ∙ ap (λ (z : ℕ). Some z) e)));
     } in
     let q_gone : (k : ℕ) → Leads (parent_at (limbs old)) k top → node_at new k ≡ None =
-    λ k l. elim (cases_eq k top) [ inl e ↦ ap (node_at new) e ∙ q.gone | inr ne ↦ none_of new k (q.limbs_same k ne ∙ gone_mid k l) ] in
+    λ k l. elim (cases_eq k top) [ inl e ↦ ap (node_at new) e ∙ q.gone | inr ne ↦ no_node new k (q.limbs_same k ne ∙ gone_mid k l) ] in
     record {
       gone = λ k l. q_gone k l;
       spots_gone = λ k l. q.spots_same k ∙ p.spots_gone k l;
@@ -80,6 +74,3 @@ cleared old mid new top node first after p at q order onto keep =
             | Some k ↦ λ e. (let some : node.prev ≢ None = λ z. absurd (let w : ◌≡◌ {A = Option ℕ} (Some k) None = sym e ∙ z in cc) in g.1 some ∙ sym (keep some))
           ] refl);
     }
-
-pub none_some : {X : Type 0} {o : Option ℕ} {k : ℕ} → o ≡ None → o ≡ Some k → X
-none_some {X} {o} {k} none some = absurd (let w : ◌≡◌ {A = Option ℕ} None (Some k) = sym none ∙ some in cc)

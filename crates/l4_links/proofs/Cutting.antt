@@ -15,6 +15,7 @@ use Rattle.l4_links.proofs.Positions.{position_here, position_further, position_
 use Rattle.l4_links.proofs.Neighbours.{once_apart, in_list}
 use Rattle.l4_links.proofs.Runs.{descendants, one_limb, parent_is}
 use Rattle.l4_links.proofs.Growing.{tree_sheds}
+use Rattle.l4_links.proofs.Writes.{limb_of}
 
 pub is_in_or : (ks : List ℕ) (k : ℕ) → IsIn ks k ⊎ ¬ (IsIn ks k)
 is_in_or [] k = inr (λ i. i)
@@ -136,9 +137,6 @@ stands front top run back k i = elim (in_parts front (top ∷ (run ++ back)) k i
     | inr s ↦ elim (in_parts run back k s) [ inl a ↦ in_run a | inr b ↦ in_back b ]
   ]
 ]
-
-abbrev limb_of : Node → Limb
-limb_of n = record { parent = n.parent; depth = n.depth }
 
 -- a key with a limb is in the list
 pub limb_in : (slots : Slots) (ks : List ℕ) → IsOrder slots ks → (k : ℕ) (x : Limb) → limbs slots k ≡ Some x → IsIn ks k
@@ -319,12 +317,6 @@ cut_forest old cur top depth at count h =
       order = c.order;
       tree = tree_sheds (limbs old) (limbs cur) (position (c.front ++ top ∷ (c.run ++ c.back))) (position (c.front ++ top ∷ c.back)) c.forest.tree sheds same;
     }
-
-pub none_of : (slots : Slots) (k : ℕ) → limbs slots k ≡ None → node_at slots k ≡ None
-none_of slots k e = elim (node_at slots k) as (λ o. option_map limb_of o ≡ None → o ≡ None) [
-  | None ↦ λ _. refl
-  | Some n ↦ λ w. absurd (let z : ◌≡◌ {A = Option Limb} (Some (limb_of n)) None = w in cc)
-] e
 
 -- the walk stops where there is no key
 pub cut_at_end : (old cur : Slots) (top depth : ℕ) (count : ℕ) (node : Node) → CutSoFar old cur top depth None count → node_at old top ≡ Some node → node.depth ≡ depth → HasCut old cur top depth None count

@@ -7,17 +7,11 @@ use Rattle.l4_links.specs.Inside.Trees.{Limb}
 use Rattle.l4_links.specs.Inside.Orders.{IsIn, IsOnce, Link, first_of}
 use Rattle.l4_nodes.specs.Slots.{Slots, node_at, spots}
 use Rattle.l4_links.specs.Inside.Nodes.{limbs, links, IsOrder, IsForest, CutsOff, ClosesGap, left_spot}
-use Rattle.l4_links.proofs.Writes.{marks_of}
+use Rattle.l4_links.proofs.Writes.{marks_of, limb_of, link_of, worth_of}
 use Rattle.l4_links.proofs.Linking.{in_left, in_right, in_parts, once_front, once_back, once_out, parted, first_in, linked_cut}
-use Rattle.l4_links.proofs.Neighbours.{worth_of, once_apart, in_list, neighbours_at, map_next, map_prev, next_set, prev_set, same_number, order_same_nodes}
+use Rattle.l4_links.proofs.Neighbours.{once_apart, in_list, neighbours_at, map_next, map_prev, next_set, prev_set, same_number, order_same_nodes, no_node}
 use Rattle.l4_links.proofs.Runs.{one_limb}
-use Rattle.l4_links.proofs.Cutting.{is_in_or, order_fits, once_rest, once_disjoint, in_front, is_top, in_run, in_back, stands, limb_in, none_of, CutSoFar, HasCut}
-
-abbrev limb_of : Node → Limb
-limb_of n = record { parent = n.parent; depth = n.depth }
-
-abbrev link_of : Node → Link
-link_of n = record { prev = n.prev; next = n.next }
+use Rattle.l4_links.proofs.Cutting.{is_in_or, order_fits, once_rest, once_disjoint, in_front, is_top, in_run, in_back, stands, limb_in, CutSoFar, HasCut}
 
 -- the deeper keys after the top have no nodes any more up to this one, and all other nodes are as they were
 pub record GoneSoFar (old cur : Slots) (top depth : ℕ) (at : Option ℕ) (count : ℕ) : Type 0 where
@@ -180,7 +174,7 @@ module _ (old cur new : Slots) (top depth : ℕ) (at : Option ℕ) (count : ℕ)
       (once_cut (c.front ++ top ∷ []) c.run c.back (subst (λ (z : List ℕ). IsOnce z) (sym (append_assoc c.front (top ∷ []) (c.run ++ c.back))) c.forest.order.once))
 
   gone_new : (k : ℕ) → IsIn c.run k → node_at new k ≡ None
-  gone_new k i = none_of new k (same_limbs k ∙ ap (option_map limb_of) (c.gone k i))
+  gone_new k i = no_node new k (same_limbs k ∙ ap (option_map limb_of) (c.gone k i))
 
   left_all : (k : ℕ) (n : Node) → node_at new k ≡ Some n → IsIn (c.front ++ top ∷ c.back) k
   left_all k n is = elim (is_in_or c.run k) [

@@ -12,20 +12,12 @@ use Rattle.l4_links.specs.Inside.Orders.{Link, IsLinked, first_of, last_of, posi
 use Rattle.l4_nodes.specs.Slots.{Slots, slot_at, node_at, SetsWanted}
 use Rattle.l4_links.specs.Inside.Nodes.{limbs, links, values, marks, Marks, Worth, capped_worth, IsOrder, IsForest, IsLow, IsMarked, IsStamped, AreUnmarked, HasMarks, HasSeen, Ends, Comes, Prunes, Clears, CapsBelow, IsSame}
 use Rattle.l4_links.specs.Inside.Keeping.{IsWithin, LiesWithin, IsFresh, BeginsWalk, sources_walk, IsSound, IsLive}
-use Rattle.l4_links.proofs.Writes.{stamped_same}
-use Rattle.l4_links.proofs.Linking.{parted, link_at, linked_same}
+use Rattle.l4_links.proofs.Writes.{stamped_same, limb_of, worth_of, marks_of}
+use Rattle.l4_links.proofs.Linking.{parted, link_at, linked_same, last_some}
 use Rattle.l4_links.proofs.Neighbours.{order_same_nodes, in_list}
 use Rattle.l4_links.proofs.Runs.{run_from_leads, parent_is}
-use Rattle.l4_links.proofs.Walking.{low_stays, node_from_limb, limb_in}
-
-abbrev limb_of : Node → Limb
-limb_of n = record { parent = n.parent; depth = n.depth }
-
-abbrev worth_of : Node → Worth
-worth_of n = record { frame = n.frame; rights = n.rights; source = n.source; granted = n.granted }
-
-abbrev marks_of : Node → Marks
-marks_of n = record { mark = n.mark; seen = n.seen }
+use Rattle.l4_links.proofs.Walking.{low_stays, node_from_limb}
+use Rattle.l4_links.proofs.Cutting.{limb_in}
 
 -- where no walk has left a mark none is of the first stamp, and none above any
 never_first : (stamp mark : ℕ) → stamp ≡ 1 → mark ≡ 0 → ¬ (IsMarked stamp mark)
@@ -169,12 +161,6 @@ module _ (a b : Slots) (same : (k : ℕ) → node_at b k ≡ node_at a k) where
     });
   }
 
-pub nodes_freed : (old new : Slots) (key : ℕ) → node_at old key ≡ None → slot_at new key ≡ None → ((o : ℕ) → o ≢ key → slot_at new o ≡ slot_at old o) → (k : ℕ) → node_at new k ≡ node_at old k
-nodes_freed old new key blank gone others k = elim (cases_eq k key) [
-  | inl e ↦ ap (node_at new) e ∙ ap (option_and_then (λ (s : Slot). s.node)) gone ∙ sym blank ∙ sym (ap (node_at old) e)
-  | inr ne ↦ ap (option_and_then (λ (s : Slot). s.node)) (others k ne)
-]
-
 pub nodes_blank : (old new : Slots) (key : ℕ) (slot : Slot) → slot.node ≡ None → slot_at old key ≡ None → slot_at new key ≡ Some slot → ((o : ℕ) → o ≢ key → slot_at new o ≡ slot_at old o) → (k : ℕ) → node_at new k ≡ node_at old k
 nodes_blank old new key slot blank vacant filled others k = elim (cases_eq k key) [
   | inl e ↦ ap (node_at new) e ∙ ap (option_and_then (λ (s : Slot). s.node)) filled ∙ blank ∙ sym (ap (option_and_then (λ (s : Slot). s.node)) vacant) ∙ sym (ap (node_at old) e)
@@ -247,10 +233,6 @@ within_child old new ks parent key above rights f within at s c k p x l h is up 
 pub first_same : (xs : List ℕ) (k : ℕ) (ys zs : List ℕ) → first_of (xs ++ k ∷ ys) None ≡ first_of (xs ++ k ∷ zs) None
 first_same [] k ys zs = refl
 first_same (x ∷ xs) k ys zs = refl
-
-last_some : (b : ℕ) (xs : List ℕ) → last_of (Some b) xs ≢ None
-last_some b [] e = let w : ◌≡◌ {A = Option ℕ} (Some b) None = e in absurd (let z : ◌≡◌ {A = Option ℕ} (Some b) None = w in cc)
-last_some b (x ∷ xs) e = last_some x xs e
 
 -- two orders of the same links begin with the same key
 pub first_unique : (slots : Slots) (ks ls : List ℕ) → IsOrder slots ks → IsOrder slots ls → first_of ks None ≡ first_of ls None

@@ -3,23 +3,19 @@ use Rattle.std.proofs.Common.{◌≡◌, ◌≢◌, ◌⊎◌, ℕ, suc, zero, �
 use Rattle.std.proofs.lemmas.Bool.{cases_eq}
 use Rattle.std.specs.Option.{option_map}
 use Rattle.l4_links.specs.declared.Standing.{Standing}
-use Rattle.l4_nodes.specs.declared.nodes.Node.{Node}
 use Rattle.l4_links.specs.Leads.{Leads, step, steps}
 use Rattle.l4_links.specs.Inside.Trees.{Limb, IsTree, parent_at}
 use Rattle.l4_links.specs.Inside.Orders.{position}
-use Rattle.l4_nodes.specs.Slots.{Slots, node_at}
+use Rattle.l4_nodes.specs.Slots.{Slots}
 use Rattle.l4_links.specs.Inside.Nodes.{limbs}
 use Rattle.l4_links.specs.Inside.Keeping.{standing_of, entries_of, IsSound}
 use Rattle.l4_links.specs.Entries.{standing_at, ParentStands, AreTrees}
-use Rattle.l4_links.proofs.Neighbours.{worth_of}
 use Rattle.l4_links.proofs.Runs.{has_limb, parent_is}
 use Rattle.l4_links.proofs.Walking.{node_from_limb}
 use Rattle.l4_links.proofs.Clearing.{apart}
 use Rattle.l4_links.proofs.Kept.{parent_stands}
-use Rattle.l4_links.proofs.Seen.{standing_is, leads_of, descends_of}
-
-abbrev limb_of : Node → Limb
-limb_of n = record { parent = n.parent; depth = n.depth }
+use Rattle.l4_links.proofs.Seen.{standing_is, leads_of, descends_of, standing_node}
+use Rattle.l4_links.proofs.Writes.{limb_of, worth_of}
 
 top_leads : {low high : ℕ} (parent : ℕ → Option ℕ) → parent low ≡ None → Leads parent low high → ⊥
 top_leads {low} {high} parent none (step up) = let w : ◌≡◌ {A = Option ℕ} None (Some high) = sym none ∙ up in cc
@@ -64,16 +60,10 @@ descent_decided slots first stamp walk s low high =
     nowhere {low} {high} at none (step up) = let h = has_limb at low high up in let w : ◌≡◌ {A = Option Limb} None (Some h.limb) = sym none ∙ h.is in cc
     nowhere {low} {high} at none (steps {middle = m} up rest) = let h = has_limb at low m up in let w : ◌≡◌ {A = Option Limb} None (Some h.limb) = sym none ∙ h.is in cc
 
-node_of_standing : (slots : Slots) (k : ℕ) (t : Standing) → standing_at (entries_of slots) k ≡ Some t → (n : Node) × (node_at slots k ≡ Some n) × (standing_of n ≡ t)
-node_of_standing slots k t is = elim (node_at slots k) as (λ o. node_at slots k ≡ o → option_map standing_of o ≡ Some t → (n : Node) × (node_at slots k ≡ Some n) × (standing_of n ≡ t)) [
-  | None ↦ λ _ e. absurd (let z : ◌≡◌ {A = Option Standing} None (Some t) = e in cc)
-  | Some n ↦ λ at e. (n, at, (let z : ◌≡◌ {A = Option Standing} (Some (standing_of n)) (Some t) = e in cc))
-] refl (sym (standing_is slots k) ∙ is)
-
 -- the parent stands around its child
 parent_around : (slots : Slots) (first : Option ℕ) (stamp walk : ℕ) → IsSound slots first stamp walk → (k : ℕ) (t : Standing) (p : ℕ) → standing_at (entries_of slots) k ≡ Some t → t.parent ≡ Some p → ParentStands (entries_of slots) t p
 parent_around slots first stamp walk s k t p is up =
-    let n = node_of_standing slots k t is in
+    let n = standing_node slots k t is in
     let limb_is : limbs slots k ≡ Some (limb_of n.0) = ap (option_map limb_of) n.1 in
     let up_n : n.0.parent ≡ Some p = ap (λ (z : Standing). z.parent) n.2 ∙ up in
     let y = parent_stands slots s.keys s.forest k p (limb_of n.0) limb_is up_n in

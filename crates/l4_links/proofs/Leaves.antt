@@ -1,23 +1,20 @@
 -- A node has no descendants where the node after it is no deeper.
-use Rattle.std.proofs.Common.{◌≡◌, ◌≢◌, ℕ, ◌<◌, ◌≤◌, List, ◌∷◌, ◌++◌, Option, Some, None, refl, sym, ap, ◌∙◌, subst, arith}
+use Rattle.std.proofs.Common.{◌≡◌, ◌≢◌, ℕ, ◌<◌, ◌≤◌, List, Option, Some, None, refl, sym, ap, ◌∙◌, arith}
 use Rattle.std.specs.Option.{option_map}
 use Rattle.l4_nodes.specs.declared.nodes.Node.{Node}
 use Rattle.l4_links.specs.Leads.{Leads}
 use Rattle.l4_links.specs.Inside.Trees.{Limb, parent_at}
 use Rattle.l4_links.specs.Inside.Orders.{position}
 use Rattle.l4_nodes.specs.Slots.{Slots, node_at}
-use Rattle.l4_links.specs.Inside.Nodes.{limbs, place_of, IsForest, Ends, Prunes}
+use Rattle.l4_links.specs.Inside.Nodes.{limbs, place_of, IsForest, Ends}
 use Rattle.l4_links.specs.Inside.Keeping.{standing_of, entries_of}
 use Rattle.l4_links.specs.Entries.{IsStanding, Descends}
-use Rattle.l4_links.proofs.Linking.{parted}
-use Rattle.l4_links.proofs.Neighbours.{in_list, stands_in, next_live}
+use Rattle.l4_links.proofs.Neighbours.{in_list, next_live}
 use Rattle.l4_links.proofs.Runs.{one_limb, descendants}
 use Rattle.l4_links.proofs.Walking.{place_next}
 use Rattle.l4_links.proofs.Seeking.{leads_range}
 use Rattle.l4_links.proofs.Seen.{standing_is, no_standing, leads_of, descends_of}
-
-abbrev pub limb_of : Node → Limb
-limb_of n = record { parent = n.parent; depth = n.depth }
+use Rattle.l4_links.proofs.Writes.{limb_of}
 
 -- the node that is said to come next is there
 pub next_there : (slots : Slots) (ks : List ℕ) (key next : ℕ) (node : Node) → IsForest slots ks → node_at slots key ≡ Some node → node.next ≡ Some next → node_at slots next ≡ None → ⊥
@@ -54,25 +51,6 @@ next_leaf slots ks key next node after f at is at_next le = empty_run slots ks k
     let s : y ≡ limb_of after = one_limb (limbs slots) b at_b (ap (limbs slots) e ∙ ap (option_map limb_of) at_next) in
     let d : y.depth ≡ after.depth = ap (λ (x : Limb). x.depth) s in
     omega (arith, d, le))
-
--- so nothing is cut off below a leaf
-pub leaf_pruned : (slots : Slots) (ks : List ℕ) (top : ℕ) → IsForest slots ks → node_at slots top ≢ None → ((low : ℕ) → ¬ (Leads (parent_at (limbs slots)) low top)) → Prunes top slots slots
-leaf_pruned slots ks top f there leaf =
-    let p = parted ks top (stands_in slots ks f.order top there) in
-    let forest : IsForest slots (p.front ++ top ∷ p.back) = subst (λ (z : List ℕ). IsForest slots z) p.is f in
-    record {
-      gone = λ k l. absurd (leaf k l);
-      spots_gone = λ k l. absurd (leaf k l);
-      limbs_kept = λ k off. refl;
-      values_kept = λ k off. refl;
-      marks_kept = λ k off. refl;
-      spots_kept = λ k off. refl;
-      front = p.front;
-      rest = p.back;
-      left = p.back;
-      was = forest;
-      forest = forest;
-    }
 
 -- a deeper node after this one descends from it
 pub next_descends : (slots : Slots) (ks : List ℕ) (key next : ℕ) (node after : Node) → IsForest slots ks → node_at slots key ≡ Some node → node.next ≡ Some next → node_at slots next ≡ Some after → node.depth < after.depth

@@ -66,6 +66,10 @@ pub first_in : (ys : List ℕ) (a : ℕ) → first_of ys None ≡ Some a → IsI
 first_in [] a e = absurd (let w : ◌≡◌ {A = Option ℕ} None (Some a) = e in cc)
 first_in (y ∷ ys) a e = inl (let w : ◌≡◌ {A = Option ℕ} (Some y) (Some a) = e in cc)
 
+pub last_some : (b : ℕ) (xs : List ℕ) → last_of (Some b) xs ≢ None
+last_some b [] e = let w : ◌≡◌ {A = Option ℕ} (Some b) None = e in absurd (let z : ◌≡◌ {A = Option ℕ} (Some b) None = w in cc)
+last_some b (x ∷ xs) e = last_some x xs e
+
 pub last_in : (x : ℕ) (xs : List ℕ) (a : ℕ) → last_of (Some x) xs ≡ Some a → IsIn (x ∷ xs) a
 last_in x [] a e = inl (let w : ◌≡◌ {A = Option ℕ} (Some x) (Some a) = e in cc)
 last_in x (y ∷ xs) a e = inr (last_in y xs a e)

@@ -15,9 +15,7 @@ use Rattle.l4_links.proofs.Neighbours.{in_list, neighbours_at}
 use Rattle.l4_links.proofs.Runs.{one_limb}
 use Rattle.l4_links.proofs.Cutting.{order_fits, once_rest, run_leads}
 use Rattle.l4_links.proofs.Seen.{leads_of, descends_of}
-
-abbrev limb_of : Node → Limb
-limb_of n = record { parent = n.parent; depth = n.depth }
+use Rattle.l4_links.proofs.Writes.{limb_of}
 
 -- a list of keys by its places
 in_get : (ks : List ℕ) (k : ℕ) → IsIn ks k → (i : ℕ) × (slice_get ks i ≡ Some k)

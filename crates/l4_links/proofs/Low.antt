@@ -11,13 +11,10 @@ use Rattle.l4_nodes.specs.Slots.{Slots, slot_at, node_at}
 use Rattle.l4_links.specs.Inside.Nodes.{limbs, values, IsForest, IsLow}
 use Rattle.l4_links.specs.Inside.Keeping.{standing_of, entry_of, entries_of, IsWithin, IsSound}
 use Rattle.l4_links.specs.Entries.{entry_at, capped, CapsBelow, CapsTree}
-use Rattle.l4_links.proofs.Neighbours.{worth_of}
 use Rattle.l4_links.proofs.Runs.{parent_is}
 use Rattle.l4_links.proofs.Seen.{at_seen, leads_of}
 use Rattle.l4_links.proofs.Walking.{node_from_limb}
-
-abbrev limb_of : Node → Limb
-limb_of n = record { parent = n.parent; depth = n.depth }
+use Rattle.l4_links.proofs.Writes.{worth_of}
 
 both_bits : (a b : Bool) → (IsTrue a → IsTrue b) → a && b ≡ a
 both_bits false b h = refl

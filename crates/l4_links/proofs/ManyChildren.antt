@@ -8,6 +8,14 @@ use Rattle.l4_links.specs.declared.Standing.{Standing}
 use Rattle.l4_links.specs.declared.Entry.{Entry}
 use Rattle.l4_links.specs.Entries.{Entries, entry_at, IsAt, IsInPages, moved_place, AddsChild, IsShared, child_entry, brought, AddsChildren}
 
+-- a page whose key stays keeps its key
+still_at : (start now : Entries) → ((key : ℕ) (e : Entry) → entry_at start key ≡ Some e → entry_at now key ≡ Some e) → (other : ℕ) (p : Place) → IsAt start p other → IsAt now p other
+still_at start now kept other p is = over (entry_at start other) refl is
+  where
+    over : (o : Option Entry) → entry_at start other ≡ o → option_map {T = Entry} (λ e. e.place) o ≡ Some p → IsAt now p other
+    over None was z = absurd (let w : ◌≡◌ {A = Option Place} None (Some p) = z in cc)
+    over (Some e) was z = ap (option_map {T = Entry} (λ x. x.place)) (kept other e was) ∙ z
+
 some_not : (s : Entries) (k : ℕ) (e : Entry) → entry_at s k ≡ None → entry_at s k ≡ Some e → ⊥
 some_not s k e none some = let z : ◌≡◌ {A = Option Entry} None (Some e) = sym none ∙ some in cc
 
@@ -138,17 +146,10 @@ module _ (source target : Place) (page next key : ℕ) (rights : RightsSet) (sta
       | inl lt ↦ a.free j (passed j h lt) other is
       | inr e ↦
           let s = here_is j h e in
-          let at_now = is_still other (moved_place source target h.entry.place) is in
+          let at_now = still_at start now a.kept other (moved_place source target h.entry.place) is in
           free other (subst (λ (x : Entry). IsAt now (moved_place source target x.place) other) s.0 at_now)
     ];
   }
-    where
-      is_still : (other : ℕ) (p : Place) → IsAt start p other → IsAt now p other
-      is_still other p is = over (entry_at start other) refl is
-        where
-          over : (o : Option Entry) → entry_at start other ≡ o → option_map {T = Entry} (λ e. e.place) o ≡ Some p → IsAt now p other
-          over None was z = absurd (let w : ◌≡◌ {A = Option Place} None (Some p) = z in cc)
-          over (Some e) was z = ap (option_map {T = Entry} (λ x. x.place)) (a.kept other e was) ∙ z
 
 -- pages up to one, and then those after it
 module _ (source target : Place) (page end : ℕ) (rights : RightsSet) (start now new : Entries) (apart : source.space ≢ target.space) (a : AddsChildren source page target rights start now) (from : source.page ≤ page) (le : page ≤ end)
@@ -182,13 +183,6 @@ module _ (source target : Place) (page end : ℕ) (rights : RightsSet) (start no
     shares = h.shares;
   }
 
-  still_at : (other : ℕ) (p : Place) → IsAt start p other → IsAt now p other
-  still_at other p is = over (entry_at start other) refl is
-    where
-      over : (o : Option Entry) → entry_at start other ≡ o → option_map {T = Entry} (λ e. e.place) o ≡ Some p → IsAt now p other
-      over None was z = absurd (let w : ◌≡◌ {A = Option Place} None (Some p) = z in cc)
-      over (Some e) was z = ap (option_map {T = Entry} (λ x. x.place)) (a.kept other e was) ∙ z
-
   pub adds_joined : AddsChildren source end target rights start new
   adds_joined = record {
     child = λ k h. elim (cases_lt h.entry.place.page page) [
@@ -205,6 +199,6 @@ module _ (source target : Place) (page end : ℕ) (rights : RightsSet) (start no
     ];
     free = λ k h other is. elim (cases_lt h.entry.place.page page) [
       | inl lt ↦ a.free k (sooner k h lt) other is
-      | inr ge ↦ b.free k (rest k h ge) other (subst (λ (p : Place). IsAt now p other) (sym (goes h.entry.place ge)) (still_at other (moved_place source target h.entry.place) is))
+      | inr ge ↦ b.free k (rest k h ge) other (subst (λ (p : Place). IsAt now p other) (sym (goes h.entry.place ge)) (still_at start now a.kept other (moved_place source target h.entry.place) is))
     ];
   }

@@ -7,17 +7,11 @@ use Rattle.l4_nodes.specs.declared.nodes.Slot.{Slot}
 use Rattle.l4_links.specs.Inside.Trees.{Limb, Sprouts}
 use Rattle.l4_links.specs.Inside.Orders.{IsIn, IsOnce, Link, first_of, last_of, IsLinked, PutsAfter, TakesOut, position}
 use Rattle.l4_nodes.specs.Slots.{Slots, slot_at, node_at, Writes, SetsNext, SetsPrev, Spot, wanted_in, spots, spot_of}
-use Rattle.l4_links.specs.Inside.Nodes.{limbs, links, Worth, IsOrder, IsForest, Parts, TakesSlot, CutsOff, left_spot, Comes}
-use Rattle.l4_links.proofs.Writes.{doom_of, marks_of}
+use Rattle.l4_links.specs.Inside.Nodes.{limbs, links, IsOrder, IsForest, Parts, TakesSlot, CutsOff, left_spot, Comes}
+use Rattle.l4_links.proofs.Writes.{doom_of, marks_of, limb_of, link_of, worth_of}
 use Rattle.l4_links.proofs.Linking.{in_left, in_right, in_parts, once_front, once_back, once_out, once_in, parted, first_in, last_in, link_at, linked_in, linked_out}
 use Rattle.l4_links.proofs.Positions.{stands_after}
 use Rattle.l4_links.proofs.Growing.{tree_sprouts}
-
-abbrev pub worth_of : Node → Worth
-worth_of n = record { frame = n.frame; rights = n.rights; source = n.source; granted = n.granted }
-
-abbrev link_of : Node → Link
-link_of n = record { prev = n.prev; next = n.next }
 
 none_before : (o : ℕ) → ◌≢◌ {A = Option ℕ} None (Some o)
 none_before o w = let z : ◌≡◌ {A = Option ℕ} None (Some o) = w in absurd (let k : ◌≡◌ {A = Option ℕ} None (Some o) = z in cc)
@@ -167,9 +161,6 @@ put_in a b c d ks p key above node order at vacant prev_is next_is filled same f
       others = λ o np ne nn. ap (option_map link_of) (g.others o (λ z. np (sym (same_number z))) ∙ f.others o nn ∙ same o ne);
     }
 
-abbrev limb_of : Node → Limb
-limb_of n = record { parent = n.parent; depth = n.depth }
-
 is_it : {X : Type 0} (o : Option ℕ) (k : ℕ) → (o ≡ Some k → X) → (o ≢ Some k → X) → X
 is_it None k f g = g (none_before k)
 is_it (Some n) k f g = elim (cases_eq n k) [ inl e ↦ f (ap (λ (q : ℕ). Some q) e) | inr ne ↦ g (λ e. ne (same_number e)) ]
@@ -218,7 +209,7 @@ sprouts a b c d p key above node at vacant parent_is depth_is filled same f g = 
 }
 
 -- a key without a node has neither limb nor link
-no_node : (slots : Slots) (k : ℕ) → limbs slots k ≡ None → node_at slots k ≡ None
+pub no_node : (slots : Slots) (k : ℕ) → limbs slots k ≡ None → node_at slots k ≡ None
 no_node slots k e = elim (node_at slots k) as (λ o. option_map limb_of o ≡ None → o ≡ None) [
   | None ↦ λ _. refl
   | Some n ↦ λ w. absurd (let z : ◌≡◌ {A = Option Limb} (Some (limb_of n)) None = w in cc)
@@ -328,12 +319,12 @@ order_same_nodes old new ks same o = record {
   all = λ k n at. o.all k n (sym (same k) ∙ at);
 }
 
+pub nodes_freed : (old new : Slots) (key : ℕ) → node_at old key ≡ None → slot_at new key ≡ None → ((o : ℕ) → o ≢ key → slot_at new o ≡ slot_at old o) → (k : ℕ) → node_at new k ≡ node_at old k
+nodes_freed old new key blank gone others k = elim (cases_eq k key) [
+  | inl e ↦ ap (node_at new) e ∙ ap (option_and_then (λ (s : Slot). s.node)) gone ∙ sym blank ∙ sym (ap (node_at old) e)
+  | inr ne ↦ ap (option_and_then (λ (s : Slot). s.node)) (others k ne)
+]
+
 -- a blank that goes leaves the order
 pub order_freed : (old new : Slots) (key : ℕ) {ks : List ℕ} → node_at old key ≡ None → slot_at new key ≡ None → ((o : ℕ) → o ≢ key → slot_at new o ≡ slot_at old o) → IsOrder old ks → IsOrder new ks
 order_freed old new key {ks} blank gone others o = order_same_nodes old new ks (nodes_freed old new key blank gone others) o
-  where
-    nodes_freed : (old new : Slots) (key : ℕ) → node_at old key ≡ None → slot_at new key ≡ None → ((o : ℕ) → o ≢ key → slot_at new o ≡ slot_at old o) → (k : ℕ) → node_at new k ≡ node_at old k
-    nodes_freed old new key blank gone others k = elim (cases_eq k key) [
-      | inl e ↦ ap (node_at new) e ∙ ap (option_and_then (λ (s : Slot). s.node)) gone ∙ sym blank ∙ sym (ap (node_at old) e)
-      | inr ne ↦ ap (option_and_then (λ (s : Slot). s.node)) (others k ne)
-    ]

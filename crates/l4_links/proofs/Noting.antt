@@ -7,19 +7,12 @@ use Rattle.l4_nodes.specs.declared.nodes.Node.{Node}
 use Rattle.l4_nodes.specs.declared.nodes.Slot.{Slot}
 use Rattle.l4_links.specs.Leads.{Leads}
 use Rattle.l4_links.specs.Inside.Trees.{Limb, parent_at}
-use Rattle.l4_links.specs.Inside.Orders.{Link, position}
+use Rattle.l4_links.specs.Inside.Orders.{position}
 use Rattle.l4_nodes.specs.Slots.{Slots, slot_at, node_at, SetsSource, SetsPlain}
 use Rattle.l4_links.specs.Inside.Nodes.{limbs, links, values, sources, marks, Worth, IsLow, IsMarked, Ends, place_of, TakesOver}
 use Rattle.l4_links.specs.Inside.Keeping.{IsWithin, IsFresh, IsSound}
-use Rattle.l4_links.proofs.Writes.{map_at, marks_of, stamped_same}
-use Rattle.l4_links.proofs.Neighbours.{worth_of}
+use Rattle.l4_links.proofs.Writes.{map_at, marks_of, stamped_same, limb_of, link_of, worth_of}
 use Rattle.l4_links.proofs.Kept.{forest_links, sound_fresh}
-
-abbrev limb_of : Node → Limb
-limb_of n = record { parent = n.parent; depth = n.depth }
-
-abbrev link_of : Node → Link
-link_of n = record { prev = n.prev; next = n.next }
 
 -- the node without its notes
 abbrev pub quiet_of : Node → Node

@@ -7,26 +7,16 @@ use Rattle.l4_links.specs.declared.Entry.{Entry}
 use Rattle.l4_nodes.specs.declared.nodes.Node.{Node}
 use Rattle.l4_links.specs.Leads.{Leads, step, steps}
 use Rattle.l4_links.specs.Inside.Trees.{Limb, parent_at}
-use Rattle.l4_links.specs.Inside.Orders.{Link}
 use Rattle.l4_nodes.specs.Slots.{Slots, node_at, spots, SetsRights}
 use Rattle.l4_links.specs.Inside.Nodes.{limbs, links, values, marks, Worth}
 use Rattle.l4_links.specs.Inside.Stacks.{HasStack}
 use Rattle.l4_links.specs.Inside.Keeping.{IsWithin, LiesWithin, IsLive, standing_of, entries_of}
 use Rattle.l4_links.specs.Entries.{Sprouts}
-use Rattle.l4_links.proofs.Writes.{map_at, stamped_same, marks_of, doom_of}
+use Rattle.l4_links.proofs.Writes.{map_at, stamped_same, marks_of, doom_of, limb_of, link_of, worth_of}
 use Rattle.l4_links.proofs.Runs.{parent_is}
 use Rattle.l4_links.proofs.Kept.{forest_links, low_of_parent, same_worth}
 use Rattle.l4_links.proofs.Stacking.{right_at, stack_off}
 use Rattle.l4_links.proofs.Seen.{joined, shown_is, entry_same, standing_is, leads_of, descends_of, stands_joined}
-
-abbrev pub limb_of : Node → Limb
-limb_of n = record { parent = n.parent; depth = n.depth }
-
-abbrev link_of : Node → Link
-link_of n = record { prev = n.prev; next = n.next }
-
-abbrev worth_of : Node → Worth
-worth_of n = record { frame = n.frame; rights = n.rights; source = n.source; granted = n.granted }
 
 same_key : {j k : ℕ} → ◌≡◌ {A = Option ℕ} (Some j) (Some k) → j ≡ k
 same_key {j} {k} e = let w : ◌≡◌ {A = Option ℕ} (Some j) (Some k) = e in cc

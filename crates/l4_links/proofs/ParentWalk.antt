@@ -2,7 +2,7 @@
 use Rattle.std.proofs.Common.{◌≡◌, ℕ, ◌+◌, ◌-◌, ◌<◌, ◌≤◌, List, Option, Some, None, MatchOption, is_some, ◌⊎◌, refl, sym, ap, ◌∙◌, inl, inr, arith}
 use Rattle.std.specs.Option.{option_map}
 use Rattle.std.proofs.lemmas.Bool.{cases_lt}
-use Rattle.l4_spaces.specs.Tables.{Tables, key_of, table_pages, IsTableIn, NonePresentIn}
+use Rattle.l4_spaces.specs.Tables.{Tables, key_of, table_pages, IsTableIn}
 use Rattle.l4_links.specs.Leads.{Leads}
 use Rattle.l4_links.specs.Inside.Trees.{Limb, parent_at}
 use Rattle.l4_links.specs.Inside.Orders.{position}
@@ -11,10 +11,10 @@ use Rattle.l4_links.specs.Inside.Nodes.{limbs, IsForest}
 use Rattle.l4_links.specs.Inside.Keeping.{entries_of, IsIndexed}
 use Rattle.l4_links.specs.Inside.Parents.{IsParent, NoParents, IsFirstParent, NoParentPage, IsParentPage}
 use Rattle.l4_links.specs.Entries.{NoParentIn, IsNextParentIn}
-use Rattle.l4_links.proofs.Leaves.{limb_of}
 use Rattle.l4_links.proofs.Naming.{find_is}
 use Rattle.l4_links.proofs.Runs.{descendants}
 use Rattle.l4_links.proofs.Seen.{leads_of, descends_of}
+use Rattle.l4_links.proofs.Writes.{limb_of}
 
 -- nothing descends from where there is no node
 pub no_node : (slots : Slots) (ks : List ℕ) (key : ℕ) → IsForest slots ks → node_at slots key ≡ None → (low : ℕ) → ¬ (Leads (parent_at (limbs slots)) low key)
@@ -44,12 +44,6 @@ abbrev pub NoneYet : Slots → Tables → ℕ → ℕ → ℕ → ℕ → Type 0
 NoneYet slots t space page end next = (other key : ℕ) → page ≤ other → other < next → other < end → key_of t space other ≡ Some key → ¬ (IsParent slots key)
 
 module _ (slots : Slots) (t : Tables) (space page next end : ℕ) (from : page ≤ next) (so_far : NoneYet slots t space page end next) where
-  -- where no table is left
-  pub no_table : NonePresentIn t space next end → NoParentPage slots t space page end
-  no_table none other key le lt is = elim (cases_lt other next) [
-    | inl before ↦ so_far other key le before lt is
-    | inr more ↦ absurd (none other more lt (ap is_some is))
-  ]
 
   module _ (start : ℕ) (keys : List (Option ℕ)) (table : IsTableIn t space next end start keys) where
     -- up to a place of the table

@@ -8,12 +8,9 @@ use Rattle.l4_links.specs.Leads.{Leads}
 use Rattle.l4_links.specs.Inside.Trees.{Limb, parent_at}
 use Rattle.l4_nodes.specs.Slots.{Slots, slot_at, node_at, unnoted, unnoted_slot, spot_of}
 use Rattle.l4_links.specs.Inside.Nodes.{limbs, Marks, capped_worth, AreUnmarked, IsSame, CapsBelow, NoneMet, Meets}
-use Rattle.l4_links.proofs.Writes.{marks_of, doom_of, map_both}
+use Rattle.l4_links.proofs.Writes.{marks_of, doom_of, map_both, limb_of}
 use Rattle.l4_nodes.proofs.Joining.{node_in, spot_in}
 use Rattle.l4_links.proofs.Seeking.{sources_same}
-
-abbrev limb_of : Node → Limb
-limb_of n = record { parent = n.parent; depth = n.depth }
 
 -- what stays of what a walk finds
 pub caps_from_same : (old mid new : Slots) (top : ℕ) (cap : RightsSet) → IsSame old mid → CapsBelow top cap mid new → CapsBelow top cap old new

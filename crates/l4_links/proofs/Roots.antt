@@ -7,15 +7,10 @@ use Rattle.l4_links.specs.Inside.Trees.{Limb, IsTree, Rises}
 use Rattle.l4_links.specs.Inside.Orders.{Link, IsIn, IsOnce, IsLinked, first_of, position}
 use Rattle.l4_nodes.specs.Slots.{Slots, slot_at, node_at, Writes, SetsNext, SetsPrev}
 use Rattle.l4_links.specs.Inside.Nodes.{limbs, links, IsForest}
-use Rattle.l4_links.proofs.Linking.{linked_same}
+use Rattle.l4_links.proofs.Linking.{linked_same, first_in}
 use Rattle.l4_links.proofs.Positions.{position_here, position_further}
 use Rattle.l4_links.proofs.Neighbours.{not_in_list, some_from, map_prev, prev_set}
-
-abbrev limb_of : Node → Limb
-limb_of n = record { parent = n.parent; depth = n.depth }
-
-abbrev link_of : Node → Link
-link_of n = record { prev = n.prev; next = n.next }
+use Rattle.l4_links.proofs.Writes.{limb_of, link_of}
 
 abbrev root_limb : Limb
 root_limb = record { parent = None; depth = 0 }
@@ -81,7 +76,7 @@ pub forest_root : (a b d : Slots) (key : ℕ) (node : Node) (first : Option ℕ)
     → node.prev ≡ None → node.next ≡ first → Rises (limbs a) (limbs d) key → IsForest d (key ∷ ks)
 forest_root a b d key node first ks forest first_is slot blank w g prev_is next_is r =
     let out = not_in_list a ks forest.order key blank in
-    let first_other : first ≢ Some key = λ e. out (in_first ks key (first_is ∙ e)) in
+    let first_other : first ≢ Some key = λ e. out (first_in ks key (first_is ∙ e)) in
     let here : links d key ≡ Some (record { prev = None; next = first_of ks None }) =
     ap (option_map link_of) (g.others key first_other ∙ w.here slot) ∙ (λ i. Some (record { prev = prev_is i; next = (next_is ∙ sym first_is) i })) in
     record {
@@ -91,7 +86,7 @@ forest_root a b d key node first ks forest first_is slot blank w g prev_is next_
           here,
           linked_front (links a) (links d) key ks forest.order.linked forest.order.once out
               (λ n y e l.
-              let ne : n ≢ key = λ z. out (in_first ks key (e ∙ ap (λ (q : ℕ). Some q) z)) in
+              let ne : n ≢ key = λ z. out (first_in ks key (e ∙ ap (λ (q : ℕ). Some q) z)) in
               ap (option_map link_of) (g.here n (sym first_is ∙ e) ∙ ap (option_map (λ (z : Node). record z { prev = Some key })) (w.others n ne)) ∙ prev_set (node_at a n) (Some key) y l)
               (λ o ne off. ap (option_map link_of) (g.others o (λ e. off (first_is ∙ e)) ∙ w.others o ne)),
         );
@@ -104,10 +99,6 @@ forest_root a b d key node first ks forest first_is slot blank w g prev_is next_
       };
       tree = tree_rises (limbs a) (limbs d) ks key forest.tree r;
     }
-  where
-    in_first : (ks : List ℕ) (k : ℕ) → first_of ks None ≡ Some k → IsIn ks k
-    in_first [] k e = absurd (let w : ◌≡◌ {A = Option ℕ} None (Some k) = e in cc)
-    in_first (x ∷ xs) k e = inl (let w : ◌≡◌ {A = Option ℕ} (Some x) (Some k) = e in cc)
 
 pub rises : (a b d : Slots) (key : ℕ) (node : Node) (first : Option ℕ) → slot_at a key ≢ None → node_at a key ≡ None → Writes key (Some node) a b → SetsPrev first (Some key) b d → node.parent ≡ None → node.depth ≡ 0 → Rises (limbs a) (limbs d) key
 rises a b d key node first slot blank w g parent_is depth_is = record {

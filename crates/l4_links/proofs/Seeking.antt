@@ -5,23 +5,16 @@ use Rattle.std.specs.Option.{option_map}
 use Rattle.l4_nodes.specs.declared.nodes.Node.{Node}
 use Rattle.l4_links.specs.Leads.{Leads, step, steps}
 use Rattle.l4_links.specs.Inside.Trees.{Limb, IsTree, parent_at}
-use Rattle.l4_links.specs.Inside.Orders.{Link, IsIn, position}
+use Rattle.l4_links.specs.Inside.Orders.{IsIn, position}
 use Rattle.l4_nodes.specs.Slots.{Slots, node_at, Closes, Sees}
 use Rattle.l4_links.specs.Inside.Nodes.{limbs, links, sources, Worth, IsForest, place_of, IsMarked, IsStamped, Ends, IsSame, IsFree, HasSeen, Meets, NoneMet}
-use Rattle.l4_links.proofs.Writes.{map_at, stamped_at, doom_of}
-use Rattle.l4_links.proofs.Neighbours.{worth_of}
+use Rattle.l4_links.proofs.Writes.{map_at, stamped_at, doom_of, limb_of, link_of, worth_of}
 use Rattle.l4_links.proofs.Linking.{linked_same}
 use Rattle.l4_links.proofs.Positions.{position_within}
 use Rattle.l4_links.proofs.Neighbours.{in_list, next_live}
 use Rattle.l4_links.proofs.Runs.{descendants, one_limb, below, same, above, order}
-use Rattle.l4_links.proofs.Cutting.{once_fits, node_within}
-use Rattle.l4_links.proofs.Walking.{limb_in, place_next, place_le, closed_was, values_closed, closes_lowers}
-
-abbrev limb_of : Node → Limb
-limb_of n = record { parent = n.parent; depth = n.depth }
-
-abbrev link_of : Node → Link
-link_of n = record { prev = n.prev; next = n.next }
+use Rattle.l4_links.proofs.Cutting.{once_fits, node_within, limb_in}
+use Rattle.l4_links.proofs.Walking.{place_next, place_le, closed_was, values_closed, closes_lowers}
 
 leads_on : (parent : ℕ → Option ℕ) {a b d : ℕ} → Leads parent a b → Leads parent b d → Leads parent a d
 leads_on parent (step up) more = steps up more

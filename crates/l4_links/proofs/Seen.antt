@@ -13,12 +13,7 @@ use Rattle.l4_nodes.specs.Slots.{Slots, Spot, slot_at, node_at, spots, spot_of}
 use Rattle.l4_links.specs.Inside.Nodes.{left_spot, limbs, values, sources, Worth, capped_worth}
 use Rattle.l4_links.specs.Entries.{entry_at, standing_at, IsBlank, parent_of, Descends, capped, cut_off}
 use Rattle.l4_links.specs.Inside.Keeping.{standing_of, entry_of, entries_of}
-
-abbrev limb_of : Node → Limb
-limb_of n = record { parent = n.parent; depth = n.depth }
-
-abbrev worth_of : Node → Worth
-worth_of n = record { frame = n.frame; rights = n.rights; source = n.source; granted = n.granted }
+use Rattle.l4_links.proofs.Writes.{limb_of, worth_of}
 
 -- what stands, of its tree and its worth
 abbrev pub stands_as : Option Limb → Option Worth → Option Standing
@@ -115,3 +110,10 @@ pub cut_joined : (o : Option Spot) (x : Option Limb) (w : Option Worth) → join
 cut_joined None x w = refl
 cut_joined (Some p) x w =
     elim (p.wanted) as (λ b. joined (if b then Some p else None) None None ≡ (if b then Some (record { place = p.place; wanted = p.wanted; stands = None }) else None)) [ true ↦ refl | false ↦ refl ]
+
+-- what stands under a key is a node
+pub standing_node : (slots : Slots) (k : ℕ) (t : Standing) → standing_at (entries_of slots) k ≡ Some t → (n : Node) × (node_at slots k ≡ Some n) × (standing_of n ≡ t)
+standing_node slots k t is = elim (node_at slots k) as (λ o. node_at slots k ≡ o → option_map standing_of o ≡ Some t → (n : Node) × (node_at slots k ≡ Some n) × (standing_of n ≡ t)) [
+  | None ↦ λ _ e. absurd (let z : ◌≡◌ {A = Option Standing} None (Some t) = e in cc)
+  | Some n ↦ λ at e. (n, at, (let z : ◌≡◌ {A = Option Standing} (Some (standing_of n)) (Some t) = e in cc))
+] refl (sym (standing_is slots k) ∙ is)

@@ -11,8 +11,7 @@ use Rattle.l4_links.specs.Inside.Nodes.{values, Worth, Doom, dooms, Caps, Comes,
 use Rattle.l4_links.specs.Inside.Stacks.{IsStacked, IsStack, HasStack}
 use Rattle.l4_links.specs.Inside.Keeping.{standing_of, entries_of}
 use Rattle.l4_links.specs.Entries.{standing_at, HaveRights}
-use Rattle.l4_links.proofs.Writes.{map_at, doom_of, has_slot}
-use Rattle.l4_links.proofs.Neighbours.{worth_of}
+use Rattle.l4_links.proofs.Writes.{map_at, doom_of, has_slot, worth_of}
 use Rattle.l4_links.proofs.Noting.{quiet_of, IsQuiet}
 use Rattle.l4_links.proofs.Seen.{standing_is}
 

@@ -11,7 +11,7 @@ use Rattle.l4_links.specs.Leads.{Leads}
 use Rattle.l4_links.specs.Inside.Trees.{Limb, parent_at, Rises}
 use Rattle.l4_links.specs.Inside.Trees as trees
 use Rattle.l4_nodes.specs.Slots.{Slots, Spot, slot_at, node_at, spots}
-use Rattle.l4_links.specs.Inside.Nodes.{limbs, values, Worth, capped_worth, IsForest, Comes, AddsUnder, Meets, NoneMet, IsSame}
+use Rattle.l4_links.specs.Inside.Nodes.{limbs, values, Worth, Comes, AddsUnder, Meets, NoneMet, IsSame}
 use Rattle.l4_links.specs.Inside.Nodes as nodes
 use Rattle.l4_nodes.specs.Slots as slots
 use Rattle.l4_links.specs.Inside.Orders.{position}
@@ -20,12 +20,7 @@ use Rattle.l4_links.specs.Inside.Keeping.{standing_of, entry_of, entries_of, IsS
 use Rattle.l4_links.proofs.Growing.{leads_same, leads_from_new}
 use Rattle.l4_links.proofs.Seen.{joined, at_seen, shown_is, entry_same, standing_is, leads_of, descends_of, source_is, stands_joined, capped_joined, source_joined, plain_joined, cut_joined}
 use Rattle.l4_links.proofs.Kept.{none_below}
-
-abbrev limb_of : Node → Limb
-limb_of n = record { parent = n.parent; depth = n.depth }
-
-abbrev worth_of : Node → Worth
-worth_of n = record { frame = n.frame; rights = n.rights; source = n.source; granted = n.granted }
+use Rattle.l4_links.proofs.Writes.{limb_of, worth_of}
 
 -- what came stands under its key
 view_stands : (old new : Slots) (key : ℕ) (x : Limb) (w : Worth) → limbs new key ≡ Some x → Comes w key old new → Stands key (record { frame = w.frame; rights = w.rights; source = w.source; granted = w.granted; parent = x.parent }) (entries_of old) (entries_of new)

@@ -5,23 +5,16 @@ use Rattle.std.specs.Option.{option_map}
 use Rattle.l4_nodes.specs.declared.nodes.Node.{Node}
 use Rattle.l4_links.specs.Leads.{Leads}
 use Rattle.l4_links.specs.Inside.Trees.{Limb, IsTree, parent_at}
-use Rattle.l4_links.specs.Inside.Orders.{Link, IsIn, IsOnce, first_of, position}
+use Rattle.l4_links.specs.Inside.Orders.{IsIn, first_of, position}
 use Rattle.l4_nodes.specs.Slots.{Slots, node_at, spots, Closes}
 use Rattle.l4_links.specs.Inside.Nodes.{limbs, links, values, capped_worth, IsOrder, IsForest, Caps, place_of, IsMarked, IsLow, IsStamped, Ends, IsDone, HasMarks, CapsBelow}
 use Rattle.l4_fpage.specs.Rights.{RightsSet, common}
-use Rattle.l4_links.proofs.Writes.{marks_of, map_at, stamped_same, stamped_at}
-use Rattle.l4_links.proofs.Neighbours.{worth_of}
+use Rattle.l4_links.proofs.Writes.{marks_of, map_at, stamped_same, stamped_at, limb_of, link_of, worth_of}
 use Rattle.l4_links.proofs.Linking.{once_front, once_back, parted, linked_same}
 use Rattle.l4_links.proofs.Positions.{position_here, position_further, position_within}
 use Rattle.l4_links.proofs.Neighbours.{once_apart, in_list, neighbours_at, next_live}
 use Rattle.l4_links.proofs.Runs.{descendants, one_limb, below, same, above, order}
-use Rattle.l4_links.proofs.Cutting.{is_in_or, position_right, once_fits, node_within}
-
-abbrev limb_of : Node → Limb
-limb_of n = record { parent = n.parent; depth = n.depth }
-
-abbrev link_of : Node → Link
-link_of n = record { prev = n.prev; next = n.next }
+use Rattle.l4_links.proofs.Cutting.{is_in_or, position_right, once_fits, node_within, limb_in}
 
 -- rights that were capped twice are those that were capped once
 all_twice : (a c : Bool) → (a && c) && c ≡ a && c
@@ -52,12 +45,6 @@ position_out_of (x ∷ ks) k out =
     let p = position_further x ks k (λ e. out (inl e)) in
     let r = position_out_of ks k (λ i. out (inr i)) in
     omega (arith, p, r)
-
-pub limb_in : (slots : Slots) (ks : List ℕ) → IsOrder slots ks → (k : ℕ) (x : Limb) → limbs slots k ≡ Some x → IsIn ks k
-limb_in slots ks ordered k x is = elim (node_at slots k) as (λ o. node_at slots k ≡ o → option_map limb_of o ≡ Some x → IsIn ks k) [
-  | None ↦ λ e w. absurd (let z : ◌≡◌ {A = Option Limb} None (Some x) = w in cc)
-  | Some n ↦ λ e w. ordered.all k n e
-] refl is
 
 -- what a node was before a write that left its trees and its links
 pub record Was (old : Slots) (j : ℕ) (n : Node) : Type 0 where
@@ -178,7 +165,7 @@ place_next slots ks key node ordered at =
           omega (arith, l, m)
       | b ∷ bs ↦ λ e.
           let i : IsIn p.back b = subst (λ (z : List ℕ). IsIn z b) (sym e) (inl refl) in
-          let out : ¬ (IsIn p.front b) = λ j. once_front_of p.front key p.back b o.once j i in
+          let out : ¬ (IsIn p.front b) = λ j. once_apart p.front key p.back b o.once j i in
           let a = position_right p.front (key ∷ p.back) b out in
           let c = position_further key p.back b (λ kb. once_back p.front key p.back o.once (subst (λ (z : ℕ). IsIn p.back z) (sym kb) i)) in
           let d : position p.back b ≡ 0 = ap (λ (z : List ℕ). position z b) e ∙ position_here b bs b refl in
@@ -187,9 +174,6 @@ place_next slots ks key node ordered at =
     let r : place_of (p.front ++ key ∷ p.back) node.next ≡ position (p.front ++ key ∷ p.back) key + 1 =
     ap (place_of (p.front ++ key ∷ p.back)) h ∙ there p.back refl ∙ sym (ap (λ (z : ℕ). z + 1) here) in
     subst (λ (z : List ℕ). place_of z node.next ≡ position z key + 1) (sym p.is) r
-  where
-    once_front_of : (xs : List ℕ) (k : ℕ) (ys : List ℕ) (a : ℕ) → IsOnce (xs ++ k ∷ ys) → IsIn xs a → ¬ (IsIn ys a)
-    once_front_of xs k ys a once i = once_apart xs k ys a once i
 
 advances_on : (slots : Slots) (ks : List ℕ) (cap : RightsSet) (key : ℕ) (node : Node) → IsOrder slots ks → node_at slots key ≡ Some node → Advances slots ks cap key node.depth node.next
 advances_on slots ks cap key node ordered at =

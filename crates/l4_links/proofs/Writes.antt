@@ -6,7 +6,19 @@ use Rattle.l4_nodes.specs.declared.nodes.Node.{Node}
 use Rattle.l4_nodes.specs.declared.nodes.Slot.{Slot}
 use Rattle.l4_nodes.specs.Keys.{IsKey}
 use Rattle.l4_nodes.specs.Slots.{Slots, Spot, slot_at, node_at, spots, spot_of}
-use Rattle.l4_links.specs.Inside.Nodes.{AreKeys, marks, Marks, Doom, IsStamped}
+use Rattle.l4_links.specs.Inside.Nodes.{AreKeys, marks, Marks, Doom, IsStamped, Worth}
+use Rattle.l4_links.specs.Inside.Orders.{Link}
+use Rattle.l4_links.specs.Inside.Trees.{Limb}
+
+-- the pieces of a node
+abbrev pub limb_of : Node → Limb
+limb_of n = record { parent = n.parent; depth = n.depth }
+
+abbrev pub link_of : Node → Link
+link_of n = record { prev = n.prev; next = n.next }
+
+abbrev pub worth_of : Node → Worth
+worth_of n = record { frame = n.frame; rights = n.rights; source = n.source; granted = n.granted }
 
 abbrev pub marks_of : Node → Marks
 marks_of n = record { mark = n.mark; seen = n.seen }

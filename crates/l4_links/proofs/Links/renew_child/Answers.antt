@@ -10,8 +10,9 @@ use Rattle.l4_links.specs.Inside.Keeping.{entries_of, standing_of}
 use Rattle.l4_links.proofs.Kept.{parent_stands, sound_live, live_of}
 use Rattle.l4_links.proofs.Naming.{indexed_same}
 use Rattle.l4_links.proofs.Seen.{standing_is, descends_of}
-use Rattle.l4_links.proofs.OwnChild.{limb_of, live_renewed, stack_renewed, view_renewed}
+use Rattle.l4_links.proofs.OwnChild.{live_renewed, stack_renewed, view_renewed}
 use Rattle.l4_links.proofs.Links.renew_child.Goals.{After-node_of-2, After-set_rights}
+use Rattle.l4_links.proofs.Writes.{limb_of}
 use Rattle.l4_links.proofs.Links.renew_child.Goals as goal
 
 key_at : (c : goal.After-node_of-2) → node_at c.self.inside.nodes.slots c.args.key ≡ Some c.in-Some.node

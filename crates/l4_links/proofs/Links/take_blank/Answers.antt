@@ -2,9 +2,10 @@ use Rattle.std.proofs.Common.{◌≡◌, sym, subst}
 use Rattle.l4_links.specs.Entries.{Linked, IsBlank, entry_at}
 use Rattle.l4_links.specs.Inside.Keeping.{entries_of}
 use Rattle.l4_links.proofs.Seen.{blank_node}
-use Rattle.l4_links.proofs.Kept.{nodes_freed, sound_nodes}
+use Rattle.l4_links.proofs.Kept.{sound_nodes}
 use Rattle.l4_links.proofs.Views.{view_gone, view_others}
 use Rattle.l4_links.proofs.Stacking.{stack_nodes}
+use Rattle.l4_links.proofs.Neighbours.{nodes_freed}
 use Rattle.l4_links.proofs.Links.take_blank.Goals as goal
 
 pub invariant_of-self : goal.invariant_of-self
