@@ -48,7 +48,7 @@ module _ (Used Other : PageMove → Type 0) (to : (move : PageMove) → Used mov
   cut_along middle place right c = record { move = c.move; used = to c.move c.used; grant = c.grant; had = c.had; lacks = c.lacks; below = c.below }
 
 -- losing the same rights is the same loss
-loses_along : (Lost Other : Place → Right → Type 0) (old new : Mappings) → ((p : Place) (k : Right) → Lost p k → Other p k) → ((p : Place) (k : Right) → Other p k → Lost p k)
+pub loses_along : (Lost Other : Place → Right → Type 0) (old new : Mappings) → ((p : Place) (k : Right) → Lost p k → Other p k) → ((p : Place) (k : Right) → Other p k → Lost p k)
     → LosesRights Lost old new → LosesRights Other old new
 loses_along Lost Other old new to back l = record {
   spaces = l.spaces;

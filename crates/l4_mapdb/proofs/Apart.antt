@@ -17,7 +17,7 @@ pub record EndBy (items : List ItemMove) (end source target : ℕ) (grants : Boo
   pub targets : (item : ℕ) (by : ItemMove) → item < end → slice_get items item ≡ Some by → by.mv.target.first + 2 ^ by.mv.target.log ≤ target
   pub none : grants ≡ false → (item : ℕ) (by : ItemMove) → item < end → slice_get items item ≡ Some by → by.grant ≡ false
 
-either_no : (a b : Bool) → a || b ≡ false → (a ≡ false) × (b ≡ false)
+pub either_no : (a b : Bool) → a || b ≡ false → (a ≡ false) × (b ≡ false)
 either_no false b h = (refl, h)
 either_no true b h = absurd (let k : true ≡ false = h in cc)
 

@@ -34,8 +34,3 @@ by_kind (inl x) = elim x.parent [
   | inr p ↦ inr (inl (record { move = x.move; used = x.used; grant = p.0; target = x.target; frame = x.frame; rights = x.rights; parent = p.1 }))
 ]
 by_kind (inr x) = inr (inr x)
-
-pub of_kind : {Used : PageMove → Type 0} {old : Mappings} {place : Place} {m : Mapping} → BecomesBy Used old place m → Becomes Used old place m
-of_kind (inl x) = inl (record { move = x.move; used = x.used; target = x.target; frame = x.frame; rights = x.rights; parent = inl (x.map, x.parent) })
-of_kind (inr (inl x)) = inl (record { move = x.move; used = x.used; target = x.target; frame = x.frame; rights = x.rights; parent = inr (x.grant, x.parent) })
-of_kind (inr (inr x)) = inr x

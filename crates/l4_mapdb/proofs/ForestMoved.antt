@@ -1,5 +1,5 @@
 -- A delivery that is not entangled leaves a forest.
-use Rattle.std.proofs.Common.{◌≡◌, ℕ, ◌<◌, Option, Some, None, IsTrue, is_some, refl, sym, ap, ◌∙◌, subst, inl, inr, ◌⊎◌, option_and_then}
+use Rattle.std.proofs.Common.{◌≡◌, ℕ, ◌<◌, Option, Some, None, IsTrue, refl, sym, ap, ◌∙◌, subst, inl, inr, ◌⊎◌, option_and_then}
 use Rattle.std.specs.FinSet as set
 use Rattle.l4_fpage.specs.Rights.{RightsSet, Right, has, Within}
 use Rattle.l4_mapdb.specs.declared.Place.{Place}
@@ -8,7 +8,7 @@ use Rattle.l4_mapdb.specs.Mappings.{Mappings, shown, parent_of, Chain, child, fu
 use Rattle.l4_mapdb.specs.Transfer.{PageMove, IsGranted, IsEntangled, IsGone, StandsAt, ParentLater, Becomes, Moved, IsCut, Transfers}
 use Rattle.l4_mapdb.proofs.EntriesLemmas.{decided}
 use Rattle.l4_mapdb.proofs.Filled.{IsMapped, by_kind}
-use Rattle.l4_mapdb.proofs.Single.{KnownMoves, one_target, one_grant, one_place}
+use Rattle.l4_mapdb.proofs.Single.{KnownMoves, one_target, one_grant, one_place, target_gone}
 use Rattle.l4_mapdb.proofs.ForestKept.{decide, IsLoose, LooseParent, forest_kept}
 use Rattle.l4_mapdb.proofs.Unique.{same_value}
 use Rattle.l4_fpage.specs.Pages.{most_pages}
@@ -30,10 +30,6 @@ module _ (Used : PageMove → Type 0) (old mid : Mappings) (known : KnownMoves U
   -- no source is gone
   source_stays : (u : PageMove) → Used u → ¬ (IsGone Used old u.source)
   source_stays u a g = free (record { one = g.move; other = u; one_used = g.used; other_used = a; clash = inr (g.present, g.below) })
-
-  -- a place that is there and is a target is gone
-  target_gone : (u : PageMove) → Used u → (q : Place) (b : Mapping) → u.target ≡ q → shown old q ≡ Some b → IsGone Used old q
-  target_gone u a q b e at = record { move = u; used = a; present = ap is_some (ap (shown old) e ∙ at); below = inl (sym e) }
 
   -- what descends from a gone place is gone
   child_gone : (q p : Place) (b : Mapping) → shown old q ≡ Some b → b.parent ≡ Some p → IsGone Used old p → IsGone Used old q
@@ -92,15 +88,15 @@ module _ (Used : PageMove → Type 0) (old mid : Mappings) (known : KnownMoves U
                   (λ f. inr (λ low d. record { move = u; used = a; grant = g; had = h; lacks = f; below = d }));
               parent = subst (λ (v : PageMove). ParentLater Used v.shows.parent k.parent) e b.parent;
             }
-        | inr (inr b) ↦ absurd (b.not_gone (target_gone u a u.target b.before refl b.at))
+        | inr (inr b) ↦ absurd (b.not_gone (target_gone Used old known free u a u.target b.before refl b.at))
       ]
 
   -- a place that is neither gone nor granted stands where it stood
   kept_stands : (c : Place) (b : Mapping) → shown old c ≡ Some b → ¬ (IsGone Used old c) → ¬ (IsGranted Used c) → (k : Mapping) → shown mid c ≡ Some k → Stands c c b k
   kept_stands c b was here not k at =
       elim (by_kind ((moved.places c k).0 at)) [
-        | inl x ↦ absurd (here (target_gone x.move x.used c b x.target was))
-        | inr (inl x) ↦ absurd (here (target_gone x.move x.used c b x.target was))
+        | inl x ↦ absurd (here (target_gone Used old known free x.move x.used c b x.target was))
+        | inr (inl x) ↦ absurd (here (target_gone Used old known free x.move x.used c b x.target was))
         | inr (inr x) ↦
             let e : x.before ≡ b = same_value (sym x.at ∙ was) in
             record {

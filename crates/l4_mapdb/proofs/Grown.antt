@@ -1,7 +1,7 @@
 -- A message whose children have all come is delivered.
-use Rattle.std.proofs.Common.{◌≡◌, ◌≢◌, ℕ, false, List, Option, Some, None, is_some, IsTrue, option_and_then, option_map, refl, sym, ap, ◌∙◌, subst, slice_get, inl, inr}
+use Rattle.std.proofs.Common.{◌≡◌, ◌≢◌, ℕ, false, List, Option, Some, None, is_some, IsTrue, option_and_then, option_map, refl, sym, ap, ◌∙◌, subst, inl, inr}
 use Rattle.std.proofs.lemmas.Bool.{false≢true}
-use Rattle.l4_fpage.specs.Rights.{common, Right, no_rights}
+use Rattle.l4_fpage.specs.Rights.{common}
 use Rattle.l4_nodes.specs.declared.Place.{Place as LinkPlace}
 use Rattle.l4_links.specs.declared.Standing.{Standing}
 use Rattle.l4_links.specs.declared.Entry.{Entry}
@@ -12,22 +12,24 @@ use Rattle.l4_mapdb.specs.declared.Mapping.{Mapping}
 use Rattle.l4_mapdb.specs.declared.ItemMove.{ItemMove}
 use Rattle.l4_mapdb.specs.declared.sources.UsedMove.{UsedMove}
 use Rattle.l4_mapdb.specs.Mappings.{Mappings, shown}
-use Rattle.l4_mapdb.specs.Losing.{LosesRights}
-use Rattle.l4_mapdb.specs.Transfer.{PageMove, IsUsed, IsEntangled, IsGranted, IsGone, Stays, ParentLater, Becomes, Moved, IsCut, Delivers}
+use Rattle.l4_mapdb.specs.Transfer.{PageMove, IsUsed, IsEntangled, IsGranted, IsGone, ParentLater, Becomes, Delivers}
 use Rattle.l4_mapdb.specs.View.{map_place, place_at, mapping_of, mappings_of, link_place}
 use Rattle.l4_mapdb.specs.Inside.View.{IsShown}
 use Rattle.l4_mapdb.specs.Delivering.{IsClean, RootsKnown, IsDelivered}
 use Rattle.l4_mapdb.specs.Inside.Messages.{IsMoved}
 use Rattle.l4_mapdb.specs.Inside.Growing.{AreMaps, child_of, IsGround, IsTargetHere, Mapped}
 use Rattle.l4_mapdb.proofs.Unique.{same_value}
-use Rattle.l4_mapdb.proofs.Filled.{IsMapped, by_kind}
-use Rattle.l4_mapdb.proofs.Moves.{found_of, one_by, is_at}
-use Rattle.l4_mapdb.proofs.Nothing.{left_same}
+use Rattle.l4_mapdb.proofs.Moves.{found_of, is_at}
 use Rattle.l4_mapdb.proofs.View.{shown_by_key, key_shows}
-use Rattle.l4_mapdb.proofs.Keyed.{page_move, used_of, key_of, source_is, present_key, above_key, entangled_keys}
+use Rattle.l4_mapdb.proofs.Keyed.{page_move, used_of, key_of, present_key, above_key, entangled_keys}
 use Rattle.l4_mapdb.proofs.GrowthSteps.{source_entry}
+use Rattle.l4_mapdb.proofs.Filled.{BecomesBy}
+use Rattle.l4_mapdb.proofs.Nothing.{cuts_none}
+use Rattle.l4_mapdb.proofs.Single.{moved_by}
+use Rattle.l4_mapdb.proofs.UsedMoves.{known_moves}
+use Rattle.std.specs.FinSet as set
 
-module _ (start : Linked) (from to : ℕ) (items : List ItemMove) (ground : IsGround start from to) (maps : AreMaps items) (now : Linked) (mapped : Mapped start from to items now)
+module _ (start : Linked) (from to : ℕ) (items : List ItemMove) (ground : IsGround start from to) (there : IsTrue (set.contains start.spaces to)) (maps : AreMaps items) (now : Linked) (mapped : Mapped start from to items now)
     (have : HavePlaces now) where
   abbrev Moves : UsedMove → Type 0
   Moves = IsMoved start.entries from to items
@@ -95,13 +97,6 @@ module _ (start : Linked) (from to : ℕ) (items : List ItemMove) (ground : IsGr
   same_parent None later e = e
   same_parent (Some p) later e = (p, inr (none_granted p, refl), e)
 
-  parent_same : (o later : Option Place) → ParentLater Used o later → later ≡ o
-  parent_same None later e = e
-  parent_same (Some p) later (q, stands, e) = e ∙ elim stands [
-    | inl g ↦ absurd (no_grant g.0 g.1 g.2)
-    | inr s ↦ ap (λ (x : Place). Some x) (sym s.1)
-  ]
-
   -- what has a child is no target, as nothing descends from what a message replaces
   parent_stays : (low high : ℕ) (e : Entry) → parent_of start.entries low ≡ Some high → entry_at start.entries high ≡ Some e → ¬ (IsTargetHere start from to items e.place)
   parent_stays low high e up at t = mapped.leaf t.0 t.1 high (is_at start.entries high e t.0.target at (sym t.2)) low (step up)
@@ -119,9 +114,6 @@ module _ (start : Linked) (from to : ℕ) (items : List ItemMove) (ground : IsGr
             let f = found_of start.entries k p.above p.at in
             place_still k f.entry f.at (parent_stays key k f.entry (ap (option_and_then (λ (x : Standing). x.parent)) (ap (option_and_then (λ (x : Entry). x.stands)) at ∙ stands) ∙ is) f.at)
       ] refl
-
-  mapping_still : (key : ℕ) (e : Entry) (t : Standing) → entry_at start.entries key ≡ Some e → e.stands ≡ Some t → mapping_of now.entries t ≡ mapping_of start.entries t
-  mapping_still key e t at stands = λ i. record { frame = t.frame; rights = t.rights; parent = (parent_still key e t at stands) i }
 
   -- where a source is
   source_place : (m : UsedMove) → Moves m → place_at now.entries m.source ≡ Some (record { space = from; page = m.page })
@@ -156,21 +148,6 @@ module _ (start : Linked) (from to : ℕ) (items : List ItemMove) (ground : IsGr
             })
       ]
 
-  of_mapped : (place : Place) (m : Mapping) → IsMapped Used place m → shown (mappings_of now) place ≡ Some m
-  of_mapped place m w =
-      let k = key_of start ground.places ground.trees from to items w.move w.used in
-      let c = mapped.child k.move k.moves in
-      let used = used_of start ground.places ground.trees from to items k.move k.moves in
-      let source : record { space = from; page = k.move.page } ≡ w.move.source = source_is start ground.places ground.trees from to items w.move k in
-      let shows : mapping_of start.entries k.moves.standing ≡ w.move.shows = same_value (sym used.present ∙ ap (shown (mappings_of start)) source ∙ w.used.present) in
-      let by : k.moves.by ≡ w.used.by = one_by items w.move.item k.moves.by w.used.by (ap (slice_get items) (sym k.item) ∙ k.moves.item) w.used.item in
-      let frame : k.moves.standing.frame ≡ m.frame = ap (λ (x : Mapping). x.frame) shows ∙ sym w.frame in
-      let rights : common k.moves.standing.rights k.moves.by.rights ≡ m.rights = (λ i. common (shows i).rights (by i).rights) ∙ sym w.used.rights ∙ sym w.rights in
-      let parent : place_at now.entries k.move.source ≡ m.parent = source_place k.move k.moves ∙ ap (λ (p : Place). Some p) source ∙ sym w.parent in
-      let mapping : mapping_of now.entries (child_standing k.move k.moves) ≡ m = λ i. record { frame = frame i; rights = rights i; parent = parent i } in
-      let target : map_place k.move.target ≡ place = ap map_place k.target ∙ w.target in
-      ap (shown (mappings_of now)) (sym target) ∙ key_shows now have c.0 (own_child k.move k.moves) (child_standing k.move k.moves) c.1 refl ∙ ap (λ (x : Mapping). Some x) mapping
-
   -- a target of a used move goes, where something stood
   target_goes : {place : Place} {m : Mapping} (u : IsShown start.entries place m) → ¬ (IsGone Used (mappings_of start) place) → ¬ (IsTargetHere start from to items u.entry.place)
   target_goes {place} {m} u stays t =
@@ -182,46 +159,28 @@ module _ (start : Linked) (from to : ℕ) (items : List ItemMove) (ground : IsGr
         below = inl (sym target);
       })
 
-  of_stays : (place : Place) (m : Mapping) → Stays Used (mappings_of start) place m → shown (mappings_of now) place ≡ Some m
-  of_stays place m s =
-      let u = (shown_by_key start ground.places place s.before).0 s.at in
-      let parent : s.before.parent ≡ m.parent = sym (parent_same s.before.parent m.parent s.parent) in
-      let mapping : s.before ≡ m = λ i. record { frame = (sym s.frame) i; rights = (sym s.rights) i; parent = parent i } in
-      ap (λ (p : LinkPlace). shown (mappings_of now) (map_place p)) (sym u.place_is) ∙ key_shows now have u.key u.entry u.standing (mapped.kept u.key u.entry u.at (target_goes u s.not_gone)) u.stands
-      ∙ ap (λ (x : Mapping). Some x) (mapping_still u.key u.entry u.standing u.at u.stands ∙ u.mapping ∙ mapping)
-
-  from_becomes : (place : Place) (m : Mapping) → Becomes Used (mappings_of start) place m → shown (mappings_of now) place ≡ Some m
-  from_becomes place m b = elim (by_kind b) [
-    | inl w ↦ of_mapped place m w
-    | inr other ↦ elim other [ inl h ↦ absurd (no_grant h.move h.used h.grant) | inr s ↦ of_stays place m s ]
-  ]
-
-  moved_now : Moved Used (mappings_of start) (mappings_of now)
-  moved_now = record { spaces = mapped.spaces; places = λ place m. (to_becomes place m, from_becomes place m) }
-
-  -- what is shown has a right
-  some_right : (place : Place) (m : Mapping) → shown (mappings_of now) place ≡ Some m → m.rights ≢ no_rights
-  some_right place m h none =
-      let u = (shown_by_key now have place m).0 h in
-      let p = clean_now u.key u.entry u.at in
-      let same : p.standing ≡ u.standing = same_value (sym p.stands ∙ u.stands) in
-      p.some_right (ap (λ (x : Standing). x.rights) same ∙ ap (λ (x : Mapping). x.rights) u.mapping ∙ none)
-
-  none_cut : (place : Place) (right : Right) → ¬ (IsCut Used (mappings_of now) place right)
-  none_cut place right c = no_grant c.move c.used c.grant
-
-  cut_now : LosesRights (IsCut Used (mappings_of now)) (mappings_of now) (mappings_of now)
-  cut_now = record {
-    spaces = refl;
-    places = λ place m. (
-      λ at. (m, at, record { frame = refl; parent = refl; rights = λ right. (λ h. (h, none_cut place right), λ h. h.0); some_right = some_right place m at }),
-      λ h. h.1 ∙ ap (λ (x : Mapping). Some x) (left_same (IsCut Used (mappings_of now) place) h.0 m (none_cut place) h.2),
-    );
-  }
+  shown_by_kind : (place : Place) (m : Mapping) → BecomesBy Used (mappings_of start) place m → (k : Mapping) × (shown (mappings_of now) place ≡ Some k)
+  shown_by_kind place m (inl w) =
+      let k = key_of start ground.places ground.trees from to items w.move w.used in
+      let c = mapped.child k.move k.moves in
+      let target : map_place k.move.target ≡ place = ap map_place k.target ∙ w.target in (
+        mapping_of now.entries (child_standing k.move k.moves),
+        ap (shown (mappings_of now)) (sym target) ∙ key_shows now have c.0 (own_child k.move k.moves) (child_standing k.move k.moves) c.1 refl,
+      )
+  shown_by_kind place m (inr (inl w)) = absurd (no_grant w.move w.used w.grant)
+  shown_by_kind place m (inr (inr s)) =
+      let u = (shown_by_key start ground.places place s.before).0 s.at in (
+        mapping_of now.entries u.standing,
+        ap (λ (p : LinkPlace). shown (mappings_of now) (map_place p)) (sym u.place_is) ∙ key_shows now have u.key u.entry u.standing (mapped.kept u.key u.entry u.at (target_goes u s.not_gone)) u.stands,
+      )
 
   pub delivered_now : IsDelivered from to items start now
   delivered_now = record {
-    delivers = record { middle = mappings_of now; moved = moved_now; cut = cut_now };
+    delivers = record {
+      middle = mappings_of now;
+      moved = moved_by Used (mappings_of start) (known_moves (mappings_of start) from to items there) free_now (mappings_of now) mapped.spaces to_becomes shown_by_kind;
+      cut = cuts_none now have clean_now Used (λ place right c. no_grant c.move c.used c.grant);
+    };
     free = free_now;
     clean = clean_now;
     roots = roots_now;

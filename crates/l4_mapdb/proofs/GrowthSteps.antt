@@ -1,11 +1,11 @@
 -- Children come one after another.
 use Rattle.std.proofs.Common.{◌≡◌, ◌≢◌, ℕ, ◌+◌, ◌<◌, ◌⊎◌, List, Option, Some, None, false, option_and_then, refl, sym, ap, ◌∙◌, slice_get, inl, inr, arith}
 use Rattle.std.proofs.lemmas.Bool.{cases_lt, false≢true}
-use Rattle.l4_fpage.specs.Rights.{common, no_rights}
+use Rattle.l4_fpage.specs.Rights.{common}
 use Rattle.l4_nodes.specs.declared.Place.{Place as LinkPlace}
 use Rattle.l4_links.specs.declared.Standing.{Standing}
 use Rattle.l4_links.specs.declared.Entry.{Entry}
-use Rattle.l4_links.specs.Entries.{Entries, Linked, entry_at, standing_at, IsAt, IsStanding, HaveRights, HavePlaces}
+use Rattle.l4_links.specs.Entries.{Entries, Linked, entry_at, standing_at, IsAt, HaveRights, HavePlaces}
 use Rattle.l4_mapdb.specs.declared.ItemMove.{ItemMove}
 use Rattle.l4_mapdb.specs.declared.sources.UsedMove.{UsedMove}
 use Rattle.l4_mapdb.specs.Inside.Messages.{plain, IsMoved, turn, turn_of, IsNextMove}
@@ -75,28 +75,6 @@ module _ (start : Linked) (from to : ℕ) (items : List ItemMove) (ground : IsGr
     moved_on m used =
         let s = source_entry m used in
         record { by = used.by; item = used.item; grant = used.grant; to_space = used.to_space; pages = used.pages; standing = used.standing; stands = ap stand_in (grown.kept m.source s.0 s.2 ∙ sym s.2) ∙ used.stands; some_right = used.some_right }
-
-    pub stands_still : (m : UsedMove) (used : Used m) → (t : Standing) × (standing_at now.entries m.source ≡ Some t) × (standing_at start.entries m.source ≡ Some t) × (plain t ≡ used.standing)
-    stands_still m used =
-        let s = source_entry m used in
-        (s.1, ap (option_and_then (λ (e : Entry). e.stands)) (grown.kept m.source s.0 s.2) ∙ s.3, ap (option_and_then (λ (e : Entry). e.stands)) s.2 ∙ s.3, s.4)
-
-    -- the source of a move stands, and has a right in common with its item
-    pub source_stands : (m : UsedMove) → IsMoved now.entries from to items m → IsStanding now.entries m.source
-    source_stands m used none =
-        let t = stands_still m (moved_back m used) in
-        let k : ◌≡◌ {A = Option Standing} None (Some t.0) = sym none ∙ t.1 in
-        cc
-
-    pub source_shares : (m : UsedMove) → IsMoved now.entries from to items m → (by : ItemMove) → slice_get items m.item ≡ Some by
-        → (above : Standing) → standing_at now.entries m.source ≡ Some above → common above.rights by.rights ≢ no_rights
-    source_shares m moved by is above at none =
-        let used = moved_back m moved in
-        let t = stands_still m used in
-        let same : above ≡ t.0 = same_value (sym at ∙ t.1) in
-        let rights : above.rights ≡ used.standing.rights = ap (λ (x : Standing). x.rights) same ∙ ap (λ (x : Standing). x.rights) t.3 in
-        let item : by ≡ used.by = one_by items m.item by used.by is used.item in
-        used.some_right ((λ i. common ((sym rights) i) ((sym item) i).rights) ∙ none)
 
     -- what stands has rights
     pub grown_rights : HaveRights now.entries

@@ -1,7 +1,7 @@
 -- A message whose pages have all been handed over is delivered.
-use Rattle.std.proofs.Common.{◌≡◌, ◌≢◌, ℕ, Bool, true, false, ◌&&◌, length, List, Option, Some, None, IsTrue, option_and_then, option_map, refl, sym, ap, ◌∙◌, subst, slice_get, inl, inr}
+use Rattle.std.proofs.Common.{◌≡◌, ℕ, Bool, true, false, ◌&&◌, length, List, Option, Some, None, IsTrue, option_and_then, option_map, refl, sym, ap, ◌∙◌, subst, slice_get, inl, inr}
 use Rattle.std.specs.FinSet as set
-use Rattle.l4_fpage.specs.Rights.{RightsSet, Right, Read, Write, Execute, has, common, no_rights, Within}
+use Rattle.l4_fpage.specs.Rights.{RightsSet, Right, Read, Write, Execute, has, common, Within}
 use Rattle.l4_nodes.specs.declared.Place.{Place as LinkPlace}
 use Rattle.l4_links.specs.declared.Standing.{Standing}
 use Rattle.l4_links.specs.declared.Entry.{Entry}
@@ -11,8 +11,7 @@ use Rattle.l4_mapdb.specs.declared.Mapping.{Mapping}
 use Rattle.l4_mapdb.specs.declared.ItemMove.{ItemMove}
 use Rattle.l4_mapdb.specs.declared.sources.UsedMove.{UsedMove}
 use Rattle.l4_mapdb.specs.Mappings.{shown}
-use Rattle.l4_mapdb.specs.Losing.{LosesRights}
-use Rattle.l4_mapdb.specs.Transfer.{PageMove, IsUsed, IsEntangled, IsGranted, IsGone, StandsAt, ParentLater, Becomes, Moved, IsCut}
+use Rattle.l4_mapdb.specs.Transfer.{PageMove, IsUsed, IsEntangled, IsGranted, IsGone, StandsAt, ParentLater, Becomes, IsCut}
 use Rattle.l4_mapdb.specs.View.{link_place, map_place, place_at, mapping_of, mappings_of}
 use Rattle.l4_mapdb.specs.Delivering.{IsClean, RootsKnown, IsDelivered}
 use Rattle.l4_mapdb.specs.Inside.Messages.{plain, IsMoved}
@@ -20,16 +19,16 @@ use Rattle.l4_mapdb.specs.Inside.Tangles.{AreApart}
 use Rattle.l4_mapdb.specs.Inside.Growing.{IsGround}
 use Rattle.l4_mapdb.specs.Inside.Granting.{AreGrants, handed_to, IsGiven, Handed}
 use Rattle.l4_mapdb.proofs.Unique.{same_value}
-use Rattle.l4_mapdb.proofs.Filled.{BecomesBy, by_kind}
-use Rattle.l4_mapdb.proofs.Single.{KnownMoves, becomes_one}
+use Rattle.l4_mapdb.proofs.Filled.{BecomesBy}
 use Rattle.l4_mapdb.proofs.ForestKept.{decide}
 use Rattle.l4_mapdb.proofs.UsedMoves.{known_moves}
 use Rattle.l4_mapdb.proofs.Moves.{found_of, is_at, one_by, move_at}
-use Rattle.l4_mapdb.proofs.Nothing.{left_same}
 use Rattle.l4_mapdb.proofs.View.{shown_by_key, key_shows, stands_at}
 use Rattle.l4_mapdb.proofs.Keyed.{page_move, used_of, key_of, source_is, present_key, entangled_keys}
 use Rattle.l4_mapdb.proofs.Apart.{none_tangled}
 use Rattle.l4_mapdb.proofs.GrowthSteps.{source_entry}
+use Rattle.l4_mapdb.proofs.Single.{moved_by}
+use Rattle.l4_mapdb.proofs.Nothing.{cuts_none}
 
 and_first : (a b : Bool) → (IsTrue a → IsTrue b) → a && b ≡ a
 and_first true b h = h refl
@@ -40,7 +39,7 @@ pub common_all : (a b : RightsSet) → Within a b → common a b ≡ a
 common_all a b within = λ i. record { r = (and_first a.r b.r (within Read)) i; w = (and_first a.w b.w (within Write)) i; x = (and_first a.x b.x (within Execute)) i }
 
 module _ (start : Linked) (from to : ℕ) (items : List ItemMove) (ground : IsGround start from to) (there : IsTrue (set.contains start.spaces to)) (grants : AreGrants items) (apart : AreApart items (length items))
-    (now : Linked) (handed : Handed start from to items (IsMoved start.entries from to items) now) (have : HavePlaces now) where
+    (now : Linked) (handed : Handed start from to items now) (have : HavePlaces now) where
   abbrev Moves : UsedMove → Type 0
   Moves = IsMoved start.entries from to items
 
@@ -68,16 +67,13 @@ module _ (start : Linked) (from to : ℕ) (items : List ItemMove) (ground : IsGr
         let same : p.standing ≡ n.1.standing = same_value (sym p.stands ∙ s.2) in
         record {
           standing = n.1.standing;
-          stands = ap (λ (x : Entry). x.stands) n.4;
+          stands = ap (λ (x : Entry). x.stands) n.3;
           some_right = λ none. p.some_right (ap (λ (t : Standing). t.rights) same ∙ none);
-          unwanted = ap (λ (x : Entry). x.wanted) n.4;
+          unwanted = ap (λ (x : Entry). x.wanted) n.3;
           no_source = ap (λ (t : Standing). t.source) (sym same) ∙ p.no_source;
           not_granted = ap (λ (t : Standing). t.granted) (sym same) ∙ p.not_granted;
         }
-    | inr other ↦ elim other [
-      | inl was ↦ ground.clean key e was.0
-      | inr b ↦ absurd (b.2 b.1)
-    ]
+    | inr was ↦ ground.clean key e was.0
   ]
 
   pub roots_now : (roots : List ℕ) → RootsKnown start.entries roots → RootsKnown now.entries roots
@@ -86,19 +82,13 @@ module _ (start : Linked) (from to : ℕ) (items : List ItemMove) (ground : IsGr
       elim (handed.only key f.entry f.at) [
         | inl n ↦
             let s = stood n.0 n.1 in
-            let same : n.1.standing ≡ t = same_value (ap (λ (e : Entry). e.stands) (sym n.4) ∙ f.stands) in
-            known key t (ap (λ (k : ℕ). option_and_then (λ (e : Entry). e.stands) (entry_at start.entries k)) (sym n.3) ∙ ap (option_and_then (λ (e : Entry). e.stands)) s.1 ∙ s.2 ∙ ap (λ (x : Standing). Some x) same) top
-        | inr other ↦ elim other [
-          | inl was ↦ known key t (ap (option_and_then (λ (e : Entry). e.stands)) was.0 ∙ f.stands) top
-          | inr b ↦ absurd (b.2 b.1)
-        ]
+            let same : n.1.standing ≡ t = same_value (ap (λ (e : Entry). e.stands) (sym n.3) ∙ f.stands) in
+            known key t (ap (λ (k : ℕ). option_and_then (λ (e : Entry). e.stands) (entry_at start.entries k)) (sym n.2) ∙ ap (option_and_then (λ (e : Entry). e.stands)) s.1 ∙ s.2 ∙ ap (λ (x : Standing). Some x) same) top
+        | inr was ↦ known key t (ap (option_and_then (λ (e : Entry). e.stands)) was.0 ∙ f.stands) top
       ]
 
   free_now : ¬ (IsEntangled Used (mappings_of start))
   free_now e = none_tangled start.entries from to items apart (λ m used r. handed.absent m used r.key r.at) (entangled_keys start ground.places ground.trees from to items e)
-
-  known : KnownMoves Used (mappings_of start)
-  known = known_moves (mappings_of start) from to items there
 
   -- as no target had a key, nothing goes
   none_gone : (place : Place) → ¬ (IsGone Used (mappings_of start) place)
@@ -108,19 +98,19 @@ module _ (start : Linked) (from to : ℕ) (items : List ItemMove) (ground : IsGr
       handed.absent k.move k.moves p.key (subst (λ (q : LinkPlace). IsAt start.entries q p.key) (sym k.target) p.at)
 
   -- the page of what stands under a key that no move gives is not granted
-  not_granted : (key : ℕ) (e : Entry) → entry_at start.entries key ≡ Some e → ¬ (IsGiven start from to items Moves key) → ¬ (IsGranted Used (map_place e.place))
+  not_granted : (key : ℕ) (e : Entry) → entry_at start.entries key ≡ Some e → ¬ (IsGiven start from to items key) → ¬ (IsGranted Used (map_place e.place))
   not_granted key e at out g =
       let k = key_of start ground.places ground.trees from to items g.move g.used in
       let source : record { space = from; page = k.move.page } ≡ g.move.source = source_is start ground.places ground.trees from to items g.move k in
       let place : ◌≡◌ {A = LinkPlace} (record { space = from; page = k.move.page }) e.place = ap link_place (source ∙ g.source) in
       let same : k.move.source ≡ key = ground.places.once e.place k.move.source key (subst (λ (q : LinkPlace). IsAt start.entries q k.move.source) place (move_at start.entries from to items k.move k.moves)) (is_at start.entries key e e.place at refl) in
-      out (k.move, k.moves, k.moves, same)
+      out (k.move, k.moves, same)
 
   -- and the other way round
-  not_given : (key : ℕ) (e : Entry) → entry_at start.entries key ≡ Some e → ¬ (IsGranted Used (map_place e.place)) → ¬ (IsGiven start from to items Moves key)
+  not_given : (key : ℕ) (e : Entry) → entry_at start.entries key ≡ Some e → ¬ (IsGranted Used (map_place e.place)) → ¬ (IsGiven start from to items key)
   not_given key e at out g =
       let s = stood g.0 g.1 in
-      let same : s.0 ≡ e = same_value (sym s.1 ∙ ap (entry_at start.entries) g.3 ∙ at) in
+      let same : s.0 ≡ e = same_value (sym s.1 ∙ ap (entry_at start.entries) g.2 ∙ at) in
       let used = used_of start ground.places ground.trees from to items g.0 g.1 in
       out (record {
         move = page_move start ground.places ground.trees from to items g.0 g.1;
@@ -134,25 +124,22 @@ module _ (start : Linked) (from to : ℕ) (items : List ItemMove) (ground : IsGr
   later_place key e at = go (entry_at now.entries key) refl
     where
       go : (o : Option Entry) → entry_at now.entries key ≡ o → (q : Place) × StandsAt Used (map_place e.place) q × (place_at now.entries key ≡ Some q)
-      go None none = absurd (decide (IsGiven start from to items Moves key) (λ d. elim d [
-        | inl g ↦ let k : ◌≡◌ {A = Option Entry} None (Some (handed_to start from to items g.0 g.1)) = sym none ∙ ap (entry_at now.entries) (sym g.3) ∙ handed.given g.0 g.1 g.1 in cc
+      go None none = absurd (decide (IsGiven start from to items key) (λ d. elim d [
+        | inl g ↦ let k : ◌≡◌ {A = Option Entry} None (Some (handed_to start from to items g.0 g.1)) = sym none ∙ ap (entry_at now.entries) (sym g.2) ∙ handed.given g.0 g.1 in cc
         | inr out ↦ let k : ◌≡◌ {A = Option Entry} None (Some e) = sym none ∙ handed.kept key e at out in cc
       ]))
       go (Some x) here = elim (handed.only key x here) [
         | inl n ↦
             let s = stood n.0 n.1 in
-            let same : s.0 ≡ e = same_value (sym s.1 ∙ ap (entry_at start.entries) n.3 ∙ at) in
+            let same : s.0 ≡ e = same_value (sym s.1 ∙ ap (entry_at start.entries) n.2 ∙ at) in
             let used = used_of start ground.places ground.trees from to items n.0 n.1 in (
               map_place n.0.target,
               inl (page_move start ground.places ground.trees from to items n.0 n.1, used, all_grant (page_move start ground.places ground.trees from to items n.0 n.1) used, ap map_place (sym s.3 ∙ ap (λ (y : Entry). y.place) same), refl),
-              ap (option_map {T = Entry} (λ y. map_place y.place)) here ∙ ap (λ (y : Entry). Some (map_place y.place)) n.4,
+              ap (option_map {T = Entry} (λ y. map_place y.place)) here ∙ ap (λ (y : Entry). Some (map_place y.place)) n.3,
             )
-        | inr other ↦ elim other [
-          | inl was ↦
-              let same : x ≡ e = same_value (sym was.0 ∙ at) in
-              (map_place e.place, inr (not_granted key e at was.1, refl), ap (option_map {T = Entry} (λ y. map_place y.place)) here ∙ ap (λ (y : Entry). Some (map_place y.place)) same)
-          | inr b ↦ absurd (b.2 b.1)
-        ]
+        | inr was ↦
+            let same : x ≡ e = same_value (sym was.0 ∙ at) in
+            (map_place e.place, inr (not_granted key e at was.1, refl), ap (option_map {T = Entry} (λ y. map_place y.place)) here ∙ ap (λ (y : Entry). Some (map_place y.place)) same)
       ]
 
   -- the parent of what stood under a key
@@ -172,13 +159,13 @@ module _ (start : Linked) (from to : ℕ) (items : List ItemMove) (ground : IsGr
       elim (handed.only u.key u.entry u.at) [
         | inl n ↦
             let s = stood n.0 n.1 in
-            let same : n.1.standing ≡ u.standing = same_value (ap (λ (e : Entry). e.stands) (sym n.4) ∙ u.stands) in
+            let same : n.1.standing ≡ u.standing = same_value (ap (λ (e : Entry). e.stands) (sym n.3) ∙ u.stands) in
             let mapping : mapping_of now.entries n.1.standing ≡ m = ap (mapping_of now.entries) same ∙ u.mapping in
             let used = used_of start ground.places ground.trees from to items n.0 n.1 in
             inl (record {
               move = page_move start ground.places ground.trees from to items n.0 n.1;
               used = used;
-              target = ap map_place (ap (λ (e : Entry). e.place) (sym n.4) ∙ u.place_is);
+              target = ap map_place (ap (λ (e : Entry). e.place) (sym n.3) ∙ u.place_is);
               frame = ap (λ (x : Mapping). x.frame) (sym mapping);
               rights = ap (λ (x : Mapping). x.rights) (sym mapping) ∙ sym (common_all n.1.standing.rights n.1.by.rights (handed.within n.0 n.1));
               parent = inr (
@@ -187,21 +174,18 @@ module _ (start : Linked) (from to : ℕ) (items : List ItemMove) (ground : IsGr
                     (parent_later n.0.source s.0 n.1.standing s.1 s.2 n.1.standing.parent refl),
               );
             })
-        | inr other ↦ elim other [
-          | inl was ↦
-              let place_is : map_place u.entry.place ≡ place = ap map_place u.place_is in
-              inr (record {
-                before = mapping_of start.entries u.standing;
-                at = ap (shown (mappings_of start)) (sym place_is) ∙ key_shows start ground.places u.key u.entry u.standing was.0 u.stands;
-                not_gone = none_gone place;
-                not_granted = subst (λ (q : Place). ¬ (IsGranted Used q)) place_is (not_granted u.key u.entry was.0 was.1);
-                frame = ap (λ (x : Mapping). x.frame) (sym u.mapping);
-                rights = ap (λ (x : Mapping). x.rights) (sym u.mapping);
-                parent = subst (λ (o : Option Place). ParentLater Used (option_and_then (place_at start.entries) u.standing.parent) o) (ap (λ (x : Mapping). x.parent) u.mapping)
-                    (parent_later u.key u.entry u.standing was.0 u.stands u.standing.parent refl);
-              })
-          | inr b ↦ absurd (b.2 b.1)
-        ]
+        | inr was ↦
+            let place_is : map_place u.entry.place ≡ place = ap map_place u.place_is in
+            inr (record {
+              before = mapping_of start.entries u.standing;
+              at = ap (shown (mappings_of start)) (sym place_is) ∙ key_shows start ground.places u.key u.entry u.standing was.0 u.stands;
+              not_gone = none_gone place;
+              not_granted = subst (λ (q : Place). ¬ (IsGranted Used q)) place_is (not_granted u.key u.entry was.0 was.1);
+              frame = ap (λ (x : Mapping). x.frame) (sym u.mapping);
+              rights = ap (λ (x : Mapping). x.rights) (sym u.mapping);
+              parent = subst (λ (o : Option Place). ParentLater Used (option_and_then (place_at start.entries) u.standing.parent) o) (ap (λ (x : Mapping). x.parent) u.mapping)
+                  (parent_later u.key u.entry u.standing was.0 u.stands u.standing.parent refl);
+            })
       ]
 
   shown_by_kind : (place : Place) (m : Mapping) → BecomesBy Used (mappings_of start) place m → (k : Mapping) × (shown (mappings_of now) place ≡ Some k)
@@ -210,7 +194,7 @@ module _ (start : Linked) (from to : ℕ) (items : List ItemMove) (ground : IsGr
       let k = key_of start ground.places ground.trees from to items w.move w.used in
       let target : map_place k.move.target ≡ place = ap map_place k.target ∙ w.target in (
         mapping_of now.entries k.moves.standing,
-        ap (shown (mappings_of now)) (sym target) ∙ key_shows now have k.move.source (handed_to start from to items k.move k.moves) k.moves.standing (handed.given k.move k.moves k.moves) refl,
+        ap (shown (mappings_of now)) (sym target) ∙ key_shows now have k.move.source (handed_to start from to items k.move k.moves) k.moves.standing (handed.given k.move k.moves) refl,
       )
   shown_by_kind place m (inr (inr s)) =
       let u = (shown_by_key start ground.places place s.before).0 s.at in
@@ -219,29 +203,6 @@ module _ (start : Linked) (from to : ℕ) (items : List ItemMove) (ground : IsGr
         mapping_of now.entries u.standing,
         ap (shown (mappings_of now)) (sym place_is) ∙ key_shows now have u.key u.entry u.standing (handed.kept u.key u.entry u.at out) u.stands,
       )
-
-  -- what a place becomes is shown there
-  some_shown : (place : Place) (m : Mapping) → Becomes Used (mappings_of start) place m → (k : Mapping) × (shown (mappings_of now) place ≡ Some k)
-  some_shown place m b = shown_by_kind place m (by_kind b)
-
-  moved_now : Moved Used (mappings_of start) (mappings_of now)
-  moved_now = record {
-    spaces = handed.spaces;
-    places = λ place m. (
-      becomes_of place m,
-      λ b.
-          let k = some_shown place m b in
-          k.1 ∙ ap (λ (x : Mapping). Some x) (becomes_one Used (mappings_of start) known free_now place k.0 m (becomes_of place k.0 k.1) b),
-    );
-  }
-
-  -- what is shown has a right
-  some_right : (place : Place) (m : Mapping) → shown (mappings_of now) place ≡ Some m → m.rights ≢ no_rights
-  some_right place m h none =
-      let u = (shown_by_key now have place m).0 h in
-      let p = clean_now u.key u.entry u.at in
-      let same : p.standing ≡ u.standing = same_value (sym p.stands ∙ u.stands) in
-      p.some_right (ap (λ (x : Standing). x.rights) same ∙ ap (λ (x : Mapping). x.rights) u.mapping ∙ none)
 
   -- as each granted page keeps its rights, nothing is cut
   none_cut : (place : Place) (right : Right) → ¬ (IsCut Used (mappings_of now) place right)
@@ -255,18 +216,13 @@ module _ (start : Linked) (from to : ℕ) (items : List ItemMove) (ground : IsGr
       let rights : c.move.shows.rights ≡ c.move.rights = ap (λ (x : Mapping). x.rights) (sym shows) ∙ sym all ∙ (λ i. common (shows i).rights (by i).rights) ∙ sym c.used.rights in
       c.lacks (subst (λ (r : RightsSet). IsTrue (has r right)) rights c.had)
 
-  cut_now : LosesRights (IsCut Used (mappings_of now)) (mappings_of now) (mappings_of now)
-  cut_now = record {
-    spaces = refl;
-    places = λ place m. (
-      λ at. (m, at, record { frame = refl; parent = refl; rights = λ right. (λ h. (h, none_cut place right), λ h. h.0); some_right = some_right place m at }),
-      λ h. h.1 ∙ ap (λ (x : Mapping). Some x) (left_same (IsCut Used (mappings_of now) place) h.0 m (none_cut place) h.2),
-    );
-  }
-
   pub granted_now : IsDelivered from to items start now
   granted_now = record {
-    delivers = record { middle = mappings_of now; moved = moved_now; cut = cut_now };
+    delivers = record {
+      middle = mappings_of now;
+      moved = moved_by Used (mappings_of start) (known_moves (mappings_of start) from to items there) free_now (mappings_of now) handed.spaces becomes_of shown_by_kind;
+      cut = cuts_none now have clean_now Used none_cut;
+    };
     free = free_now;
     clean = clean_now;
     roots = roots_now;

@@ -8,7 +8,6 @@ pub mod ForestKept
 pub mod ForestMoved
 pub mod Nothing
 pub mod Places
-pub mod Ranges
 pub mod RightsLeft
 pub mod Shrinking
 pub mod Single

@@ -13,8 +13,8 @@ use Rattle.l4_mapdb.specs.declared.Mapping.{Mapping}
 use Rattle.l4_mapdb.specs.declared.ItemMove.{ItemMove}
 use Rattle.l4_mapdb.specs.Mappings.{Mappings, shown, parent_of, child, further}
 use Rattle.l4_mapdb.specs.Transfer.{PageMove, IsGone, StandsAt, ParentLater, Becomes, Moved}
-use Rattle.l4_mapdb.proofs.Filled.{BecomesBy, by_kind}
-use Rattle.l4_mapdb.proofs.Single.{KnownMoves, one_grant, becomes_one}
+use Rattle.l4_mapdb.proofs.Filled.{BecomesBy}
+use Rattle.l4_mapdb.proofs.Single.{KnownMoves, one_grant, moved_by}
 use Rattle.l4_mapdb.proofs.ForestKept.{decide}
 use Rattle.l4_mapdb.proofs.UsedMoves.{known_moves}
 use Rattle.l4_mapdb.specs.View.{link_place, map_place, place_at, mapping_of, mappings_of}
@@ -301,18 +301,5 @@ module _ (start now : Linked) (from to : ℕ) (items : List ItemMove) (ready : I
       (λ g. x.not_granted (record { move = g.move; used = g.used; grant = g.grant; source = same_link g.move.source place (g.source ∙ u.place_is) })) in
       shows_key u.key (record u.entry { stands = Some (record u.standing { source = l.marked }) }) (record u.standing { source = l.marked }) place l.at u.place_is refl
 
-  -- what a place becomes stands there
-  some_shown : (place : Place) (m : Mapping) → Becomes Moves before_all place m → (k : Mapping) × (shown (mappings_of (settled now)) place ≡ Some k)
-  some_shown place m b = shown_by_kind place m (by_kind b)
-
   pub moved : Moved Moves before_all (mappings_of (settled now))
-  moved = record {
-    spaces = placed.spaces;
-    places = λ place m. (
-      becomes_of place m,
-      λ b.
-          let k = some_shown place m b in
-          let same : k.0 ≡ m = becomes_one Moves before_all known ready.free place k.0 m (becomes_of place k.0 k.1) b in
-          k.1 ∙ ap Some same,
-    );
-  }
+  moved = moved_by Moves before_all known ready.free (mappings_of (settled now)) placed.spaces becomes_of shown_by_kind

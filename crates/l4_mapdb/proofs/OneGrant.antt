@@ -10,7 +10,6 @@ use Rattle.l4_mapdb.specs.declared.ItemMove.{ItemMove}
 use Rattle.l4_mapdb.specs.declared.sources.UsedMove.{UsedMove}
 use Rattle.l4_mapdb.specs.Inside.Messages.{plain, IsMoved}
 use Rattle.l4_mapdb.specs.Inside.Growing.{IsGround}
-use Rattle.l4_mapdb.specs.Inside.Renewing.{blank_at}
 use Rattle.l4_mapdb.specs.Inside.Granting.{handed_to, IsGiven, Handed}
 use Rattle.l4_mapdb.proofs.Unique.{same_value}
 use Rattle.l4_mapdb.proofs.Moves.{stands_as}
@@ -106,20 +105,19 @@ module _ (start : Linked) (from to : ℕ) (items : List ItemMove) (ground : IsGr
         m.moved u.source s.entry s.at s.inside ∙ (λ i. Some (record { place = s.goes i; wanted = s.unwanted i; stands = s.stands i }))
 
     -- what no used move gives is at no page of the block
-    outside : (key : ℕ) (e : Entry) → entry_at start.entries key ≡ Some e → ¬ (IsGiven start from to items Moves key) → ¬ (IsInPages block_source block_end e.place)
-    outside key e at out h = let u = move_of key e at h (λ t. m.within key e t at h) in out (u.0, u.1, u.1, u.2)
+    outside : (key : ℕ) (e : Entry) → entry_at start.entries key ≡ Some e → ¬ (IsGiven start from to items key) → ¬ (IsInPages block_source block_end e.place)
+    outside key e at out h = let u = move_of key e at h (λ t. m.within key e t at h) in out (u.0, u.1, u.2)
 
     -- and the other way round
-    not_given : (key : ℕ) (e : Entry) → entry_at start.entries key ≡ Some e → ¬ (IsInPages block_source block_end e.place) → ¬ (IsGiven start from to items Moves key)
+    not_given : (key : ℕ) (e : Entry) → entry_at start.entries key ≡ Some e → ¬ (IsInPages block_source block_end e.place) → ¬ (IsGiven start from to items key)
     not_given key e at out g =
         let s = stood g.0 g.1 in
-        out (subst (λ (x : Entry). IsInPages block_source block_end x.place) (same_value (sym s.at ∙ ap (entry_at start.entries) g.3 ∙ at)) s.inside)
+        out (subst (λ (x : Entry). IsInPages block_source block_end x.place) (same_value (sym s.at ∙ ap (entry_at start.entries) g.2 ∙ at)) s.inside)
 
-    pub block_handed : Handed start from to items Moves now
+    pub block_handed : Handed start from to items now
     block_handed = record {
       spaces = spaces;
-      given = λ u used _. given u used;
-      waits = λ u used out. absurd (out used);
+      given = given;
       kept = λ key e at out. m.kept key e at (outside key e at out);
       only = λ key e here. (go key e here (entry_at start.entries key) refl);
       absent = λ u used key at. (let s = stood u used in m.absent u.source s.entry s.at s.inside key (subst (λ (p : LinkPlace). IsAt start.entries p key) (sym s.goes) at));
@@ -129,14 +127,13 @@ module _ (start : Linked) (from to : ℕ) (items : List ItemMove) (ground : IsGr
     }
       where
         go : (key : ℕ) (e : Entry) → entry_at now.entries key ≡ Some e → (o : Option Entry) → entry_at start.entries key ≡ o →
-            ((u : UsedMove) × (used : Moves u) × Moves u × (u.source ≡ key) × (e ≡ handed_to start from to items u used))
-            ⊎ (((entry_at start.entries key ≡ Some e) × ¬ (IsGiven start from to items Moves key)) ⊎ ((u : UsedMove) × Moves u × ¬ (Moves u) × (e ≡ blank_at u.target)))
+            ((u : UsedMove) × (used : Moves u) × (u.source ≡ key) × (e ≡ handed_to start from to items u used)) ⊎ ((entry_at start.entries key ≡ Some e) × ¬ (IsGiven start from to items key))
         go key e here None at = absurd (let w : ◌≡◌ {A = Option Entry} None (Some e) = sym (m.vacant key at) ∙ here in cc)
         go key e here (Some was) at = elim (decide_in block_source block_end was.place) [
           | inl h ↦
               let u = move_of key was at h (λ t. m.within key was t at h) in
-              inl (u.0, u.1, u.1, u.2, same_value (sym here ∙ ap (entry_at now.entries) (sym u.2) ∙ given u.0 u.1))
+              inl (u.0, u.1, u.2, same_value (sym here ∙ ap (entry_at now.entries) (sym u.2) ∙ given u.0 u.1))
           | inr out ↦
               let same : was ≡ e = same_value (sym (m.kept key was at out) ∙ here) in
-              inr (inl (at ∙ ap (λ (x : Entry). Some x) same, not_given key was at out))
+              inr (at ∙ ap (λ (x : Entry). Some x) same, not_given key was at out)
         ]

@@ -1,6 +1,5 @@
 -- One used move after another is carried out.
-use Rattle.std.proofs.Common.{◌≡◌, ◌≢◌, ℕ, true, false, List, Option, Some, None, option_and_then, option_map, ◌↔◌, ◌⊎◌, inl, inr, IsTrue, refl, sym, ap, ◌∙◌, subst, slice_get, ◌==◌, arith}
-use Rattle.std.proofs.lemmas.Bool.Decides.{nat_tests}
+use Rattle.std.proofs.Common.{◌≡◌, ◌≢◌, ℕ, true, false, List, Option, Some, None, option_and_then, option_map, ◌↔◌, ◌⊎◌, inl, inr, IsTrue, refl, sym, ap, ◌∙◌, subst, slice_get}
 use Rattle.l4_fpage.specs.Rights.{RightsSet, common}
 use Rattle.l4_nodes.specs.declared.Place.{Place as LinkPlace}
 use Rattle.l4_links.specs.declared.Standing.{Standing}
@@ -12,13 +11,7 @@ use Rattle.l4_mapdb.specs.Transfer.{PageMove}
 use Rattle.l4_mapdb.proofs.Single.{KnownMoves, one_target}
 use Rattle.l4_mapdb.specs.View.{link_place, mappings_of}
 use Rattle.l4_mapdb.specs.Inside.Placing.{IsStart, Used, blank_for, HasGone, HasChild, Placed}
-
--- numbers are the same or not
-pub same_or_not : (a b : ℕ) → (a ≡ b) ⊎ (a ≢ b)
-same_or_not a b = elim (a == b) as (λ v. (a == b) ≡ v → (a ≡ b) ⊎ (a ≢ b)) [
-  | true ↦ λ h. inl (grind (arith, nat_tests))
-  | false ↦ λ h. inr (grind (arith, nat_tests))
-] refl
+use Rattle.l4_mapdb.proofs.Deciding.{same_or}
 
 -- where something stands is no blank
 pub not_blank : (s : Entries) (a b : ℕ) (e f : Entry) (t : Standing) → entry_at s a ≡ Some e → entry_at s b ≡ Some f → e.stands ≡ Some t → f.stands ≡ None → a ≢ b
@@ -95,7 +88,7 @@ module _ (start : Linked) (from to : ℕ) (items : List ItemMove) where
               source = l.source;
               plain = l.plain;
             };
-        only = λ k e at. elim (same_or_not k key) [
+        only = λ k e at. elim (same_or k key) [
           | inl same ↦
               let both : Some e ≡ Some (record { place = link_place u.target; wanted = true; stands = Some child }) = sym at ∙ ap (entry_at new.entries) same ∙ here in
               let is : e ≡ record { place = link_place u.target; wanted = true; stands = Some child } = cc in
@@ -161,12 +154,12 @@ module _ (start : Linked) (from to : ℕ) (items : List ItemMove) where
               source = l.source;
               plain = l.plain;
             };
-        only = λ k e at. elim (same_or_not k source) [
+        only = λ k e at. elim (same_or k source) [
           | inl same ↦
               let both : Some e ≡ Some moved = sym at ∙ ap (entry_at new.entries) same ∙ here in
               let is : e ≡ moved = cc in
               inl (record { move = u; used = used; target = sym (ap (λ (x : Entry). x.place) is) })
-          | inr other ↦ elim (same_or_not k key) [
+          | inr other ↦ elim (same_or k key) [
             | inl same ↦ absurd (let z : ◌≡◌ {A = Option Entry} (Some e) None = sym at ∙ ap (entry_at new.entries) same ∙ s.gone in cc)
             | inr apart ↦ placed.only k e (sym (s.others k other apart) ∙ at)
           ]

@@ -154,10 +154,6 @@ module _ (old : Linked) (clean : IsClean old) (from to : ℕ) (items : List Item
     not_granted = λ key t stands. marks.not_granted key t (sym (wants_stands (IsFilled (IsMoved a from to items)) (entry_at a key) (entry_at b key) (wants key)) ∙ stands);
   }
 
-  pub sources_wanted : (a b : Entries) → ((key : ℕ) → Wants (IsFilled (IsMoved a from to items)) (entry_at a key) (entry_at b key)) → ((m : UsedMove) → Used m → IsSource a m.source) → (m : UsedMove) → Used m → IsSource b m.source
-  sources_wanted a b wants sources m used =
-      ap (option_map (λ (x : Standing). x.source)) (wants_stands (IsFilled (IsMoved a from to items)) (entry_at a m.source) (entry_at b m.source) (wants m.source)) ∙ sources m used
-
   -- the sources are those that are marked
   pub sources_are : (a : Entries) → Marks Used old.entries a → ((m : UsedMove) → Used m → IsSource a m.source) → SourcesAre (IsMoved a from to items) a
   sources_are a marks sources = record {
@@ -209,7 +205,7 @@ module _ (a b : Entries) (alike : StandAlike a b) (from to : ℕ) (items : List 
   alike_clashes m (inl f) = inl (record { other = f.other; used = moved_alike a b from to items alike f.other f.used; differ = f.differ; target = f.target })
   alike_clashes m (inr g) = inr (g.0, record { other = g.1.other; used = moved_alike a b from to items alike g.1.other g.1.used; differ = g.1.differ; page_is = g.1.page_is })
 
-  alike_tangles : (m : UsedMove) → Tangles (IsMoved b from to items) b m → Tangles (IsMoved a from to items) a m
+  pub alike_tangles : (m : UsedMove) → Tangles (IsMoved b from to items) b m → Tangles (IsMoved a from to items) a m
   alike_tangles m (inl clash) = inl (alike_clashes m clash)
   alike_tangles m (inr r) =
       let k = alike_at a b alike m.target r.key r.at r.stands in

@@ -1,5 +1,5 @@
 -- Sources are marked and targets wanted, one used move after another.
-use Rattle.std.proofs.Common.{◌≡◌, ℕ, ◌+◌, ◌<◌, Bool, true, false, ◌||◌, List, Option, Some, None, option_and_then, option_map, refl, sym, ap, ◌∙◌, subst, inl, inr}
+use Rattle.std.proofs.Common.{◌≡◌, ℕ, ◌+◌, ◌<◌, true, false, List, Option, Some, None, option_and_then, option_map, refl, sym, ap, ◌∙◌, subst, inl, inr}
 use Rattle.l4_nodes.specs.declared.Place.{Place as LinkPlace}
 use Rattle.l4_links.specs.declared.Standing.{Standing}
 use Rattle.l4_links.specs.declared.Entry.{Entry}
@@ -17,11 +17,6 @@ use Rattle.l4_mapdb.proofs.Marking.{by_key, moved_alike, moved_still, marks_sour
 use Rattle.l4_mapdb.proofs.Rooming.{wants_on, wanted_on}
 use Rattle.l4_mapdb.proofs.Restored.{marks_wanted, marks_same, wants_stands, alike_at, tangle_alike}
 use Rattle.l4_mapdb.proofs.Prepared.{clean_at, leads_stands}
-
--- two that are not, one after another
-pub neither : (a b : Bool) → a || b ≡ false → (a ≡ false) × (b ≡ false)
-neither false b h = (refl, h)
-neither true b h = absurd (let k : true ≡ false = h in cc)
 
 -- what is wanted is so once a source is marked
 wanted_sourced : (key : ℕ) (old new : Entries) (place : LinkPlace) → SetsSource key true old new → IsWanted old place → IsWanted new place

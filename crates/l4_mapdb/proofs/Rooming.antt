@@ -1,17 +1,13 @@
 -- Targets are wanted one after another.
-use Rattle.std.proofs.Common.{◌≡◌, ℕ, ◌+◌, ◌<◌, ◌≤◌, ◌^◌, true, List, Option, Some, None, IsTrue, option_map, refl, sym, ap, ◌∙◌, subst, inl, inr, arith}
+use Rattle.std.proofs.Common.{◌≡◌, ℕ, true, Option, Some, None, option_map, refl, sym, ap, ◌∙◌, inl, inr}
 use Rattle.std.specs.FinSet as set
-use Rattle.std.specs.Ordering.{nat_cmp}
 use Rattle.l4_nodes.specs.declared.Place.{Place as LinkPlace}
 use Rattle.l4_links.specs.declared.Entry.{Entry}
 use Rattle.l4_links.specs.Entries.{Entries, entry_at, IsAt, AddsBlank, SetsWanted}
-use Rattle.l4_mapdb.specs.declared.ItemMove.{ItemMove}
 use Rattle.l4_mapdb.proofs.Unique.{same_value}
-use Rattle.l4_mapdb.specs.declared.sources.UsedMove.{UsedMove}
-use Rattle.l4_mapdb.specs.Inside.Messages.{StandAlike, IsMoved, IsWanted, Wants}
+use Rattle.l4_mapdb.specs.Inside.Messages.{StandAlike, IsWanted, Wants}
 use Rattle.l4_mapdb.proofs.Moves.{entry_of}
 use Rattle.l4_mapdb.proofs.Marking.{by_key, stand_in}
-use Rattle.l4_fpage.specs.Pages.{most_pages}
 
 -- the entry of a key is noted as wanted
 pub wants_found : (place : LinkPlace) (key : ℕ) (old new : Entries) → IsAt old place key → SetsWanted key true old new → (k : ℕ) → Wants (λ p. p ≡ place) (entry_at old k) (entry_at new k)
@@ -73,21 +69,3 @@ pub wanted_on : (A : LinkPlace → Type 0) (old new : Entries) (place : LinkPlac
 wanted_on A old new place wants w =
     let f = still_wanted A (entry_at old w.key) (entry_at new w.key) w.entry (wants w.key) w.at w.wanted in
     record { key = w.key; entry = f.0; at = f.1; place_is = f.2 ∙ w.place_is; wanted = f.3 }
-
--- a key stays its page's
-still_at : (A : LinkPlace → Type 0) (o n : Option Entry) (place : LinkPlace) → Wants A o n → option_map {T = Entry} (λ e. e.place) o ≡ Some place → option_map {T = Entry} (λ e. e.place) n ≡ Some place
-still_at A o n place (inl same) at = ap (option_map {T = Entry} (λ e. e.place)) same ∙ at
-still_at A o n place (inr (inl w)) at = ap (option_map {T = Entry} (λ e. e.place)) w.3 ∙ sym (ap (option_map {T = Entry} (λ e. e.place)) w.1) ∙ at
-still_at A o n place (inr (inr w)) at = absurd (let k : ◌≡◌ {A = Option LinkPlace} None (Some place) = sym (ap (option_map {T = Entry} (λ e. e.place)) w.1) ∙ at in cc)
-
-pub at_on : (A : LinkPlace → Type 0) (old new : Entries) (place : LinkPlace) (key : ℕ) → ((k : ℕ) → Wants A (entry_at old k) (entry_at new k)) → IsAt old place key → IsAt new place key
-at_on A old new place key wants here = still_at A (entry_at old key) (entry_at new key) place (wants key) here
-
--- the target of a used move lies in its space
-pub target_fits : (s : Entries) (from to : ℕ) (items : List ItemMove) (m : UsedMove) → IsMoved s from to items m → m.target.page < most_pages
-target_fits s from to items m used = let f : used.by.mv.target.first + 2 ^ used.by.mv.source.log ≤ most_pages = rw used.by.mv.same_size used.by.mv.target.block.inside in let p = used.pages.within in let q = used.pages.target_is in omega arith
-
--- and in a space that is there
-pub there_still : (from to : ℕ) (items : List ItemMove) (cur : Entries) (old new : set.FinSet nat_cmp) (m : UsedMove) → IsMoved cur from to items m → new ≡ old → IsTrue (set.contains old to) → IsTrue (set.contains new m.target.space)
-there_still from to items cur old new m used spaces there =
-    subst (λ (s : set.FinSet nat_cmp). IsTrue (set.contains s m.target.space)) (sym spaces) (subst (λ (n : ℕ). IsTrue (set.contains old n)) (sym used.to_space) there)

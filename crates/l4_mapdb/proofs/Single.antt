@@ -6,7 +6,7 @@ use Rattle.l4_fpage.specs.Rights.{no_rights, Within}
 use Rattle.l4_mapdb.specs.declared.Place.{Place}
 use Rattle.l4_mapdb.specs.declared.Mapping.{Mapping}
 use Rattle.l4_mapdb.specs.Mappings.{Mappings, shown}
-use Rattle.l4_mapdb.specs.Transfer.{PageMove, IsEntangled, IsGone, StandsAt, ParentLater, Becomes}
+use Rattle.l4_mapdb.specs.Transfer.{PageMove, IsEntangled, IsGone, StandsAt, ParentLater, Becomes, Moved}
 use Rattle.l4_mapdb.proofs.EntriesLemmas.{decided}
 use Rattle.l4_mapdb.proofs.Filled.{BecomesBy, by_kind}
 use Rattle.l4_fpage.specs.Pages.{most_pages}
@@ -52,7 +52,7 @@ module _ (Used : PageMove → Type 0) (old : Mappings) (known : KnownMoves Used 
   same_mapping a b f r p = λ i. record { frame = f i; rights = r i; parent = p i }
 
   -- a present target is gone
-  target_gone : (u : PageMove) → Used u → (q : Place) (b : Mapping) → u.target ≡ q → shown old q ≡ Some b → IsGone Used old q
+  pub target_gone : (u : PageMove) → Used u → (q : Place) (b : Mapping) → u.target ≡ q → shown old q ≡ Some b → IsGone Used old q
   target_gone u a q b e at = record { move = u; used = a; present = ap is_some (ap (shown old) e ∙ at); below = inl (sym e) }
 
   one_by_kind : (q : Place) (a b : Mapping) → BecomesBy Used old q a → BecomesBy Used old q b → a ≡ b
@@ -87,6 +87,13 @@ module _ (Used : PageMove → Type 0) (old : Mappings) (known : KnownMoves Used 
       (x.rights ∙ ap (λ (v : Mapping). v.rights) e ∙ sym y.rights)
       (one_parent y.before.parent a.parent b.parent (subst (λ (p : Option Place). ParentLater Used p a.parent) (ap (λ (v : Mapping). v.parent) e) x.parent) y.parent)
 
-  -- what a place becomes is one mapping
-  pub becomes_one : (q : Place) (a b : Mapping) → Becomes Used old q a → Becomes Used old q b → a ≡ b
-  becomes_one q a b x y = one_by_kind q a b (by_kind x) (by_kind y)
+  -- what a place becomes is one mapping, so it is enough that places show what they become, and that what becomes something shows something
+  pub moved_by : (new : Mappings) → new.spaces ≡ old.spaces → ((q : Place) (m : Mapping) → shown new q ≡ Some m → Becomes Used old q m)
+      → ((q : Place) (m : Mapping) → BecomesBy Used old q m → (k : Mapping) × (shown new q ≡ Some k)) → Moved Used old new
+  moved_by new spaces becomes shows = record {
+    spaces = spaces;
+    places = λ q m. (
+      becomes q m,
+      λ b. let k = shows q m (by_kind b) in k.1 ∙ ap (λ (x : Mapping). Some x) (one_by_kind q k.0 m (by_kind (becomes q k.0 k.1)) (by_kind b)),
+    );
+  }

@@ -1,5 +1,5 @@
 -- The targets of a message get keys, one after another.
-use Rattle.std.proofs.Common.{◌≡◌, ◌≢◌, ℕ, ◌+◌, ◌<◌, ◌⊎◌, List, Option, Some, None, refl, sym, ap, ◌∙◌, subst, inl, inr, arith}
+use Rattle.std.proofs.Common.{◌≡◌, ◌≢◌, ℕ, ◌+◌, ◌<◌, ◌⊎◌, List, Option, Some, None, refl, sym, ap, ◌∙◌, subst, inl, inr}
 use Rattle.std.proofs.lemmas.Bool.{false≢true}
 use Rattle.l4_nodes.specs.declared.Place.{Place as LinkPlace}
 use Rattle.l4_links.specs.declared.Standing.{Standing}
@@ -100,15 +100,6 @@ module _ (start : Linked) (from to : ℕ) (items : List ItemMove) (ground : IsGr
     -- as nothing is said of moves that are done
     pub spaced_barred : Spaced start from to items (λ _. ⊥) now
     spaced_barred = record { spaces = spaced.spaces; kept = spaced.kept; only = spaced.only; there = λ m used no. absurd no; leaf = λ m used no. absurd no }
-
-  pub none_spaced : Spaced start from to items (Earlier 0) start
-  none_spaced = record {
-    spaces = refl;
-    kept = λ key e at. at;
-    only = λ key e at. inl at;
-    there = λ m used lt. absurd (omega (arith, lt));
-    leaf = λ m used lt. absurd (omega (arith, lt));
-  }
 
   module _ (now : Linked) (next : ℕ) (u : UsedMove) (is : IsNextMove now.entries from to items next u) (have : HavePlaces now) (spaced : Spaced start from to items (Earlier next) now) where
     here : Used u

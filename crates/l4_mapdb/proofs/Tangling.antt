@@ -12,9 +12,9 @@ use Rattle.l4_mapdb.proofs.Unique.{same_value}
 use Rattle.l4_mapdb.specs.declared.sources.UsedMove.{UsedMove}
 use Rattle.l4_mapdb.specs.Inside.Messages.{StandAlike, IsMoved}
 use Rattle.l4_mapdb.specs.Inside.Tangles.{Replaces, IsTaken, Clashes, ClashesWith, Tangles, TanglesFrom, HasTangle, AboveSource, SourcesAre}
-use Rattle.l4_mapdb.proofs.Leading.{leads_along}
 use Rattle.l4_mapdb.proofs.Moves.{one_by, move_item, is_at, entry_of}
 use Rattle.l4_mapdb.proofs.Marking.{by_key, moved_alike, moved_still, source_of}
+use Rattle.l4_mapdb.proofs.Restored.{alike_tangles}
 
 module _ (s : Entries) (from to : ℕ) (items : List ItemMove) where
   abbrev Used : UsedMove → Type 0
@@ -297,9 +297,6 @@ module _ (a b : Entries) (same : (key : ℕ) → entry_at b key ≡ entry_at a k
   same_standing : (key : ℕ) → standing_at b key ≡ standing_at a key
   same_standing key = ap (option_and_then (λ (e : Entry). e.stands)) (same key)
 
-  same_descends : (low high : ℕ) → Descends b low high → Descends a low high
-  same_descends low high = leads_along (parent_of b) (parent_of a) (λ k. ap (option_and_then (λ (t : Standing). t.parent)) (same_standing k))
-
   pub same_sources : SourcesAre (IsMoved a from to items) a → SourcesAre (IsMoved b from to items) b
   same_sources are = record {
     marked = λ m used. ap (option_map (λ (t : Standing). t.source)) (same_standing m.source) ∙ are.marked m (same_moved m used);
@@ -308,20 +305,8 @@ module _ (a b : Entries) (same : (key : ℕ) → entry_at b key ≡ entry_at a k
         (u.0, same_moves u.0 u.1, u.2);
   }
 
-  same_clashes : (m : UsedMove) → Clashes (IsMoved b from to items) m → Clashes (IsMoved a from to items) m
-  same_clashes m (inl f) = inl (record { other = f.other; used = same_moved f.other f.used; differ = f.differ; target = f.target })
-  same_clashes m (inr g) = inr (g.0, record { other = g.1.other; used = same_moved g.1.other g.1.used; differ = g.1.differ; page_is = g.1.page_is })
-
   pub same_tangles : (m : UsedMove) → Tangles (IsMoved b from to items) b m → Tangles (IsMoved a from to items) a m
-  same_tangles m (inl clash) = inl (same_clashes m clash)
-  same_tangles m (inr r) = inr (record {
-    key = r.key;
-    at = ap (option_map {T = Entry} (λ e. e.place)) (sym (same r.key)) ∙ r.at;
-    stands = λ none. r.stands (same_standing r.key ∙ none);
-    other = r.other;
-    used = same_moved r.other r.used;
-    above = elim r.above [ inl e ↦ inl e | inr d ↦ inr (same_descends r.other.source r.key d) ];
-  })
+  same_tangles = alike_tangles a b same_alike from to items
 
 pub tangles_same : (a b : Entries) → ((key : ℕ) → entry_at b key ≡ entry_at a key) → (from to : ℕ) (items : List ItemMove) (m : UsedMove) → Tangles (IsMoved a from to items) a m → Tangles (IsMoved b from to items) b m
 tangles_same a b same from to items m t = same_tangles b a (λ k. sym (same k)) from to items m t

@@ -27,9 +27,7 @@ fn grant_block(links: &mut Links, from: u64, to: u64, items: &[ItemMove]) -> Res
     requires there { IsTrue (set.contains links.old.spaces to) }
     ensures apart { IfOk result (λ handed. handed ≡ true → AreApart items.now (length items.now)) }
     ensures handed { IfOk result
-        (λ handed. handed ≡ true
-        → Handed links.old from to items.now (IsMoved links.old.entries from to items.now)
-        links.new) }
+        (λ handed. handed ≡ true → Handed links.old from to items.now links.new) }
     ensures left { IfOk result (λ handed. handed ≡ false → links.new ≡ links.old) }
     ensures err { OnErr result (links.new ≡ links.old) }
     ensures lacks { OnErr result

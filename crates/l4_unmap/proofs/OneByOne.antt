@@ -12,11 +12,11 @@ use Rattle.l4_mapdb.specs.Mappings.{Mappings, IsForest}
 use Rattle.l4_unmap.specs.Unmap.{UnmapReads, LosesTo, Unmaps}
 use Rattle.l4_unmap.specs.Inside.Taking.{GoesWith, Takes, BlockNames}
 use Rattle.l4_mapdb.proofs.Nothing.{loses_none}
-use Rattle.l4_mapdb.proofs.Ranges.{loses_along}
 use Rattle.l4_unmap.proofs.Together.{loses_both}
 use Rattle.l4_unmap.proofs.Under.{under_kept, under_was}
 use Rattle.l4_unmap.proofs.UnmapKeeps.{unmaps_keep}
 use Rattle.l4_fpage.specs.declared.sizes.PageSize.{PageSize}
+use Rattle.l4_mapdb.proofs.Along.{loses_along}
 
 -- one fpage alone
 only_one : (fpage other : Fpage) → Contains (fpage ∷ []) other → fpage ≡ other

@@ -4,7 +4,7 @@ use Rattle.l4_fpage.specs.Rights.{RightsSet}
 use Rattle.l4_mapdb.specs.Mappings.{Mappings}
 use Rattle.l4_forest.specs.Losing.{RevokedInBlock, RevokesBlock}
 use Rattle.l4_unmap.specs.Inside.Taking.{GoesWith, Takes, BlockNames}
-use Rattle.l4_mapdb.proofs.Ranges.{loses_along}
+use Rattle.l4_mapdb.proofs.Along.{loses_along}
 
 -- a revocation over a block takes what its pages are named with
 pub takes_pages : (space first log : ℕ) (rights : RightsSet) (own : Bool) (old new : Mappings) → RevokesBlock space first log rights own old new → Takes (BlockNames first log rights) space own old new

@@ -7,7 +7,6 @@ use Rattle.l4_mapdb.specs.declared.ItemMove.{ItemMove}
 use Rattle.l4_mapdb.specs.declared.sources.UsedMove.{UsedMove}
 use Rattle.l4_mapdb.specs.Inside.Messages.{IsMoved}
 use Rattle.l4_mapdb.specs.Inside.Growing.{AreOfKind}
-use Rattle.l4_mapdb.specs.Inside.Renewing.{blank_at}
 
 -- each item grants
 abbrev pub AreGrants : List ItemMove → Type 0
@@ -21,19 +20,17 @@ module _ (start : Linked) (from to : ℕ) (items : List ItemMove) where
   abbrev pub handed_to : (move : UsedMove) → Moves move → Entry
   handed_to move used = record { place = move.target; wanted = false; stands = Some used.standing }
 
-  -- a used move that is done is out of what stands under the key
-  abbrev pub IsGiven : (UsedMove → Type 0) → ℕ → Type 0
-  IsGiven Done key = (move : UsedMove) × Moves move × Done move × (move.source ≡ key)
+  -- a used move is out of what stands under the key
+  abbrev pub IsGiven : ℕ → Type 0
+  IsGiven key = (move : UsedMove) × Moves move × (move.source ≡ key)
 
-  -- The pages of the used moves that are done stand at their targets under their own keys, blanks wait for the others, and else nothing has changed.
-  -- No target had a key, and no page has other rights than its item.
-  pub record Handed (Done : UsedMove → Type 0) (now : Linked) : Type 0 where
+  -- The pages of the used moves stand at their targets under their own keys, and else nothing has changed. No target had a key, and no page has
+  -- other rights than its item.
+  pub record Handed (now : Linked) : Type 0 where
     pub spaces : now.spaces ≡ start.spaces
-    pub given : (move : UsedMove) (used : Moves move) → Done move → entry_at now.entries move.source ≡ Some (handed_to move used)
-    pub waits : (move : UsedMove) → Moves move → ¬ (Done move) → (key : ℕ) × (entry_at now.entries key ≡ Some (blank_at move.target))
-    pub kept : (key : ℕ) (e : Entry) → entry_at start.entries key ≡ Some e → ¬ (IsGiven Done key) → entry_at now.entries key ≡ Some e
+    pub given : (move : UsedMove) (used : Moves move) → entry_at now.entries move.source ≡ Some (handed_to move used)
+    pub kept : (key : ℕ) (e : Entry) → entry_at start.entries key ≡ Some e → ¬ (IsGiven key) → entry_at now.entries key ≡ Some e
     pub only : (key : ℕ) (e : Entry) → entry_at now.entries key ≡ Some e →
-        ((move : UsedMove) × (used : Moves move) × Done move × (move.source ≡ key) × (e ≡ handed_to move used))
-        ⊎ (((entry_at start.entries key ≡ Some e) × ¬ (IsGiven Done key)) ⊎ ((move : UsedMove) × Moves move × ¬ (Done move) × (e ≡ blank_at move.target)))
+        ((move : UsedMove) × (used : Moves move) × (move.source ≡ key) × (e ≡ handed_to move used)) ⊎ ((entry_at start.entries key ≡ Some e) × ¬ (IsGiven key))
     pub absent : (move : UsedMove) → Moves move → (key : ℕ) → ¬ (IsAt start.entries move.target key)
     pub within : (move : UsedMove) (used : Moves move) → Within used.standing.rights used.by.rights

@@ -1,4 +1,4 @@
-use Rattle.std.proofs.Common.{◌≡◌, ℕ, sym, ◌∙◌}
+use Rattle.std.proofs.Common.{◌≡◌, ℕ, sym, ◌∙◌, IsTrue, subst}
 use Rattle.l4_links.specs.Entries.{entry_at}
 use Rattle.l4_mapdb.specs.Delivering.{IsClean}
 use Rattle.l4_mapdb.specs.Inside.Growing.{IsGround}
@@ -7,13 +7,15 @@ use Rattle.l4_mapdb.proofs.RoomMade.{lacks_same, lacks_still}
 use Rattle.l4_mapdb.proofs.Unchanged.{unchanged}
 use Rattle.l4_mapdb.proofs.Grown.{delivered_now, delivered_same}
 use Rattle.l4_mapdb.proofs.maps.deliver_maps.Goals.{After-grow_children, After-take_places}
+use Rattle.std.specs.Ordering.{nat_cmp}
 use Rattle.l4_mapdb.proofs.maps.deliver_maps.Goals as goal
+use Rattle.std.specs.FinSet as set
 
 ground : (c : goal.After-grow_children) → IsGround c.args.links.now c.args.from c.args.to
 ground c = record { places = c.law_places.ensures; trees = c.law_trees.ensures; clean = c.requires.clean; apart = c.only_of_kind.ensures.apart c.if-not-only_of_kind.false }
 
 pub returns-in_default-clause-done : goal.returns-in_default-clause-done
-returns-in_default-clause-done c = λ _. delivered_now c.args.links.now c.args.from c.args.to c.args.items.now (ground (goal.at.returns-in_default-clause-done c).After-grow_children) (c.only_of_kind.ensures.kind c.if-not-only_of_kind.false) c.grow_children.new.links
+returns-in_default-clause-done c = λ _. delivered_now c.args.links.now c.args.from c.args.to c.args.items.now (ground (goal.at.returns-in_default-clause-done c).After-grow_children) c.requires.there (c.only_of_kind.ensures.kind c.if-not-only_of_kind.false) c.grow_children.new.links
     c.in_default.ensures.ok c.law_places-in_default.ensures
 
 pub refusal-requires : goal.refusal-requires
@@ -35,7 +37,8 @@ pub returns-in_default-take_places-clause-done : goal.returns-in_default-take_pl
 returns-in_default-take_places-clause-done c = λ _.
     delivered_same c.args.from c.args.to c.args.items.now c.args.links.now c.grow_children.new.links c.take_places.new.links
     (unchanged c.args.links.now c.grow_children.new.links c.law_places.ensures c.law_places-2.ensures c.grow_children.ensures.spaces c.in-Err.ensures.err) c.in-Err.ensures.err
-    (delivered_now c.grow_children.new.links c.args.from c.args.to c.args.items.now (again (goal.at.returns-in_default-take_places-clause-done c).After-take_places) (c.only_of_kind.ensures.kind c.if-not-only_of_kind.false) c.take_places.new.links
+    (delivered_now c.grow_children.new.links c.args.from c.args.to c.args.items.now (again (goal.at.returns-in_default-take_places-clause-done c).After-take_places)
+    (subst (λ (s : set.FinSet nat_cmp). IsTrue (set.contains s c.args.to)) (sym c.grow_children.ensures.spaces) c.requires.there) (c.only_of_kind.ensures.kind c.if-not-only_of_kind.false) c.take_places.new.links
     c.in_default-take_places.ensures.ok c.law_places-in_default-take_places.ensures)
 
 -- all is as before after both

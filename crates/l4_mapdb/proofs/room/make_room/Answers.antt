@@ -2,7 +2,8 @@ use Rattle.std.proofs.Common.{ℕ, refl, ◌∙◌, arith}
 use Rattle.l4_links.specs.Entries.{IsAt, IsSource}
 use Rattle.l4_mapdb.specs.Inside.Messages.{IsMoved, IsWanted, turn_in}
 use Rattle.l4_mapdb.proofs.Marking.{clean_marks, turn_all}
-use Rattle.l4_mapdb.proofs.RoomMade.{neither, step_used, step_marks, step_sources, step_wanted, step_lacks, step_absent}
+use Rattle.l4_mapdb.proofs.RoomMade.{step_used, step_marks, step_sources, step_wanted, step_lacks, step_absent}
+use Rattle.l4_mapdb.proofs.Apart.{either_no}
 use Rattle.l4_mapdb.proofs.room.make_room.Goals as goal
 
 pub loop-used-init : goal.loop-used-init
@@ -54,7 +55,7 @@ loop-used-preserved c =
           (turn_in c.loop-used.moves) c.in-Some.used c.in-Some.ensures.gives c.set_source.ensures.sets c.want_page.ensures.wants c.loop-used.invariant.marks c.loop-used.invariant.sources;
       wanted = step_wanted c.args.links.now c.requires.clean c.args.from c.args.to c.args.items.now c.law_places.ensures c.loop-used.links.entries c.set_source.new.self.entries c.want_page.new.links.entries
           (turn_in c.loop-used.moves) c.in-Some.used c.in-Some.ensures.gives c.set_source.ensures.sets c.want_page.ensures.wants c.loop-used.invariant.marks c.in-Ok.ensures.ok c.loop-used.invariant.wanted;
-      absent = λ none. let n = neither c.loop-used.had c.in-Ok.here none in
+      absent = λ none. let n = either_no c.loop-used.had c.in-Ok.here none in
           step_absent c.args.links.now c.requires.clean c.args.from c.args.to c.args.items.now c.law_places.ensures c.loop-used.links.entries c.set_source.new.self.entries c.want_page.new.links.entries
           (turn_in c.loop-used.moves) c.in-Some.used c.in-Some.ensures.gives c.set_source.ensures.sets c.want_page.ensures.wants c.loop-used.invariant.marks (c.in-Ok.ensures.had n.1) (c.loop-used.invariant.absent n.0);
       spaces = c.want_page.ensures.spaces ∙ c.set_source.ensures.spaces ∙ c.loop-used.invariant.spaces;
