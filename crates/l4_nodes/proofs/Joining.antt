@@ -1,5 +1,5 @@
 -- What is read of the slots and of what is noted beside them, and what a write to one key does.
-use Rattle.std.proofs.Common.{◌≡◌, ◌≢◌, ℕ, zero, suc, ◌+◌, ◌<◌, ◌≤◌, Bool, true, false, if◌then◌else◌, List, [], ◌∷◌, ◌++◌, drop, length, slice_index_or, slice_set, Option, Some, None, is_some, cond, count_by, arith, refl, sym, ap, ◌∙◌, subst, inl, inr}
+use Rattle.std.proofs.Common.{◌≡◌, ◌≢◌, ℕ, zero, suc, ◌+◌, ◌<◌, ◌≤◌, Bool, true, false, if◌then◌else◌, List, [], ◌∷◌, drop, length, slice_index_or, slice_set, Option, Some, None, is_some, cond, count_by, arith, refl, sym, ap, ◌∙◌, subst, inl, inr}
 use Rattle.std.proofs.lemmas.Bool.{cases_eq, cases_lt}
 use Rattle.std.proofs.lemmas.List.{get_or-set_same, get_or-set_other, get_or_past}
 use Rattle.std.proofs.lemmas.List.Sums.{sum_by-cons}
@@ -11,13 +11,6 @@ use Rattle.l4_nodes.specs.declared.slots.Note.{Note}
 use Rattle.l4_nodes.specs.Slots.{Slots, Spot, slot_at, node_at, spots, spot_of, unnoted, Writes, SetsNext, SetsPrev}
 use Rattle.l4_nodes.specs.Inside.Packed.{no_note, notes_shown, node_shown, slot_shown, with_node, Turns}
 use Rattle.l4_nodes.specs.Inside.Joined.{note_of, joined}
-
--- a note of nothing behind the end is read as nothing behind the end
-pub noted_grown : (notes : List Note) (key : ℕ) → slice_index_or (notes ++ no_note ∷ []) key no_note ≡ slice_index_or notes key no_note
-noted_grown [] zero = refl
-noted_grown [] (suc key) = refl
-noted_grown (note ∷ notes) zero = refl
-noted_grown (note ∷ notes) (suc key) = noted_grown notes key
 
 -- what is noted behind the first
 after : (notes : List Note) (key : ℕ) → note_of (drop 1 notes) key ≡ note_of notes (suc key)

@@ -1,11 +1,10 @@
 -- A table that is filled place by place, and spaces that are copied one by one.
-use Rattle.std.proofs.Common.{◌≡◌, ℕ, ◌+◌, ◌<◌, ◌≤◌, cond, nat_eq, List, [], ◌∷◌, length, replicate, slice_index_or, slice_set, Option, None, Some, refl, sym, ap, ◌∙◌, subst, inl, inr, arith}
+use Rattle.std.proofs.Common.{◌≡◌, ℕ, ◌<◌, ◌≤◌, cond, nat_eq, List, [], ◌∷◌, length, slice_index_or, Option, None, refl, sym, ap, ◌∙◌, subst, arith}
 use Rattle.std.specs.List.{AllZip}
-use Rattle.std.proofs.lemmas.Bool.{cases_eq, cases_lt}
-use Rattle.std.proofs.lemmas.List.{get_or-set_same, get_or-set_other, length-set, get_or_default, get_or_past, get_or-replicate, length-replicate, same_lists}
+use Rattle.std.proofs.lemmas.List.{get_or_default, same_lists}
 use Rattle.l4_spaces.specs.Tables.{space_tables}
 use Rattle.l4_spaces.specs.Rows.{Rows, entry, is_made, AreWhole}
-use Rattle.l4_spaces.specs.Inside.Seen.{Space, Live, numbers, has, tables_of, shown, IsLaid}
+use Rattle.l4_spaces.specs.Inside.Seen.{Space, Live, numbers, tables_of, shown, IsLaid}
 use Rattle.l4_spaces.proofs.Listing.{same_shown}
 use Rattle.l4_spaces.proofs.Showing.{once_same}
 
@@ -14,39 +13,6 @@ pub record IsFilled (keys copy : List (Option ℕ)) (n : ℕ) : Type 0 where
   pub long : length copy ≡ length keys
   pub done : (i : ℕ) → i < n → slice_index_or copy i None ≡ slice_index_or keys i None
   pub left : (i : ℕ) → n ≤ i → slice_index_or copy i None ≡ None
-
-pub filled_none : (keys copy : List (Option ℕ)) → copy ≡ replicate (length keys) None → IsFilled keys copy 0
-filled_none keys copy is = record {
-  long = ap length is ∙ length-replicate (length keys) None;
-  done = λ i lt. absurd (omega arith);
-  left = λ i _. ap (λ (z : List (Option ℕ)). slice_index_or z i None) is ∙ absent (length keys) i;
-}
-  where
-    absent : (n k : ℕ) → slice_index_or (replicate {A = Option ℕ} n None) k None ≡ None
-    absent n k = elim (cases_lt k n) [
-      | inl lt ↦ get_or-replicate n k None None lt
-      | inr le ↦ get_or_past (replicate n None) k None (let l : length (replicate {A = Option ℕ} n None) ≡ n = length-replicate n None in omega (arith, l, le))
-    ]
-
-pub filled_key : (keys copy new : List (Option ℕ)) (n key : ℕ) → n < length keys → Some key ≡ slice_index_or keys n None → new ≡ slice_set copy n (Some key) → IsFilled keys copy n → IsFilled keys new (n + 1)
-filled_key keys copy new n key lt has is f = record {
-  long = ap length is ∙ length-set copy n (Some key) ∙ f.long;
-  done = λ i below. elim (cases_eq i n) [
-    | inl e ↦ ap (λ (z : List (Option ℕ)). slice_index_or z i None) is ∙ ap (λ (j : ℕ). slice_index_or (slice_set copy n (Some key)) j None) e ∙ get_or-set_same copy n (Some key) None (let l = f.long in omega (arith, l, lt)) ∙ has ∙ sym (ap (λ (j : ℕ). slice_index_or keys j None) e)
-    | inr ne ↦ ap (λ (z : List (Option ℕ)). slice_index_or z i None) is ∙ get_or-set_other copy n i (Some key) None ne ∙ f.done i (omega (arith, below, ne))
-  ];
-  left = λ i le. ap (λ (z : List (Option ℕ)). slice_index_or z i None) is ∙ get_or-set_other copy n i (Some key) None (omega (arith, le)) ∙ f.left i (omega (arith, le));
-}
-
-pub filled_no_key : (keys copy : List (Option ℕ)) (n : ℕ) → None ≡ slice_index_or keys n None → IsFilled keys copy n → IsFilled keys copy (n + 1)
-filled_no_key keys copy n has f = record {
-  long = f.long;
-  done = λ i below. elim (cases_eq i n) [
-    | inl e ↦ f.left i (omega (arith, e)) ∙ has ∙ sym (ap (λ (j : ℕ). slice_index_or keys j None) e)
-    | inr ne ↦ f.done i (omega (arith, below, ne))
-  ];
-  left = λ i le. f.left i (omega (arith, le));
-}
 
 pub filled_all : (keys copy : List (Option ℕ)) (n : ℕ) → length keys ≤ n → IsFilled keys copy n → copy ≡ keys
 filled_all keys copy n all f =

@@ -1,5 +1,5 @@
 -- The keys of a table once one of them was written.
-use Rattle.std.proofs.Common.{◌≡◌, ◌≢◌, ℕ, zero, suc, ◌<◌, ◌≤◌, false, nat_lt, nat_eq, cond, List, [], ◌∷◌, ◌++◌, drop, replicate, length, slice_index_or, slice_set, Option, Some, None, refl, sym, ap, ◌∙◌, arith}
+use Rattle.std.proofs.Common.{◌≡◌, ◌≢◌, ℕ, zero, suc, ◌<◌, ◌≤◌, false, nat_lt, nat_eq, cond, List, [], ◌∷◌, drop, replicate, length, slice_index_or, slice_set, Option, Some, None, refl, sym, ap, ◌∙◌, arith}
 use Rattle.std.proofs.lemmas.Bool.{lt-ltb}
 use Rattle.std.proofs.lemmas.Bool.Decides.{nat_tests}
 use Rattle.std.proofs.lemmas.List.{get_or_default}
@@ -68,10 +68,3 @@ none_beyond (key ∷ line) (suc low) le = ap (λ l. key ∷ l) (none_beyond line
 pub no_keys : (n : ℕ) → keys (replicate n no_key) [] ≡ replicate n None
 no_keys zero = refl
 no_keys (suc n) = ap (λ l. None ∷ l) (no_keys n)
-
--- a 0 behind the end is read as nothing behind the end
-pub grown : (longs : List ℕ) (other : ℕ) → slice_index_or (longs ++ 0 ∷ []) other 0 ≡ slice_index_or longs other 0
-grown [] zero = refl
-grown [] (suc other) = refl
-grown (long ∷ longs) zero = refl
-grown (long ∷ longs) (suc other) = grown longs other

@@ -1,8 +1,8 @@
 -- The blocks of a table that have had keys.
-use Rattle.std.proofs.Common.{◌≡◌, ◌≢◌, ◌∙◌, ℕ, ◌+◌, ◌*◌, ◌/◌, ◌%◌, Bool, true, false, List, replicate, length, Option, Some, None, is_some, slice_index_or, slice_set, refl, sym, ap, inl, inr, arith}
+use Rattle.std.proofs.Common.{◌≡◌, ◌≢◌, ◌∙◌, ℕ, ◌/◌, ◌%◌, Bool, true, false, List, replicate, length, Option, Some, None, is_some, slice_index_or, slice_set, sym, ap, inl, inr, arith}
 use Rattle.std.proofs.lemmas.Bool.{cases_eq, cases_lt, false≢true}
 use Rattle.std.proofs.lemmas.List.{get_or-set_same, get_or-set_other, get_or_past, get_or-replicate, length-set, length-replicate}
-use Rattle.l4_spaces.specs.Tables.{row_block, NoKeys}
+use Rattle.l4_spaces.specs.Tables.{row_block}
 use Rattle.l4_spaces.specs.Inside.Row.{row_blocks, IsNoted}
 
 none_is_no_key : {key : ℕ} → ◌≢◌ {A = Option ℕ} None (Some key)
@@ -47,14 +47,3 @@ noted_none n used whole = record {
       | inl lt ↦ get_or-replicate n low None None lt
       | inr past ↦ get_or_past (replicate n None) low None (let l = length-replicate {A = Option ℕ} n None in omega (arith, l, past))
     ]
-
--- a block that isn't noted has no key
-pub none_noted : (line : List (Option ℕ)) (used : List Bool) (block : ℕ) → IsNoted line used → slice_index_or used (block % row_blocks) false ≡ false → NoKeys line (block * row_block) (block * row_block + row_block)
-none_noted line used block was none low from before = here (slice_index_or line low None) (was.noted low)
-  where
-    at : low / row_block ≡ block
-    at = omega (arith, from, before)
-
-    here : (key : Option ℕ) → ((k : ℕ) → key ≡ Some k → slice_index_or used (low / row_block % row_blocks) false ≡ true) → key ≡ None
-    here None says = refl
-    here (Some k) says = absurd (false≢true (sym none ∙ sym (ap (λ (b : ℕ). slice_index_or used (b % row_blocks) false) at) ∙ says k refl))

@@ -280,10 +280,6 @@ table_in ss s k page end ts high keys view is full h at = record {
   least = λ other le lt. none_at ss s k ts other view is (h.least other le lt);
 }
 
-pub is_none_of : (o : Option ℕ) → is_some o ≡ false → o ≡ None
-is_none_of None h = refl
-is_none_of (Some key) h = absurd (let k : true ≡ false = h in cc)
-
 pub keeps_same : (a b : Live) (s : Tables) → shown a ≡ s → ((p : ℕ × ℕ) → is_there b p ≡ is_there a p) → KeepsRoom s (shown b)
 keeps_same a b s view h = keeps a b s view (λ p t. h p ∙ t)
 
