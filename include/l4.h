@@ -190,8 +190,8 @@ uint32_t l4_version(void);
 #define L4_S3 UINT32_C(0x5333) /* the line is longer than 4,096 bytes */
 #define L4_S4 UINT32_C(0x5334) /* the line does not end with a newline */
 #define L4_O1 UINT32_C(0x4F31) /* a plan has one unordered line, and after it at most one finally line */
-#define L4_O2 UINT32_C(0x4F32) /* a query is allowed only after the finally line, and a name only before the unordered line */
-#define L4_O3 UINT32_C(0x4F33) /* after the finally line, only show, parent and reply are allowed */
+#define L4_O2 UINT32_C(0x4F32) /* a query or a rule is allowed only after the finally line, and a name only before the unordered line */
+#define L4_O3 UINT32_C(0x4F33) /* after the finally line, only show, parent, reply, never and always are allowed */
 #define L4_O4 UINT32_C(0x4F34) /* steps is not allowed, because its answer depends on the whole order */
 #define L4_O5 UINT32_C(0x4F35) /* no line creates the thread (detail) whose call this is */
 #define L4_O6 UINT32_C(0x4F36) /* the plan has no unordered line */

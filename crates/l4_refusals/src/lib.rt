@@ -221,11 +221,11 @@ fn order_texts() -> [Text; 9]
         ),
         meaning(
             b"O2",
-            b"a query is allowed only after the finally line, and a name only before the unordered line",
+            b"a query or a rule is allowed only after the finally line, and a name only before the unordered line",
         ),
         meaning(
             b"O3",
-            b"after the finally line, only show, parent and reply are allowed",
+            b"after the finally line, only show, parent, reply, never and always are allowed",
         ),
         meaning(
             b"O4",
