@@ -256,12 +256,7 @@ fn add_space(forest: &mut Forest, space: u64) -> Result<(), Cause> {
 }
 
 /// Moves the pages of a block to another space, where none of them is present.
-fn move_block(
-    forest: &mut Forest,
-    from: u64,
-    to: u64,
-    item: ItemMove,
-) -> Result<(), Cause> {
+fn move_block(forest: &mut Forest, from: u64, to: u64, item: ItemMove) -> Result<(), Cause> {
     add_space(forest, from)?;
     add_space(forest, to)?;
     forest.map_all(from, to, &[item])

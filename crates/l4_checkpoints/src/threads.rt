@@ -158,7 +158,10 @@ impl AllDescribed {
                 continue;
             }
             let named = home.unwrap_or(thread.id);
-            if threads.create(ROOT, thread.id, named, thread.pager).is_err() {
+            if threads
+                .create(ROOT, thread.id, named, thread.pager)
+                .is_err()
+            {
                 return false;
             }
             home = Some(named);
@@ -243,7 +246,12 @@ impl AllDescribed {
     }
 
     /// Builds the threads, without what senders send. The words are those that were described.
-    pub(crate) fn build(&self, alloc: Global, words: &[u32], start: usize) -> Result<Threads, Stop> {
+    pub(crate) fn build(
+        &self,
+        alloc: Global,
+        words: &[u32],
+        start: usize,
+    ) -> Result<Threads, Stop> {
         let Ok(mut threads) = Threads::boot(alloc) else {
             return Err(Stop::NoMemory);
         };

@@ -44,7 +44,6 @@ abbrev pub NoneYet : Slots → Tables → ℕ → ℕ → ℕ → ℕ → Type 0
 NoneYet slots t space page end next = (other key : ℕ) → page ≤ other → other < next → other < end → key_of t space other ≡ Some key → ¬ (IsParent slots key)
 
 module _ (slots : Slots) (t : Tables) (space page next end : ℕ) (from : page ≤ next) (so_far : NoneYet slots t space page end next) where
-
   module _ (start : ℕ) (keys : List (Option ℕ)) (table : IsTableIn t space next end start keys) where
     -- up to a place of the table
     up_to : (last : ℕ) → last ≤ table_pages → NoParents slots keys (next - start) last → NoneYet slots t space page end (start + last)

@@ -30,15 +30,14 @@ fn tell<R: Print>(rt: &R, resumed: &Resumed, readings: Readings) -> io::Result<(
     println!(rt; "{} checkpoints, {} wrong", resumed.count, resumed.wrong)?;
     let [a, b, c, d, e, f, g, h] = resumed.sum();
     println!(rt; "sum {} {} {} {} {} {} {} {}", a, b, c, d, e, f, g, h)?;
-    println!(rt; "{} altered, {} read, {} wrong", readings.count, readings.read, readings.wrong)
+    println!(rt;
+        "{} altered, {} read, {} wrong",
+        readings.count, readings.read, readings.wrong
+    )
 }
 
 /// Executes the script on standard input, from checkpoints.
-fn resume_script<R: AllocGlobal + Input + Print + Eprint>(
-    rt: &R,
-    frames: u32,
-    size: PageSize,
-) -> u8
+fn resume_script<R: AllocGlobal + Input + Print + Eprint>(rt: &R, frames: u32, size: PageSize) -> u8
     requires some { 1 ≤ frames }
     requires fit { frames ≤ max_frames }
 {
@@ -54,7 +53,11 @@ fn resume_script<R: AllocGlobal + Input + Print + Eprint>(
     if let Err(error) = tell(rt, &resumed, readings) {
         return stopped(rt, RunFault::Write, None, Some(error));
     }
-    if resumed.wrong == 0 && readings.wrong == 0 { 0 } else { WRONG }
+    if resumed.wrong == 0 && readings.wrong == 0 {
+        0
+    } else {
+        WRONG
+    }
 }
 
 /// Executes the command that these words request.
