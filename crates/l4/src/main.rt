@@ -408,6 +408,7 @@ fn execute<R: AllocGlobal + Files + Input + Print + Eprint>(rt: &R, asked: Optio
             thread,
             page,
         } => tell_why(rt, &script, strict, ThreadPage { thread, page }),
+        Options::WhySegments { .. } => NOT_UNDERSTOOD,
         Options::Plan { region, size } => write_plan(rt, &region, size),
         Options::Check { region, size } => check(rt, &region, size),
         Options::Decode {
@@ -418,9 +419,11 @@ fn execute<R: AllocGlobal + Files + Input + Print + Eprint>(rt: &R, asked: Optio
         Options::Test { files, tap, write } => test(rt, files.as_slice(), tap, write),
         Options::Orders {
             plan,
+            fits: _,
             most,
             witness,
             brief,
+            dot: _,
         } => print_orders(rt, &plan, most, Wanted { witness, brief }),
         Options::Encode(words) => print_words(rt, words.as_slice()),
         Options::Show(text) => show(rt, text.as_str()),

@@ -139,9 +139,17 @@ boot, and then each transfer in order. A refused line is reported only with
 
 Entry E is line E + 1 of the output of 'l4 history'.
 
+With --from, no script is run: uses the history in files that 'l4 run
+--history-to' wrote, in the order given, with the rules and the codes of 'l4
+history --from'. Write --from last: all words behind it are files.
+
+  l4 run --history-to run.seg script
+  l4 why 4 16 --from run.seg
+
 Exit status: the same as for 'l4 run', and 1 if the page is not present or the
 thread does not exist. 4 also if a transfer ran out of memory in the script, but
-not when it was executed again.";
+not when it was executed again. With --from, 2 also for a file, a segment or an
+entry that is wrong.";
 
 /// The help of `l4 decode`.
 pub const DECODE: &str = "\
@@ -201,17 +209,25 @@ that is not there. If there are more answers than expected, L is the line that t
 answer. Expectations are answers without the additions of --explain, --number and
 --moves.
 
+A file whose name ends in .plan is a plan for 'l4 orders', which visits at most
+1,000,000 states. It passes if every order was followed and no rule is broken.
+Prints its summary, and below it the rules that are broken, as 'l4 orders' does:
+
+  FILE: N outcomes, M orders, S states, passed
+  FILE: N outcomes, M orders, S states, failed
+
 With --write, no script is compared. A copy of each script is written to FILE.new.
 It expects all answers, directly below their lines. It has no other expectations, so
 '#= ..' is replaced too. All other lines are as in FILE, in the same order. The copy
 passes the test. FILE itself is not changed, and a FILE.new that exists is not
-overwritten. Prints one line per file:
+overwritten. A plan has no expectations, so it is refused. Prints one line per file:
 
   FILE: N lines, M expectations, written to FILE.new
 
-Exit status: 0 if all scripts pass, or all copies are written, 1 if an answer differs, 2 if the command line
-or a script is invalid or FILE cannot be opened, 3 if a read or a write failed, 4
-if there was not enough memory. With several files, the greatest of their statuses.";
+Exit status: 0 if all files pass, or all copies are written, 1 if an answer differs,
+a rule is broken or not every order was followed, 2 if the command line or a file is
+invalid or FILE cannot be opened, 3 if a read or a write failed, 4 if there was not
+enough memory. With several files, the greatest of their statuses.";
 
 /// The help of `l4 orders`.
 pub const ORDERS: &str = "\
@@ -245,9 +261,31 @@ before it. 'never ANSWER' states that no outcome has this line, and 'always ANSW
 that every outcome has it. 'l4 run' executes a plan in the order in which it is
 written, and checks no rule.
 
-Exit status: 0 every order was followed, and no rule is broken; 1 otherwise; 2 invalid command line,
-file cannot be opened, or a line cannot be part of a plan; 3 read or write failed;
-4 out of memory.";
+Without --frames, the kernel has as many frames as the plan needs, at most 256: the
+least power of two above each page that one of its lines names.
+
+With --dot, prints the graph of the states in the DOT language of Graphviz. States
+have numbers, and state 1 is the one at 'unordered'. An edge is a line that a thread
+executes in a state, and leads to the state after it. A state with a double border
+ends an order, and names its outcome. A comment says whether an order was not
+followed, or a rule is broken. Then the status is as without --dot.
+
+  l4 orders --dot FILE | dot -Tsvg > states.svg
+
+A line that cannot be part of a plan has one of these codes, or S2, S3 or S4 (see
+l4 --help):
+
+  O1    a plan has one line 'unordered', and after it at most one line 'finally'
+  O2    a query or a rule is allowed only after 'finally', and a name only before
+        'unordered'
+  O3    after 'finally', only show, parent, reply, never and always are allowed
+  O4    'steps' is not allowed, because its answer depends on the whole order
+  O5    no line creates the thread whose call this is
+  O6    the plan has no line 'unordered'
+
+Exit status: 0 if every order was followed and no rule is broken, 1 otherwise, 2 if
+the command line or a line of the plan is invalid or FILE cannot be opened, 3 if a
+read or a write failed, 4 if there is not enough memory.";
 
 /// The help of `l4 encode`.
 pub const ENCODE: &str = "\

@@ -26,7 +26,7 @@ use Rattle.l4_options.specs.Ranges.{AreStepsInRange, IsFrameCount, IsInRange}
 use Rattle.l4_options.specs.Spelled.{AreFramesIn, decimal_of, frame_count_of, spelled_or}
 use Rattle.l4_options.specs.declared.requests.OptionFault.{OptionFault}
 use Rattle.l4_options.specs.declared.requests.Options.{Options}
-use Rattle.l4_options.specs.declared.requests.Options.TheVariants.{Run, History, Segments, Judge, Why, Plan, Check, Decode, Encode, Test, Orders, Show}
+use Rattle.l4_options.specs.declared.requests.Options.TheVariants.{Run, History, Segments, Judge, Why, WhySegments, Plan, Check, Decode, Encode, Test, Orders, Show}
 use Rattle.l4_options.specs.declared.requests.StepOptions.{StepOptions}
 use Rattle.l4_options.specs.declared.requests.StepOptions.TheVariants.{Run as RunSteps, Show as ShowText}
 
@@ -129,12 +129,13 @@ asks_in_range name found (History script strict answers) asks = frames_fit found
 asks_in_range name found (Segments files answers) asks = tt
 asks_in_range name found (Judge list all) asks = frames_fit found list.frames asks.1.frames
 asks_in_range name found (Why script strict thread page) asks = frames_fit found script.frames asks.1.frames
+asks_in_range name found (WhySegments files thread page) asks = tt
 asks_in_range name found (Plan region size) asks = tt
 asks_in_range name found (Check region size) asks = tt
 asks_in_range name found (Decode words reading size) asks = tt
 asks_in_range name found (Encode words) asks = tt
 asks_in_range name found (Test files tap write) asks = tt
-asks_in_range name found (Orders plan most witness brief) asks = frames_fit found plan.frames asks.1.frames
+asks_in_range name found (Orders plan fits most witness brief dot) asks = frames_fit found plan.frames asks.1.frames
 asks_in_range name found (Show text) asks = tt
 
 text_in_range : (o : Options) → IsText o → IsInRange o
@@ -143,12 +144,13 @@ text_in_range (History script strict answers) text = absurd text
 text_in_range (Segments files answers) text = absurd text
 text_in_range (Judge list all) text = absurd text
 text_in_range (Why script strict thread page) text = absurd text
+text_in_range (WhySegments files thread page) text = tt
 text_in_range (Plan region size) text = tt
 text_in_range (Check region size) text = tt
 text_in_range (Decode words reading size) text = tt
 text_in_range (Encode words) text = tt
 text_in_range (Test files tap write) text = tt
-text_in_range (Orders plan most witness brief) text = absurd text
+text_in_range (Orders plan fits most witness brief dot) text = absurd text
 text_in_range (Show text) is = tt
 
 one_in_range : (words : List Text) (o : Options) → IsAsked words o → IsInRange o

@@ -1,5 +1,5 @@
 -- The commands of the programs, as clap reads them, and what the words of a command line ask for (this profile's own).
-use Rattle.std.specs.Prelude.{◌≡◌, ◌⊎◌, ◌&&◌, List, [], ◌∷◌, length, map, codes, Some, None, is_some, option_map, true, false}
+use Rattle.std.specs.Prelude.{◌≡◌, ◌⊎◌, ◌&&◌, List, [], ◌∷◌, length, map, codes, Some, None, is_some, option_map, not, true, false}
 use Rattle.std.specs.String.{string_bytes}
 use Rattle.clap.specs.Faults.{fault_of}
 use Rattle.clap.specs.Kinds.{IsAmong, Kinds}
@@ -10,7 +10,7 @@ use Rattle.clap.specs.declared.builder.action.ArgAction.TheVariants.{Set, Append
 use Rattle.clap.specs.declared.error.kind.ErrorKind.TheVariants.{DisplayHelp, DisplayVersion}
 use Rattle.l4_options.specs.Spelled.{AreEncodedIn, AreFilesIn, AreFramesIn, AreNumbersIn, IsChosenAt, IsCountAt, IsNumberAt, IsReadingIn, IsRegionIn, IsScriptIn, IsSizeIn, is_on}
 use Rattle.l4_options.specs.declared.requests.Options.{Options}
-use Rattle.l4_options.specs.declared.requests.Options.TheVariants.{Run, History, Segments, Judge, Why, Plan, Check, Decode, Encode, Test, Orders, Show}
+use Rattle.l4_options.specs.declared.requests.Options.TheVariants.{Run, History, Segments, Judge, Why, WhySegments, Plan, Check, Decode, Encode, Test, Orders, Show}
 use Rattle.l4_options.specs.declared.requests.StepOptions.{StepOptions}
 use Rattle.l4_options.specs.declared.requests.StepOptions.TheVariants.{Run as RunSteps, Show as ShowText}
 
@@ -62,7 +62,7 @@ abbrev pub judge_command : Shape
 judge_command = command (codes "judge") (script_rules (switch (codes "all") ∷ []))
 
 abbrev pub why_command : Shape
-why_command = command (codes "why") (needed_word (codes "thread") ∷ needed_word (codes "page") ∷ script_rules (switch (codes "strict") ∷ []))
+why_command = command (codes "why") (needed_word (codes "thread") ∷ needed_word (codes "page") ∷ script_rules (switch (codes "strict") ∷ option_words (codes "from") ∷ []))
 
 -- plan and check
 abbrev pub region_command : Text → Shape
@@ -80,7 +80,8 @@ abbrev pub test_command : Shape
 test_command = command (codes "test") (needed_words (codes "files") ∷ switch (codes "tap") ∷ switch (codes "write") ∷ [])
 
 abbrev pub orders_command : Shape
-orders_command = command (codes "orders") (script_rules (option (codes "most") ∷ option (codes "witness") ∷ switch (codes "outcomes") ∷ []))
+orders_command = command (codes "orders") (
+    script_rules (option (codes "most") ∷ option (codes "witness") ∷ switch (codes "outcomes") ∷ switch (codes "dot") ∷ []))
 
 -- the commands of l4
 abbrev pub l4_commands : List Shape
@@ -123,6 +124,10 @@ Asks name found (Judge list all) = (name ≡ codes "judge") × IsScriptIn found 
 Asks name found (Why script strict thread page) =
     (name ≡ codes "why") × IsScriptIn found script × (strict ≡ is_on found (codes "strict"))
     × IsNumberAt found (codes "thread") thread × IsNumberAt found (codes "page") page
+    × (all_of (codes "from") found ≡ None)
+Asks name found (WhySegments files thread page) =
+    (name ≡ codes "why") × (Some (map string_bytes files.items) ≡ all_of (codes "from") found)
+    × IsNumberAt found (codes "thread") thread × IsNumberAt found (codes "page") page × HasNoScript found
 Asks name found (Plan region size) = (name ≡ codes "plan") × IsRegionIn found region × IsSizeIn found size
 Asks name found (Check region size) = (name ≡ codes "check") × IsRegionIn found region × IsSizeIn found size
 Asks name found (Decode words reading size) =
@@ -131,9 +136,10 @@ Asks name found (Encode words) = (name ≡ codes "encode") × AreEncodedIn found
 Asks name found (Test files tap write) =
     (name ≡ codes "test") × AreFilesIn found (map string_bytes files.items) × (tap ≡ is_on found (codes "tap")) × (write ≡ is_on found (codes "write"))
     × (tap && write ≡ false)
-Asks name found (Orders plan most witness brief) =
-    (name ≡ codes "orders") × IsScriptIn found plan × IsCountAt found (codes "most") most × IsChosenAt found (codes "witness") witness
-    × (brief ≡ is_on found (codes "outcomes"))
+Asks name found (Orders plan fits most witness brief dot) =
+    (name ≡ codes "orders") × IsScriptIn found plan × (fits ≡ not (is_some (first_of (codes "frames") found)))
+    × IsCountAt found (codes "most") most × IsChosenAt found (codes "witness") witness
+    × (brief ≡ is_on found (codes "outcomes")) × (dot ≡ is_on found (codes "dot")) × (dot && is_some witness ≡ false) × (dot && brief ≡ false)
 Asks name found (Show text) = ⊥
 
 -- the words ask for a text: the usage or the version

@@ -2,7 +2,7 @@
 use Rattle.std.specs.Prelude.{ℕ, ◌≤◌}
 use Rattle.l4_fpage.specs.Pages.{max_frames}
 use Rattle.l4_options.specs.declared.requests.Options.{Options}
-use Rattle.l4_options.specs.declared.requests.Options.TheVariants.{Run, History, Segments, Judge, Why, Plan, Check, Decode, Test, Orders, Encode, Show}
+use Rattle.l4_options.specs.declared.requests.Options.TheVariants.{Run, History, Segments, Judge, Why, WhySegments, Plan, Check, Decode, Test, Orders, Encode, Show}
 use Rattle.l4_options.specs.declared.requests.StepOptions.{StepOptions}
 use Rattle.l4_options.specs.declared.requests.StepOptions.TheVariants.{Run as RunSteps, Show as ShowText}
 
@@ -17,11 +17,12 @@ IsInRange (History script strict answers) = IsFrameCount script.frames
 IsInRange (Segments files answers) = Unit {0}
 IsInRange (Judge list all) = IsFrameCount list.frames
 IsInRange (Why script strict thread page) = IsFrameCount script.frames
+IsInRange (WhySegments files thread page) = Unit {0}
 IsInRange (Plan region size) = Unit {0}
 IsInRange (Check region size) = Unit {0}
 IsInRange (Decode words reading size) = Unit {0}
 IsInRange (Test files tap write) = Unit {0}
-IsInRange (Orders plan most witness brief) = IsFrameCount plan.frames
+IsInRange (Orders plan fits most witness brief dot) = IsFrameCount plan.frames
 IsInRange (Encode words) = Unit {0}
 IsInRange (Show text) = Unit {0}
 

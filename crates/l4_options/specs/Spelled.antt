@@ -148,14 +148,18 @@ abbrev pub AreEncodedIn : List Row → List ℕ → Type 0
 AreEncodedIn found words =
     (size : PageSize) × (kind : Option WordKind) × IsSizeIn found size × IsKindIn found kind × Encodes kind size (words_at found (codes "tokens")) words
 
+-- the option's word spells this number in decimal
+abbrev pub IsDecimalAt : List Row → Text → ℕ → Type 0
+IsDecimalAt found id n = decimal_of (word_at found id) ≡ Some n
+
 -- the number of states: 1,000,000 where it is left out
 abbrev pub IsCountAt : List Row → Text → ℕ → Type 0
-IsCountAt found id most = spelled_or 1000000 number_of (first_of id found) ≡ Some most
+IsCountAt found id most = spelled_or 1000000 decimal_of (first_of id found) ≡ Some most
 
 -- the chosen outcome, if one is chosen
 abbrev pub IsChosenAt : List Row → Text → Option ℕ → Type 0
 IsChosenAt found id None = first_of id found ≡ None
-IsChosenAt found id (Some number) = IsNumberAt found id number
+IsChosenAt found id (Some number) = IsDecimalAt found id number
 
 -- the names of the files to test
 abbrev pub AreFilesIn : List Row → List Text → Type 0

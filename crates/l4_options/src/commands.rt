@@ -8,15 +8,15 @@ ghost use Rattle.l4_options.specs.Inside.Words.{spelled_anew};
 ghost use Rattle.l4_options.specs.Ranges.{IsInRange};
 
 use crate::encoding::{encode_options, of_tokens};
-use crate::histories::{history_options, of_history};
+use crate::histories::{from_option, history_options, of_history, segment_files};
 use crate::ordering::{of_orders, orders_options};
 use crate::requests::{OptionFault, Options};
 use crate::testing::{of_files, test_options};
 use crate::values::{
     all_option, explain_option, file_argument, frames_option, help_text, history_option, is_on,
     is_strict, is_word, moves_option, name_of, number_of, number_option, reading_of,
-    reading_option, region_of, script_of, size_of, size_option, strict_option, without_hyphens,
-    words_argument, words_of,
+    reading_option, region_of, script_of, size_of, size_option, strict_option, texts_of,
+    without_hyphens, words_argument, words_of,
 };
 use clap::error::ErrorKind;
 use clap::{Arg, ArgAction, ArgMatches, Command, Error};
@@ -74,7 +74,11 @@ fn of_page<'a>(alloc: Global) -> Result<Command<'a>, AllocError>
         .arg(file_argument(alloc, SCRIPT_FILE))?
         .arg(frames_option(alloc))?
         .arg(size_option(alloc))?
-        .arg(strict_option(alloc))
+        .arg(strict_option(alloc))?
+        .arg(from_option(
+            alloc,
+            "Use the history in these files instead of a script's",
+        ))
 }
 
 /// The command `judge`.
@@ -261,12 +265,24 @@ fn judge_options(alloc: Global, matches: &ArgMatches<'_>) -> Result<Options, Opt
 fn why_options(alloc: Global, matches: &ArgMatches<'_>) -> Result<Options, OptionFault>
     ensures { IfOk result (Asks (codes "why") (found_in matches.now)) }
 {
+    let thread = number_of(alloc, matches, "thread", "THREAD")?;
+    let page = number_of(alloc, matches, "page", "PAGE")?;
+    if let Some(names) = texts_of(matches, "from") {
+        return match segment_files(alloc, matches, names) {
+            Ok(files) => Ok(Options::WhySegments {
+                files,
+                thread,
+                page,
+            }),
+            Err(fault) => Err(fault),
+        };
+    }
     match script_of(alloc, matches) {
         Ok(script) => Ok(Options::Why {
             script,
             strict: is_strict(matches),
-            thread: number_of(alloc, matches, "thread", "THREAD")?,
-            page: number_of(alloc, matches, "page", "PAGE")?,
+            thread,
+            page,
         }),
         Err(fault) => Err(fault),
     }
@@ -372,7 +388,7 @@ fn requested<'a, S: AsStr>(alloc: Global, words: &'a [S]) -> Result<Options, Opt
 
 /// Reads the words of the command line, the program's name first:
 /// `l4 run [FILE] [--frames N] [--strict] [--explain] [--number] [--moves] [--history-to SEGMENTS]`, `l4 history [FILE] [--frames N] [--strict] [--answers]`, `l4 history --from SEGMENTS.. [--answers]`,
-/// `l4 judge [FILE] [--frames N] [--all]`, `l4 why THREAD PAGE [FILE] [--frames N] [--strict]`, `l4 plan SOURCE TARGET COUNT RIGHTS`, `l4 check` with the same words, `l4 decode [--as READING] WORD..`, `l4 encode [--as KIND] TOKEN..`, `l4 test FILE.. [--tap] [--write]`, `l4 orders [FILE] [--frames N] [--most N] [--witness K] [--outcomes]`, each with
+/// `l4 judge [FILE] [--frames N] [--all]`, `l4 why THREAD PAGE [FILE] [--frames N] [--strict]`, `l4 why THREAD PAGE --from SEGMENTS..`, `l4 plan SOURCE TARGET COUNT RIGHTS`, `l4 check` with the same words, `l4 decode [--as READING] WORD..`, `l4 encode [--as KIND] TOKEN..`, `l4 test FILE.. [--tap] [--write]`, `l4 orders [FILE] [--frames N] [--most N] [--witness K] [--outcomes] [--dot]`, each with
 /// `--page-size BYTES` where that is wanted, `--help`, `help` or `--version`. N is 256 and BYTES 4096 where they are left out; READING is
 /// message, fpage, window or id.
 ///

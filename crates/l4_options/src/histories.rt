@@ -1,6 +1,6 @@
 //! The command line of `l4 history`.
-ghost use Rattle.std.specs.Prelude.{◌≡◌, IfOk, codes, map, Some, None};
-ghost use Rattle.clap.specs.Walk.{all_of};
+ghost use Rattle.std.specs.Prelude.{◌≡◌, IfOk, codes, map, None};
+ghost use Rattle.std.specs.String.{string_bytes};
 ghost use Rattle.l4_options.specs.Commands.{history_command, option_words, Asks, HasNoScript};
 ghost use Rattle.l4_options.specs.Inside.Lines.{IsCommand, IsRule, found_in};
 
@@ -15,14 +15,14 @@ use clap::{Arg, ArgAction, ArgMatches, Command};
 use l4_help::commands::HISTORY;
 use std::alloc::{AllocError, Global};
 
-/// The option `--from`.
-fn from_option<'a>(alloc: Global) -> Arg<'a>
+/// The option `--from`, with this help.
+pub(crate) fn from_option<'a>(alloc: Global, help: &'a str) -> Arg<'a>
     ensures { IsRule (option_words (codes "from")) result }
 {
     Arg::new(alloc, "from")
         .long("from")
         .value_name("SEGMENTS")
-        .help("Print the history in these files instead of a script's")
+        .help(help)
         .num_args(1..)
         .action(ArgAction::Append)
 }
@@ -39,7 +39,10 @@ pub(crate) fn of_history<'a>(alloc: Global) -> Result<Command<'a>, AllocError>
         .arg(size_option(alloc))?
         .arg(strict_option(alloc))?
         .arg(answers_option(alloc))?
-        .arg(from_option(alloc))
+        .arg(from_option(
+            alloc,
+            "Print the history in these files instead of a script's",
+        ))
 }
 
 /// The argument of a script that the matches have, as it is written on a command line.
@@ -61,25 +64,21 @@ fn script_argument(matches: &ArgMatches<'_>) -> Option<&'static str>
     None
 }
 
-/// What the matches of `history` with `--from` ask for.
-fn segments_options(
+/// The names of files of segments, if the matches have no argument of a script.
+pub(crate) fn segment_files(
     alloc: Global,
     matches: &ArgMatches<'_>,
     names: &[&str],
-) -> Result<Options, OptionFault>
-    requires { Some (map (λ s. s.now) names.now) ≡ all_of (codes "from") (found_in matches.now) }
-    ensures { IfOk result (Asks (codes "history") (found_in matches.now)) }
+) -> Result<Vec<String>, OptionFault>
+    ensures { IfOk result (λ files. (map string_bytes files.items ≡ map (λ s. s.now) names.now) × HasNoScript (found_in matches.now)) }
 {
     if let Some(argument) = script_argument(matches) {
         return Err(OptionFault::Exclude(argument, "--from"));
     }
-    let Some(files) = copied(alloc, names) else {
-        return Err(OptionFault::Memory);
-    };
-    Ok(Options::Segments {
-        files,
-        answers: is_on(matches, "answers"),
-    })
+    match copied(alloc, names) {
+        Some(files) => Ok(files),
+        None => Err(OptionFault::Memory),
+    }
 }
 
 /// What the matches of `history` ask for.
@@ -90,7 +89,13 @@ pub(crate) fn history_options(
     ensures { IfOk result (Asks (codes "history") (found_in matches.now)) }
 {
     if let Some(names) = texts_of(matches, "from") {
-        return segments_options(alloc, matches, names);
+        return match segment_files(alloc, matches, names) {
+            Ok(files) => Ok(Options::Segments {
+                files,
+                answers: is_on(matches, "answers"),
+            }),
+            Err(fault) => Err(fault),
+        };
     }
     match script_of(alloc, matches) {
         Ok(script) => Ok(Options::History {

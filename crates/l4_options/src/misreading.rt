@@ -17,6 +17,7 @@ pub fn misread(rt: &impl Eprint, fault: &OptionFault) -> u8
         | OptionFault::Frames(_)
         | OptionFault::Pages(_)
         | OptionFault::Number { .. }
+        | OptionFault::Decimal { .. }
         | OptionFault::Rights(_)
         | OptionFault::Hyphens { .. }
         | OptionFault::Exclude(_, _)

@@ -1,19 +1,31 @@
 //! The command line of `l4 orders`.
-ghost use Rattle.std.specs.Prelude.{◌≡◌, IfOk, codes};
+ghost use Rattle.std.specs.Prelude.{◌≡◌, IfOk, codes, is_some, not};
+ghost use Rattle.clap.specs.Walk.{first_of};
 ghost use Rattle.l4_options.specs.Spelled.{IsCountAt, IsChosenAt};
 ghost use Rattle.l4_options.specs.Commands.{option, switch, orders_command, Asks};
 ghost use Rattle.l4_options.specs.Inside.Lines.{IsCommand, IsRule, found_in};
 
 use crate::requests::{OptionFault, Options};
-use crate::values::{
-    file_argument, frames_option, is_on, number_of, script_of, size_option, text_of,
-};
+use crate::values::{decimal_of, file_argument, is_on, script_of, size_option, text_of};
 use clap::{Arg, ArgAction, ArgMatches, Command};
 use l4_help::commands::ORDERS;
 use std::alloc::{AllocError, Global};
 
 /// The number of states that are visited if `--most` is left out.
 const DEFAULT_MOST: u32 = 1_000_000;
+
+/// The option `--frames`.
+fn frames_option<'a>(alloc: Global) -> Arg<'a>
+    ensures { IsRule (option (codes "frames")) result }
+{
+    Arg::new(alloc, "frames")
+        .long("frames")
+        .value_name("N")
+        .help(
+            "The number of page frames, from 1 to 4096 [default: as many as the plan needs, at most 256]",
+        )
+        .action(ArgAction::Set)
+}
 
 /// The option `--most`.
 fn most_option<'a>(alloc: Global) -> Arg<'a>
@@ -47,6 +59,16 @@ fn outcomes_option<'a>(alloc: Global) -> Arg<'a>
         .action(ArgAction::SetTrue)
 }
 
+/// The option `--dot`.
+fn dot_option<'a>(alloc: Global) -> Arg<'a>
+    ensures { IsRule (switch (codes "dot")) result }
+{
+    Arg::new(alloc, "dot")
+        .long("dot")
+        .help("Print the graph of the states in the DOT language, instead of the outcomes")
+        .action(ArgAction::SetTrue)
+}
+
 /// The command `orders`.
 pub(crate) fn of_orders<'a>(alloc: Global) -> Result<Command<'a>, AllocError>
     ensures { IfOk result (IsCommand orders_command) }
@@ -59,29 +81,40 @@ pub(crate) fn of_orders<'a>(alloc: Global) -> Result<Command<'a>, AllocError>
         .arg(size_option(alloc))?
         .arg(most_option(alloc))?
         .arg(witness_option(alloc))?
-        .arg(outcomes_option(alloc))
+        .arg(outcomes_option(alloc))?
+        .arg(dot_option(alloc))
 }
 
 /// The number of states to visit at most.
 fn most_of(alloc: Global, matches: &ArgMatches<'_>) -> Result<u32, OptionFault>
     ensures { IfOk result (IsCountAt (found_in matches.now) (codes "most")) }
 {
-    if text_of(matches, "most").is_none() {
-        return Ok(DEFAULT_MOST);
+    match text_of(matches, "most") {
+        Some(word) => decimal_of(alloc, word, "--most <N>"),
+        None => Ok(DEFAULT_MOST),
     }
-    number_of(alloc, matches, "most", "N")
 }
 
 /// The outcome whose script is printed, if one is chosen.
 fn witness_of(alloc: Global, matches: &ArgMatches<'_>) -> Result<Option<u32>, OptionFault>
     ensures { IfOk result (IsChosenAt (found_in matches.now) (codes "witness")) }
 {
-    if text_of(matches, "witness").is_none() {
+    let Some(word) = text_of(matches, "witness") else {
         return Ok(None);
-    }
-    match number_of(alloc, matches, "witness", "K") {
+    };
+    match decimal_of(alloc, word, "--witness <K>") {
         Ok(number) => Ok(Some(number)),
         Err(fault) => Err(fault),
+    }
+}
+
+/// Whether the machine has as many frames as the plan needs: the number is left out.
+fn fits(matches: &ArgMatches<'_>) -> bool
+    ensures { result ≡ not (is_some (first_of (codes "frames") (found_in matches.now))) }
+{
+    match text_of(matches, "frames") {
+        Some(_) => false,
+        None => true,
     }
 }
 
@@ -92,12 +125,24 @@ pub(crate) fn orders_options(
 ) -> Result<Options, OptionFault>
     ensures { IfOk result (Asks (codes "orders") (found_in matches.now)) }
 {
+    let most = most_of(alloc, matches)?;
+    let witness = witness_of(alloc, matches)?;
+    let brief = is_on(matches, "outcomes");
+    let dot = is_on(matches, "dot");
+    if dot && witness.is_some() {
+        return Err(OptionFault::Exclude("--dot", "--witness"));
+    }
+    if dot && brief {
+        return Err(OptionFault::Exclude("--dot", "--outcomes"));
+    }
     match script_of(alloc, matches) {
         Ok(plan) => Ok(Options::Orders {
             plan,
-            most: most_of(alloc, matches)?,
-            witness: witness_of(alloc, matches)?,
-            brief: is_on(matches, "outcomes"),
+            fits: fits(matches),
+            most,
+            witness,
+            brief,
+            dot,
         }),
         Err(fault) => Err(fault),
     }

@@ -52,6 +52,12 @@ pub enum Options {
         thread: u32,
         page: u32,
     },
+    /// Prints how a page got into the space of a thread, by the history in these files of segments.
+    WhySegments {
+        files: Vec<String>,
+        thread: u32,
+        page: u32,
+    },
     /// Prints the shortest plan of this region of pages of this size, or why there is none.
     Plan {
         region: Region,
@@ -75,13 +81,17 @@ pub enum Options {
         tap: bool,
         write: bool,
     },
-    /// Prints every outcome that some order of the calls of a plan's threads can have, after visiting at most this many states. Prints only
-    /// the script that produces outcome `witness`, if there is one, and leaves out the orders if `brief`.
+    /// Prints every outcome that some order of the calls of a plan's threads can have, after visiting at most this many states. If `fits`, the
+    /// machine has only as many frames as the plan needs, and at most `plan.frames`. Prints only the script that produces outcome `witness`, if
+    /// there is one, leaves out the orders if `brief`, and prints the graph of the states instead if `dot`; then `witness` and `brief` are not
+    /// set.
     Orders {
         plan: ScriptOptions,
+        fits: bool,
         most: u32,
         witness: Option<u32>,
         brief: bool,
+        dot: bool,
     },
     /// Prints these words.
     Encode(ArrayVec<u32, MAX_WORDS>),
@@ -116,6 +126,9 @@ pub enum OptionFault {
     /// This argument, for a thread, a page or a count, is not a number.
     #[error("error: invalid value '{word}' for '<{name}>': expected a number up to 4294967295, decimal or hexadecimal with a 0x prefix")]
     Number { name: &'static str, word: String },
+    /// The value of this option is not a number below 2^32 in decimal digits.
+    #[error("error: invalid value '{word}' for '{name}': expected a decimal number up to 4294967295")]
+    Decimal { name: &'static str, word: String },
     /// The rights are not r, w and x in this order, each of them or `-` or `_` in its place.
     #[error("error: invalid value '{0}' for '<RIGHTS>': expected r, w and x in this order, with _ for each right that is left out")]
     Rights(String),

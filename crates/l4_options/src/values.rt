@@ -401,6 +401,19 @@ pub(crate) fn number_of(
     }
 }
 
+/// The decimal number of an option, by its name and its value's on the command line.
+pub(crate) fn decimal_of(alloc: Global, word: &str, name: &'static str) -> Result<u32, OptionFault>
+    ensures { IfOk result (λ n. decimal_of word.now ≡ Some n) }
+{
+    match number_in(word.as_bytes()) {
+        Some(number) => Ok(number),
+        None => match String::from_str(alloc, word) {
+            Ok(word) => Err(OptionFault::Decimal { name, word }),
+            Err(_) => Err(OptionFault::Memory),
+        },
+    }
+}
+
 /// The rights of a region.
 fn rights_of(alloc: Global, matches: &ArgMatches<'_>) -> Result<Rights, OptionFault>
     ensures { IfOk result (AreRightsIn (found_in matches.now)) }
