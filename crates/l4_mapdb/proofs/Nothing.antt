@@ -39,8 +39,8 @@ pub cuts_none : (now : Linked) → HavePlaces now → IsClean now → (Used : Pa
 cuts_none now have clean Used none = loses_nothing (IsCut Used (mappings_of now)) (mappings_of now) some_right (λ q _ _ k. none q k)
   where
     some_right : (q : Place) (m : Mapping) → shown (mappings_of now) q ≡ Some m → m.rights ≢ no_rights
-    some_right q m h no =
+    some_right q m h is_none =
         let u = (shown_by_key now have q m).0 h in
         let p = clean u.key u.entry u.at in
         let same : p.standing ≡ u.standing = same_value (sym p.stands ∙ u.stands) in
-        p.some_right (ap (λ (x : Standing). x.rights) same ∙ ap (λ (x : Mapping). x.rights) u.mapping ∙ no)
+        p.some_right (ap (λ (x : Standing). x.rights) same ∙ ap (λ (x : Mapping). x.rights) u.mapping ∙ is_none)
