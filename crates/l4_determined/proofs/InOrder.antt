@@ -31,14 +31,15 @@ use Rattle.l4_threads.specs.declared.ThreadFault.TheVariants.{NoPrivilege, BadId
 use Rattle.l4_ipc.specs.declared.calls.Call.{Call}
 use Rattle.l4_ipc.specs.declared.calls.Call.TheVariants.{Ipc, Fault, Unmap, Control as Controls}
 use Rattle.l4_ipc.specs.declared.calls.Control.TheVariants.{Create, SetPager, Delete}
-use Rattle.l4_ipc.specs.declared.turns.Next.{Next}
-use Rattle.l4_ipc.specs.declared.turns.Next.TheVariants.{Ends, Sends, Receives}
+use Rattle.l4_phases.specs.declared.turns.Next.{Next}
+use Rattle.l4_phases.specs.declared.turns.Next.TheVariants.{Ends, Sends, Receives}
 use Rattle.l4_ipc.specs.declared.steps.Answer.{Answer}
 use Rattle.l4_ipc.specs.declared.steps.Refused.{Refused}
 use Rattle.l4_ipc.specs.declared.steps.Step.{Step}
 use Rattle.l4_ipc.specs.declared.steps.Step.TheVariants.{Start, Transfer, Expire}
 use Rattle.l4_ipc.specs.Machine.{Machine}
-use Rattle.l4_ipc.specs.Start.{ipc_next, fault_next, enters, going_on}
+use Rattle.l4_phases.specs.Phases.{enters, going_on}
+use Rattle.l4_ipc.specs.Start.{ipc_next, fault_next}
 use Rattle.l4_ipc.specs.Steps.{Steps, Starts, DeletesThread, sender_next, is_done, expiry}
 use Rattle.l4_ipc.proofs.Threads.{past}
 use Rattle.l4_determined.specs.Inside.InOrder.{IsInOrder}

@@ -7,7 +7,7 @@ use Rattle.l4_msg.specs.Messages.{MessageReads, tag_of, typed_words}
 use Rattle.l4_msg.specs.Words.{ItemsRead}
 use Rattle.l4_msg.specs.declared.items.Item.{Item}
 use Rattle.l4_msg.specs.declared.messages.Message.{Message}
-use Rattle.l4_ipc.specs.declared.turns.Sent.{Sent}
+use Rattle.l4_phases.specs.declared.turns.Sent.{Sent}
 use Rattle.l4_ipc.specs.Start.{counted_words}
 
 -- the first words begin with the first word

@@ -28,7 +28,7 @@ use Rattle.l4_threads.proofs.QueuePairs.{pairs_total, exact_number_pairs}
 use Rattle.l4_ipc.specs.declared.calls.Call.{Call}
 use Rattle.l4_ipc.specs.declared.calls.Call.TheVariants.{Ipc, Fault, Unmap, Control as Controls}
 use Rattle.l4_ipc.specs.declared.calls.Control.TheVariants.{Create, SetPager, Delete}
-use Rattle.l4_ipc.specs.declared.turns.Sent.{Sent}
+use Rattle.l4_phases.specs.declared.turns.Sent.{Sent}
 use Rattle.l4_ipc.specs.declared.steps.Step.{Step}
 use Rattle.l4_ipc.specs.declared.steps.Step.TheVariants.{Start, Transfer, Expire}
 use Rattle.l4_ipc.specs.declared.steps.Outcome.{Outcome}
@@ -37,7 +37,8 @@ use Rattle.l4_ipc.specs.declared.steps.Answer.{Answer}
 use Rattle.l4_ipc.specs.declared.steps.Refused.{Refused}
 use Rattle.l4_ipc.specs.Machine.{Machine}
 use Rattle.l4_ipc.specs.Moving.{IsUsedBy, Moves}
-use Rattle.l4_ipc.specs.Start.{has_send, has_receive, ipc_next, enters, IsSent, IsWindow}
+use Rattle.l4_phases.specs.Phases.{enters}
+use Rattle.l4_ipc.specs.Start.{has_send, has_receive, ipc_next, IsSent, IsWindow}
 use Rattle.l4_ipc.specs.Steps.{Steps, Starts, DeletesThread, Meets, expiry, after_transfer, is_done, with_space}
 use Rattle.l4_fpage.specs.declared.sizes.PageSize.{PageSize}
 

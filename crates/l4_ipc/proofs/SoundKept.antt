@@ -31,9 +31,9 @@ use Rattle.l4_ipc.specs.declared.calls.Call.TheVariants.{Ipc, Fault, Unmap, Cont
 use Rattle.l4_ipc.specs.declared.calls.Control.TheVariants.{Create, SetPager, Delete}
 use Rattle.l4_ipc.specs.declared.calls.IpcCall.{IpcCall}
 use Rattle.l4_ipc.specs.declared.calls.FaultCall.{FaultCall}
-use Rattle.l4_ipc.specs.declared.turns.Next.{Next}
-use Rattle.l4_ipc.specs.declared.turns.Next.TheVariants.{Ends, Sends, Receives}
-use Rattle.l4_ipc.specs.declared.turns.Sent.{Sent}
+use Rattle.l4_phases.specs.declared.turns.Next.{Next}
+use Rattle.l4_phases.specs.declared.turns.Next.TheVariants.{Ends, Sends, Receives}
+use Rattle.l4_phases.specs.declared.turns.Sent.{Sent}
 use Rattle.l4_ipc.specs.declared.steps.Answer.{Answer}
 use Rattle.l4_ipc.specs.declared.steps.Outcome.{Outcome}
 use Rattle.l4_ipc.specs.declared.steps.Outcome.TheVariants.{Started, Done, NoWindow, Entangled, NoMemory, Expired}
@@ -41,7 +41,8 @@ use Rattle.l4_ipc.specs.declared.steps.Refused.{Refused}
 use Rattle.l4_ipc.specs.declared.steps.Step.{Step}
 use Rattle.l4_ipc.specs.declared.steps.Step.TheVariants.{Start, Transfer, Expire}
 use Rattle.l4_ipc.specs.Machine.{Machine, machine}
-use Rattle.l4_ipc.specs.Start.{has_send, IsSent, ipc_next, going_on, later_of, partner, send_timeout, has_page, fault_words, fault_next, enters}
+use Rattle.l4_phases.specs.Phases.{going_on, partner, enters}
+use Rattle.l4_ipc.specs.Start.{has_send, IsSent, ipc_next, later_of, send_timeout, has_page, fault_words, fault_next}
 use Rattle.l4_ipc.specs.Moving.{Moves}
 use Rattle.l4_ipc.specs.Inside.Sound.{IsOfWords, AreSound, IsSound}
 use Rattle.l4_ipc.specs.Steps.{receiver_reply, sender_next, is_done, expiry, with_space, Steps}

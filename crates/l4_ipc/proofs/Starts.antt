@@ -24,18 +24,19 @@ use Rattle.l4_ipc.specs.declared.calls.Call.{Call}
 use Rattle.l4_ipc.specs.declared.calls.Call.TheVariants.{Ipc}
 use Rattle.l4_ipc.specs.declared.calls.IpcCall.{IpcCall}
 use Rattle.l4_threads.specs.declared.Source.TheVariants.{Anyone, Thread as One}
-use Rattle.l4_ipc.specs.declared.turns.Next.{Next}
-use Rattle.l4_ipc.specs.declared.turns.Next.TheVariants.{Ends, Sends, Receives}
-use Rattle.l4_ipc.specs.declared.turns.Sent.{Sent}
+use Rattle.l4_phases.specs.declared.turns.Next.{Next}
+use Rattle.l4_phases.specs.declared.turns.Next.TheVariants.{Ends, Sends, Receives}
+use Rattle.l4_phases.specs.declared.turns.Sent.{Sent}
 use Rattle.l4_ipc.specs.declared.steps.Answer.{Answer}
 use Rattle.l4_ipc.specs.declared.steps.Outcome.TheVariants.{Started, Expired}
 use Rattle.l4_ipc.specs.declared.steps.Refused.{Refused}
 use Rattle.l4_ipc.specs.declared.steps.Refused.TheVariants.{UnknownThread}
 use Rattle.l4_ipc.specs.declared.steps.Step.TheVariants.{Start, Expire}
 use Rattle.l4_ipc.specs.Machine.{Machine, machine}
-use Rattle.l4_ipc.specs.Start.{has_send, send_timeout, counted_words, partner, IsSent, IsAccepted, CallRefuses, RefusesIn, StartRefuses, later_of, ipc_next, going_on, enters, ended_by}
+use Rattle.l4_phases.specs.Phases.{partner, going_on, enters, ended_by}
+use Rattle.l4_ipc.specs.Start.{has_send, send_timeout, counted_words, IsSent, IsAccepted, CallRefuses, RefusesIn, StartRefuses, later_of, ipc_next}
 use Rattle.l4_ipc.specs.Inside.Answering.{written}
-use Rattle.l4_ipc.specs.Inside.Entering.{CanEnter}
+use Rattle.l4_phases.specs.Phases.{CanEnter}
 use Rattle.l4_ipc.specs.Inside.Turns.{sent_of}
 use Rattle.l4_ipc.specs.Steps.{expiry, Meets, sender_next, Steps}
 use Rattle.l4_ipc.proofs.Threads.{running_thread, put_there, pager_there, has_state, state_other}

@@ -19,13 +19,14 @@ use Rattle.l4_threads.specs.Control.{create_test, created, is_privileged, is_bad
 use Rattle.l4_ipc.specs.declared.calls.Call.{Call}
 use Rattle.l4_ipc.specs.declared.calls.Call.TheVariants.{Ipc, Fault, Unmap, Control as Controls}
 use Rattle.l4_ipc.specs.declared.calls.Control.TheVariants.{Create, SetPager, Delete}
-use Rattle.l4_ipc.specs.declared.turns.Next.{Next}
-use Rattle.l4_ipc.specs.declared.turns.Next.TheVariants.{Ends, Sends, Receives}
+use Rattle.l4_phases.specs.declared.turns.Next.{Next}
+use Rattle.l4_phases.specs.declared.turns.Next.TheVariants.{Ends, Sends, Receives}
 use Rattle.l4_ipc.specs.declared.steps.Answer.{Answer}
 use Rattle.l4_ipc.specs.declared.steps.Step.{Step}
 use Rattle.l4_ipc.specs.declared.steps.Step.TheVariants.{Start, Transfer, Expire}
 use Rattle.l4_ipc.specs.Machine.{Machine}
-use Rattle.l4_ipc.specs.Start.{enters, ended_by, ipc_next, fault_next}
+use Rattle.l4_phases.specs.Phases.{enters, ended_by}
+use Rattle.l4_ipc.specs.Start.{ipc_next, fault_next}
 use Rattle.l4_ipc.specs.Steps.{Steps, Waits, is_done, sender_next, receiver_reply, expiry, Meets}
 use Rattle.l4_ipc.proofs.Threads.{past, state_other}
 use Rattle.l4_ipc.proofs.Deletes.{differs}

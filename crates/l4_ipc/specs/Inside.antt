@@ -1,6 +1,5 @@
 pub mod Answering
 pub mod Delivering
-pub mod Entering
 pub mod Kept
 pub mod Sound
 pub mod Turns

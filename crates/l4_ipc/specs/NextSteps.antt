@@ -6,7 +6,7 @@ use Rattle.l4_ipc.specs.declared.steps.NextStep.TheVariants.{Transfer as Transfe
 use Rattle.l4_ipc.specs.declared.steps.Outcome.TheVariants.{Expired}
 use Rattle.l4_ipc.specs.declared.steps.Step.{Step}
 use Rattle.l4_ipc.specs.declared.steps.Step.TheVariants.{Transfer, Expire}
-use Rattle.l4_ipc.specs.OwnCall.{ended_if}
+use Rattle.l4_phases.specs.Phases.{ended_if}
 
 -- the step
 abbrev pub step_of : NextStep → Step

@@ -1,12 +1,8 @@
 -- The answer of a start in which no other thread's call ended (this profile's own).
-use Rattle.std.specs.Prelude.{ℕ, Bool, true, false, List, [], ◌∷◌}
+use Rattle.std.specs.Prelude.{ℕ, Bool}
+use Rattle.l4_phases.specs.Phases.{ended_if}
 use Rattle.l4_ipc.specs.declared.steps.Answer.{Answer}
 use Rattle.l4_ipc.specs.declared.steps.Outcome.TheVariants.{Started}
-
--- the list of the thread, if its call ends
-abbrev pub ended_if : Bool → ℕ → List ℕ
-ended_if true n = n ∷ []
-ended_if false n = []
 
 -- the answer of a start in which this thread's call ended, or none did
 abbrev pub own_answer : Bool → ℕ → Answer

@@ -1,6 +1,6 @@
 -- How a call starts: the refusals in their order, and what the caller does next (L4 X.2 manual: Ipc, Unmap, ThreadControl and the page
 -- fault protocol; the timeouts, the fault label and the ErrorCodes are this profile's own).
-use Rattle.std.specs.Prelude.{◌≡◌, ℕ, ◌+◌, ◌/◌, ◌%◌, ◌^◌, ◌==◌, ◌&&◌, ◌||◌, not, ◌⊎◌, Bool, true, false, if◌then◌else◌, List, [], ◌∷◌, take, Option, Some, None, option_and_then, MatchOption, Err}
+use Rattle.std.specs.Prelude.{◌≡◌, ℕ, ◌+◌, ◌/◌, ◌%◌, ◌^◌, ◌==◌, ◌&&◌, ◌||◌, not, ◌⊎◌, Bool, true, false, if◌then◌else◌, List, [], take, Option, Some, None, MatchOption, Err}
 use Rattle.std.specs.Option.{option_map_or}
 use Rattle.l4_fpage.specs.Rights.{RightsSet, is_none, without, all_rights}
 use Rattle.l4_fpage.specs.declared.fpages.Fpage.{Fpage}
@@ -18,11 +18,9 @@ use Rattle.l4_unmap.specs.declared.UnmapFault.{UnmapFault}
 use Rattle.l4_unmap.specs.Unmap.{UnmapFails}
 use Rattle.l4_threads.specs.declared.ThreadId.{ThreadId}
 use Rattle.l4_threads.specs.declared.ThreadFault.{ThreadFault}
-use Rattle.l4_threads.specs.declared.Source.TheVariants.{Anyone, Thread as One}
 use Rattle.l4_threads.specs.declared.Later.{Later}
-use Rattle.l4_threads.specs.declared.Reply.{Reply}
-use Rattle.l4_threads.specs.declared.Reply.TheVariants.{Ipc as IpcReply, Hit}
-use Rattle.l4_threads.specs.Threads.{Threads, state_of, named, nilthread, is_running, failed, start_send, start_receive, end_call}
+use Rattle.l4_threads.specs.declared.Reply.TheVariants.{Hit}
+use Rattle.l4_threads.specs.Threads.{Threads, state_of, is_running, failed}
 use Rattle.l4_threads.specs.Control.{create_test, set_pager_test, delete_test}
 use Rattle.l4_ipc.specs.declared.calls.Call.{Call}
 use Rattle.l4_ipc.specs.declared.calls.Call.TheVariants.{Ipc, Fault, Unmap, Control as Controls}
@@ -32,9 +30,10 @@ use Rattle.l4_ipc.specs.declared.calls.Control.TheVariants.{Create, SetPager, De
 use Rattle.l4_ipc.specs.declared.steps.Lower.TheVariants.{Message as LowerMessage, Unmap as LowerUnmap, Thread as LowerThread}
 use Rattle.l4_ipc.specs.declared.steps.Refused.{Refused}
 use Rattle.l4_ipc.specs.declared.steps.Refused.TheVariants.{UnknownThread, Busy, BadTimeout, Lower}
-use Rattle.l4_ipc.specs.declared.turns.Next.{Next}
-use Rattle.l4_ipc.specs.declared.turns.Next.TheVariants.{Ends, Sends, Receives}
-use Rattle.l4_ipc.specs.declared.turns.Sent.{Sent}
+use Rattle.l4_phases.specs.declared.turns.Next.{Next}
+use Rattle.l4_phases.specs.declared.turns.Next.TheVariants.{Ends, Sends}
+use Rattle.l4_phases.specs.declared.turns.Sent.{Sent}
+use Rattle.l4_phases.specs.Phases.{going_on, partner}
 use Rattle.l4_ipc.specs.Machine.{Machine}
 use Rattle.l4_fpage.specs.declared.sizes.PageSize.{PageSize}
 
@@ -115,28 +114,9 @@ StartRefuses m n call e = MatchOption (state_of m.threads n) (e ≡ UnknownThrea
 
 -- WHAT THE CALLER DOES NEXT
 
--- the reply of an Ipc that received nothing
-abbrev pub plain_reply : Reply
-plain_reply = IpcReply (record { tag = 0; error = 0; «from» = nilthread; words = record { items = [] } })
-
--- the receive phase begins: it accepts messages from any thread, or from one that exists; if that thread does not exist, the call fails
-abbrev pub receiving : Threads → Later → Bool → Next
-receiving t later fault =
-    if later.«from».0 == 0xffff_ffff then Receives (record { «from» = Anyone; window = later.window; expires = later.expires; fault = fault }) else
-    option_map_or (λ n. Receives (record { «from» = One n; window = later.window; expires = later.expires; fault = fault })) (named t later.«from») (Ends (failed fault 5))
-
 -- the receive phase of a call, if it has one
 abbrev pub later_of : IpcCall → Fpage → Option Later
 later_of call window = if has_receive call then Some (record { «from» = call.«from»; window = window; expires = receive_timeout call == 0x400 }) else None
-
--- what a call does after its send phase: its receive phase, or it ends
-abbrev pub going_on : Threads → Option Later → Bool → Next
-going_on t None fault = Ends plain_reply
-going_on t (Some later) fault = receiving t later fault
-
--- the partner of a send phase, a thread other than the caller; anythread names none
-abbrev pub partner : Threads → ℕ → ThreadId → Option ℕ
-partner t caller id = if id.0 == 0xffff_ffff then None else option_and_then (λ n. if n == caller then None else Some n) (named t id)
 
 -- An Ipc starts: it sends to its partner, if that exists, and fails if it does not. Without a send phase it receives.
 abbrev pub ipc_next : Threads → ℕ → IpcCall → Sent → Fpage → Next
@@ -162,14 +142,3 @@ fault_next size t s n space pager call =
     if has_page size s space call then Ends Hit else
     option_map_or (λ to. Sends (record { words = record { items = fault_words call }; items = record { items = [] }; to = to; expires = false; «then» = Some (record { «from» = pager; window = Complete all_rights; expires = false }); fault = true }))
     (partner t n pager) (Ends (failed true 4))
-
--- the threads after the thread does this next
-abbrev pub enters : Threads → ℕ → Next → Threads
-enters t n (Ends reply) = end_call t n reply
-enters t n (Sends s) = start_send t n s
-enters t n (Receives r) = start_receive t n r
-
--- the list with this thread if its call ends, and otherwise the empty list
-abbrev pub ended_by : ℕ → Next → List ℕ
-ended_by n (Ends reply) = n ∷ []
-ended_by n other = []

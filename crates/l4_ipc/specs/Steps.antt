@@ -27,11 +27,12 @@ use Rattle.l4_ipc.specs.declared.steps.Answer.{Answer}
 use Rattle.l4_ipc.specs.declared.steps.Lower.TheVariants.{NoMemory as LowerNoMemory}
 use Rattle.l4_ipc.specs.declared.steps.Refused.{Refused}
 use Rattle.l4_ipc.specs.declared.steps.Refused.TheVariants.{NotEnabled, Lower}
-use Rattle.l4_ipc.specs.declared.turns.Sent.{Sent}
-use Rattle.l4_ipc.specs.declared.turns.Next.{Next}
-use Rattle.l4_ipc.specs.declared.turns.Next.TheVariants.{Ends}
+use Rattle.l4_phases.specs.declared.turns.Sent.{Sent}
+use Rattle.l4_phases.specs.declared.turns.Next.{Next}
+use Rattle.l4_phases.specs.declared.turns.Next.TheVariants.{Ends}
 use Rattle.l4_ipc.specs.Machine.{Machine}
-use Rattle.l4_ipc.specs.Start.{IsAccepted, StartRefuses, ipc_next, fault_next, enters, ended_by, going_on}
+use Rattle.l4_phases.specs.Phases.{enters, ended_by, going_on}
+use Rattle.l4_ipc.specs.Start.{IsAccepted, StartRefuses, ipc_next, fault_next}
 use Rattle.l4_ipc.specs.Moving.{Moves}
 
 -- START

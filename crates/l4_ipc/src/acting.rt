@@ -13,9 +13,11 @@ ghost use Rattle.l4_msg.specs.Messages.{HasGoodTag, tag_of};
 ghost use Rattle.l4_msg.specs.Sizes.{max_words, max_items};
 ghost use Rattle.l4_msg.specs.Tags.{TagReads};
 ghost use Rattle.l4_ipc.specs.Start.{has_send, has_bad_timeout, IsSent};
-ghost use Rattle.l4_ipc.specs.Inside.Turns.{reply_of, sent_of};
+ghost use Rattle.l4_phases.specs.Turns.{reply_of};
+ghost use Rattle.l4_ipc.specs.Inside.Turns.{sent_of};
 ghost use Rattle.l4_ipc.specs.Inside.Answering.{StartsCall, StartsControl, ExpiresCall, answered_if, written};
-ghost use Rattle.l4_ipc.specs.OwnCall.{ended_if, own_answer};
+ghost use Rattle.l4_phases.specs.Phases.{ended_if};
+ghost use Rattle.l4_ipc.specs.OwnCall.{own_answer};
 ghost use Rattle.l4_ipc.specs.NextSteps.{answer_of};
 ghost use Rattle.l4_ipc.specs.Steps.{expiry, with_space, Steps};
 ghost use Rattle.l4_ipc.specs.declared.steps.Step.TheVariants.{Start, Transfer as Transfers};
@@ -30,14 +32,13 @@ use crate::deleting::delete;
 use crate::delivering::{
     deliver, end_receiver, is_done, meet, receiver_ending, sender_turn, tag_of,
 };
-use crate::faulting::enter_fault;
-use crate::starting::{end, enter, going_on, partner};
+use crate::faulting::{FaultingThread, enter_fault};
 use crate::steps::{Answer, Lower, Outcome, Refused};
-use crate::turns::{Ending, FaultingThread};
 use arrayvec::ArrayVec;
 use l4_forest::{Forest, NoMemory};
 use l4_fpage::PageSize;
 use l4_msg::{Item, Message, Tag};
+use l4_phases::{Ending, end, enter, going_on, partner};
 use l4_threads::{Activity, Envelope, MAX_THREADS, SendPhase, ThreadId, Threads, Wordless};
 use l4_unmap::unmap;
 

@@ -8,7 +8,8 @@ ghost use Rattle.l4_ipc.specs.Moving.{Moves};
 ghost use Rattle.l4_ipc.specs.SpacePages.{FitIn};
 ghost use Rattle.l4_msg.specs.Moves.{StaysIn};
 ghost use Rattle.l4_ipc.specs.Inside.Delivering.{AreThere, IsListed, outcome_of};
-ghost use Rattle.l4_ipc.specs.Inside.Turns.{reply_or, next_of, message_reply};
+ghost use Rattle.l4_phases.specs.Turns.{next_of};
+ghost use Rattle.l4_ipc.specs.Inside.Turns.{reply_or, message_reply};
 ghost use Rattle.l4_ipc.specs.Steps.{Meets, receiver_reply, sender_next, is_done};
 ghost use Rattle.l4_threads.specs.Threads.{state_of, end_call, message_of};
 ghost use Rattle.l4_threads.specs.declared.Reply.TheVariants.{Ipc};
@@ -19,13 +20,12 @@ ghost use Rattle.l4_msg.specs.declared.items.Item.{Item as AnItem};
 ghost use Rattle.l4_threads.specs.declared.Sending.{Sending as ASending};
 ghost use Rattle.l4_threads.specs.declared.Thread.{Thread as AThread};
 
-use crate::starting::{end, going_on};
 use crate::steps::Outcome;
-use crate::turns::{Ending, Turn};
 use arrayvec::ArrayVec;
 use l4_forest::{Cause, Forest, ItemMove};
 use l4_fpage::{Block, Fpage, PageSize, Rights};
 use l4_msg::{Item, MAX_ITEMS, Move, item_moves};
+use l4_phases::{Ending, Turn, end, going_on};
 use l4_threads::{Envelope, Receiving, Sending, Thread, Threads};
 
 /// The two threads of an enabled transfer, and the state of each.

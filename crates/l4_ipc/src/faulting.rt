@@ -2,18 +2,36 @@
 ghost use Rattle.std.specs.Prelude.{◌≡◌, IsTrue};
 ghost use Rattle.l4_mapdb.specs.Mappings.{rights_at};
 ghost use Rattle.l4_threads.specs.Threads.{runs};
-ghost use Rattle.l4_ipc.specs.Start.{has_page, fault_words, enters, ended_by};
+ghost use Rattle.l4_phases.specs.Phases.{enters, ended_by, ended_if};
+ghost use Rattle.l4_ipc.specs.Start.{has_page, fault_words};
 ghost use Rattle.l4_ipc.specs.Inside.Turns.{next_of_fault, next_of_faulting};
-ghost use Rattle.l4_ipc.specs.OwnCall.{ended_if};
-ghost use Rattle.l4_ipc.specs.declared.turns.FaultTurn.TheVariants.{Tells};
+ghost use Rattle.l4_ipc.specs.declared.faulting.FaultTurn.TheVariants.{Tells};
 
 use crate::calls::FaultCall;
-use crate::starting::{end, partner};
-use crate::turns::{Ending, FaultTurn, FaultingThread};
 use l4_forest::Forest;
 use l4_fpage::{Fpage, PageSize, Rights};
 use l4_msg::{FAULT_LABEL, Tag};
+use l4_phases::{Ending, end, partner};
 use l4_threads::{Later, SendPhase, ThreadId, Threads};
+
+/// What a thread does when it faults.
+#[derive(Clone, Copy)]
+pub enum FaultTurn {
+    /// Its call ends.
+    Ends(Ending),
+    /// It reports the fault to its pager, the thread with this number.
+    Tells(u32),
+}
+
+/// A thread that faults.
+#[derive(Clone, Copy)]
+pub struct FaultingThread {
+    pub number: u32,
+    /// The space of the fault.
+    pub space: u64,
+    /// The pager that the fault is reported to.
+    pub pager: ThreadId,
+}
 
 /// The number of words of a fault's message after its tag: the address and the instruction pointer.
 const UNTYPED: usize = 2;

@@ -11,9 +11,7 @@ mod kernel;
 mod laws;
 mod parts;
 mod reading;
-mod starting;
 mod steps;
-mod turns;
 
 pub use arrayvec::ArrayVec;
 pub use calls::{Call, Control, Create, FaultCall, IpcCall, SetPager, UnmapCall};
@@ -24,8 +22,8 @@ pub use l4_fpage::{BadFpage, Block, Extent, Fpage, MOST_PAGES, PageSize, Rights}
 pub use l4_msg::{
     Acceptor, Item, ItemFault, MAX_ITEMS, MAX_UNTYPED, MAX_WORDS, Message, MsgFault, Tag,
 };
+pub use l4_phases::{Next, Sent};
 pub use l4_threads::{IpcReply, MAX_THREADS, Reply, ThreadFault, ThreadId};
 pub use l4_unmap::UnmapFault;
 pub use laws::{an_answer_leads_to_one_state, the_size_of_pages_stays};
 pub use steps::{Answer, Lower, NextStep, Outcome, Refused, Step};
-pub use turns::{Next, Sent};

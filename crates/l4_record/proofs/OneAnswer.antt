@@ -33,10 +33,11 @@ use Rattle.l4_ipc.specs.declared.steps.Refused.{Refused}
 use Rattle.l4_ipc.specs.declared.steps.Refused.TheVariants.{UnknownThread}
 use Rattle.l4_ipc.specs.declared.steps.Step.{Step}
 use Rattle.l4_ipc.specs.declared.steps.Step.TheVariants.{Start, Transfer, Expire}
-use Rattle.l4_ipc.specs.declared.turns.Sent.{Sent}
+use Rattle.l4_phases.specs.declared.turns.Sent.{Sent}
 use Rattle.l4_ipc.specs.Machine.{Machine}
 use Rattle.l4_ipc.specs.Moving.{Moves}
-use Rattle.l4_ipc.specs.Start.{has_send, has_receive, ipc_next, ended_by, IsSent, IsWindow, CallRefuses, RefusesIn, StartRefuses}
+use Rattle.l4_phases.specs.Phases.{ended_by}
+use Rattle.l4_ipc.specs.Start.{has_send, has_receive, ipc_next, IsSent, IsWindow, CallRefuses, RefusesIn, StartRefuses}
 use Rattle.l4_ipc.specs.Steps.{Steps, Starts, DeletesThread, is_done, ended_in_transfer}
 use Rattle.l4_ipc.proofs.OneState.{same_value, one_meeting}
 use Rattle.l4_record.specs.Replays.{RanOut}

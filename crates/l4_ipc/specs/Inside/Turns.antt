@@ -6,34 +6,21 @@ use Rattle.l4_msg.specs.declared.items.Item.{Item}
 use Rattle.l4_threads.specs.declared.Reply.{Reply}
 use Rattle.l4_threads.specs.declared.Sending.{Sending}
 use Rattle.l4_threads.specs.declared.Thread.{Thread}
-use Rattle.l4_threads.specs.declared.Reply.TheVariants.{Ipc as IpcReply, Answered as IsAnswered, Hit as IsHit}
+use Rattle.l4_threads.specs.declared.Reply.TheVariants.{Ipc as IpcReply}
 use Rattle.l4_threads.specs.declared.ThreadId.{ThreadId}
-use Rattle.l4_threads.specs.Threads.{Threads, nilthread, failed, sending_of, message_of}
+use Rattle.l4_threads.specs.Threads.{Threads, sending_of, message_of}
 use Rattle.l4_mapdb.specs.Mappings.{Mappings}
 use Rattle.l4_fpage.specs.declared.sizes.PageSize.{PageSize}
 use Rattle.l4_ipc.specs.declared.calls.FaultCall.{FaultCall}
-use Rattle.l4_ipc.specs.declared.turns.Sent.{Sent}
-use Rattle.l4_ipc.specs.declared.turns.Next.{Next}
-use Rattle.l4_ipc.specs.declared.turns.Next.TheVariants.{Ends as NextEnds, Sends as NextSends, Receives as NextReceives}
-use Rattle.l4_ipc.specs.declared.turns.Ending.{Ending}
-use Rattle.l4_ipc.specs.declared.turns.Ending.TheVariants.{Plain, Failed, Answered, Hit}
-use Rattle.l4_ipc.specs.declared.turns.Turn.{Turn}
-use Rattle.l4_ipc.specs.declared.turns.Turn.TheVariants.{Ends, Receives}
-use Rattle.l4_ipc.specs.declared.turns.FaultTurn.{FaultTurn}
-use Rattle.l4_ipc.specs.declared.turns.FaultTurn.TheVariants.{Ends as FaultEnds, Tells}
-use Rattle.l4_ipc.specs.declared.turns.FaultingThread.{FaultingThread}
-use Rattle.l4_ipc.specs.Start.{plain_reply, fault_words, fault_next}
-
--- the reply of an Ipc with this tag, this ErrorCode and no words
-abbrev pub wordless : ℕ → ℕ → Reply
-wordless tag error = IpcReply (record { tag = tag; error = error; «from» = nilthread; words = record { items = [] } })
-
--- the reply of this ending
-abbrev pub reply_of : Ending → Reply
-reply_of Plain = plain_reply
-reply_of (Failed fault code) = failed fault code
-reply_of Answered = IsAnswered
-reply_of Hit = IsHit
+use Rattle.l4_phases.specs.declared.turns.Sent.{Sent}
+use Rattle.l4_phases.specs.declared.turns.Next.{Next}
+use Rattle.l4_phases.specs.declared.turns.Next.TheVariants.{Ends as NextEnds, Sends as NextSends}
+use Rattle.l4_phases.specs.declared.turns.Ending.{Ending}
+use Rattle.l4_ipc.specs.declared.faulting.FaultTurn.{FaultTurn}
+use Rattle.l4_ipc.specs.declared.faulting.FaultTurn.TheVariants.{Ends as FaultEnds, Tells}
+use Rattle.l4_ipc.specs.declared.faulting.FaultingThread.{FaultingThread}
+use Rattle.l4_phases.specs.Turns.{reply_of}
+use Rattle.l4_ipc.specs.Start.{fault_words, fault_next}
 
 -- the reply of an ending, if there is one, and otherwise the message
 abbrev pub reply_or : Option Ending → Reply → Reply
@@ -43,11 +30,6 @@ reply_or (Some ending) message = reply_of ending
 -- the reply of a message that was received
 abbrev pub message_reply : Thread → Sending → Reply
 message_reply «from» sends = IpcReply (message_of (record { tag = slice_index sends.words.items 0; error = 0; «from» = «from».id }) (drop 1 sends.words.items))
-
--- what the thread does next
-abbrev pub next_of : Turn → Next
-next_of (Ends ending) = NextEnds (reply_of ending)
-next_of (Receives receiving) = NextReceives receiving
 
 -- what a thread does when it faults: if its call does not end, it reports the fault to its pager, and then receives from it
 abbrev pub next_of_fault : ThreadId → FaultCall → FaultTurn → Next

@@ -4,9 +4,10 @@ use Rattle.l4_threads.specs.Threads.{message_of, end_call}
 use Rattle.l4_threads.specs.declared.Reply.{Reply}
 use Rattle.l4_threads.specs.declared.Reply.TheVariants.{Ipc}
 use Rattle.l4_ipc.specs.Moving.{Moves}
-use Rattle.l4_ipc.specs.Start.{enters, ended_by}
+use Rattle.l4_phases.specs.Phases.{enters, ended_by}
 use Rattle.l4_ipc.specs.Steps.{is_done, receiver_reply, sender_next}
-use Rattle.l4_ipc.specs.Inside.Turns.{next_of, reply_or}
+use Rattle.l4_phases.specs.Turns.{next_of}
+use Rattle.l4_ipc.specs.Inside.Turns.{reply_or}
 use Rattle.l4_ipc.proofs.Starts.{can_enter_after, sends_in_transfer}
 use Rattle.l4_ipc.proofs.acting.carry_over.Goals as goal
 

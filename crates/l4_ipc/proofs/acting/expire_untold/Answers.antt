@@ -1,5 +1,5 @@
 use Rattle.std.proofs.Common.{refl}
-use Rattle.l4_ipc.specs.Inside.Turns.{reply_of}
+use Rattle.l4_phases.specs.Turns.{reply_of}
 use Rattle.l4_ipc.specs.declared.steps.NextStep.TheVariants.{Expire as Expiry}
 use Rattle.l4_ipc.specs.NextSteps.{answer_of}
 use Rattle.l4_ipc.proofs.Starts.{expired}

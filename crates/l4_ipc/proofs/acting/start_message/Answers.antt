@@ -1,7 +1,7 @@
 use Rattle.std.proofs.Common.{refl, inl, inr, false}
 use Rattle.l4_threads.specs.Threads.{failed}
 use Rattle.l4_ipc.specs.declared.calls.Call.TheVariants.{Ipc}
-use Rattle.l4_ipc.specs.declared.turns.Next.TheVariants.{Ends}
+use Rattle.l4_phases.specs.declared.turns.Next.TheVariants.{Ends}
 use Rattle.l4_ipc.specs.Machine.{machine}
 use Rattle.l4_ipc.specs.Inside.Turns.{sent_of}
 use Rattle.l4_ipc.proofs.Starts.{refuses, started, sends_some, sends_to, sends_nobody}

@@ -1,8 +1,8 @@
 use Rattle.std.proofs.Common.{refl, inl, inr, sym, ap, ◌∙◌, false}
 use Rattle.l4_ipc.specs.declared.calls.Call.TheVariants.{Ipc}
 use Rattle.l4_ipc.specs.Machine.{machine}
-use Rattle.l4_ipc.specs.Start.{going_on}
-use Rattle.l4_ipc.specs.Inside.Turns.{next_of}
+use Rattle.l4_phases.specs.Phases.{going_on}
+use Rattle.l4_phases.specs.Turns.{next_of}
 use Rattle.l4_ipc.proofs.Starts.{refuses, started, nothing, sends_nothing, receives_next, can_receive}
 use Rattle.l4_ipc.proofs.acting.start_receive.Goals as goal
 

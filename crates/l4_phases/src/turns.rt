@@ -1,6 +1,6 @@
 use arrayvec::ArrayVec;
 use l4_msg::{Item, MAX_ITEMS, MAX_WORDS};
-use l4_threads::{Receiving, Reply, Sending, ThreadId};
+use l4_threads::{Receiving, Reply, Sending};
 
 /// The end of a call whose reply has no words.
 #[derive(Clone, Copy)]
@@ -22,25 +22,6 @@ pub enum Turn {
     Ends(Ending),
     /// It is receiving.
     Receives(Receiving),
-}
-
-/// What a thread does when it faults.
-#[derive(Clone, Copy)]
-pub enum FaultTurn {
-    /// Its call ends.
-    Ends(Ending),
-    /// It reports the fault to its pager, the thread with this number.
-    Tells(u32),
-}
-
-/// A thread that faults.
-#[derive(Clone, Copy)]
-pub struct FaultingThread {
-    pub number: u32,
-    /// The space of the fault.
-    pub space: u64,
-    /// The pager that the fault is reported to.
-    pub pager: ThreadId,
 }
 
 /// What a thread does next.

@@ -1,10 +1,8 @@
 //! Starts and continues the calls of threads.
 ghost use Rattle.std.specs.Prelude.{◌≡◌, IsSome};
 ghost use Rattle.l4_threads.specs.Threads.{state_of, end_call};
-ghost use Rattle.l4_ipc.specs.Start.{receiving, going_on, partner, enters, ended_by};
-ghost use Rattle.l4_ipc.specs.Inside.Entering.{CanEnter};
-ghost use Rattle.l4_ipc.specs.Inside.Turns.{wordless, reply_of, next_of};
-ghost use Rattle.l4_ipc.specs.OwnCall.{ended_if};
+ghost use Rattle.l4_phases.specs.Phases.{receiving, going_on, partner, CanEnter, enters, ended_by, ended_if};
+ghost use Rattle.l4_phases.specs.Turns.{wordless, reply_of, next_of};
 
 use crate::turns::{Ending, Turn};
 use l4_threads::{Envelope, Later, Receiving, Source, ThreadId, Threads, Wordless};
