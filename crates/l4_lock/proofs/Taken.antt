@@ -18,7 +18,7 @@ is_taken old new before after reply k t = record {
   proves = t.proves;
 }
 
-pub takes_or_not : (r : Option Reply) (old new : Lock) (before after : SeatState) → IsKept old → IfSome r (λ reply. Takes old new before after (λ call. call) reply)
-    → IfNone r (after ≡ before) → MatchOption r (after ≡ before) (IsTaken before after)
-takes_or_not None old new before after k some none = none
-takes_or_not (Some reply) old new before after k some none = is_taken old new before after reply k some
+pub takes_or_not : (Why : Type 0) (r : Option Reply) (old new : Lock) (before after : SeatState) → IsKept old → IfSome r (λ reply. Takes old new before after (λ call. call) reply)
+    → IfNone r ((new ≡ old) × (after ≡ before) × Why) → MatchOption r (after ≡ before) (IsTaken before after)
+takes_or_not Why None old new before after k some none = none.1
+takes_or_not Why (Some reply) old new before after k some none = is_taken old new before after reply k some

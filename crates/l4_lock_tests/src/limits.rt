@@ -11,10 +11,14 @@ use std::thread::{Threads, join};
 use std::time::{Clock, Duration};
 
 /// A limit that is reached before anything happens.
-const SHORT: Duration = Duration::from_millis(2);
+fn short() -> Duration {
+    Duration::from_millis(2)
+}
 
 /// A limit that no test reaches.
-const LONG: Duration = Duration::from_secs(600);
+fn long() -> Duration {
+    Duration::from_secs(600)
+}
 
 /// A call outlasts its limit, and its reply is taken once it has ended.
 fn check_limits<R: Wait + Clock + Abort>(
@@ -24,16 +28,16 @@ fn check_limits<R: Wait + Clock + Abort>(
     third: &mut Seat,
 ) {
     assert!(rt; lock.call(rt, root, create(THIRD)).is_ok());
-    assert_eq!(rt; lock.call_for(rt, third, receive(), SHORT), Ok(None));
+    assert_eq!(rt; lock.call_for(rt, third, receive(), short()), Ok(None));
     assert_eq!(rt; lock.take(rt, third), None);
-    assert_eq!(rt; lock.wait_for(rt, third, SHORT), None);
+    assert_eq!(rt; lock.wait_for(rt, third, short()), None);
     assert_eq!(rt; (third.starts(), third.waiting()), (1, 1));
     assert_eq!(rt;
-        lock.call_for(rt, root, delete(THIRD), LONG),
+        lock.call_for(rt, root, delete(THIRD), long()),
         Ok(Some(Reply::Controlled))
     );
-    assert_eq!(rt; lock.wait_for(rt, third, LONG), Some(Reply::Gone));
-    assert_eq!(rt; lock.wait_for(rt, third, LONG), None);
+    assert_eq!(rt; lock.wait_for(rt, third, long()), Some(Reply::Gone));
+    assert_eq!(rt; lock.wait_for(rt, third, long()), None);
     assert_eq!(rt; (third.starts(), third.waiting()), (1, 0));
 }
 
@@ -67,7 +71,7 @@ fn wait_and_end<R: Threads + Wait + Clock + Sync>(
 {
     join(
         rt,
-        || lock.call_for(rt, root, receive(), LONG),
+        || lock.call_for(rt, root, receive(), long()),
         || -> bool
             requires { watch.now.board ≡ lock.now }
         { end(rt, lock, watch) },

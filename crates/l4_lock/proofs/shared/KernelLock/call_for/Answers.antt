@@ -1,6 +1,6 @@
 use Rattle.std.proofs.Common.{sym, ◌∙◌, subst}
 use Rattle.l4_lock.specs.Locked.{IsKept}
-use Rattle.l4_lock.proofs.timed.KernelLock.call_for.Goals as goal
+use Rattle.l4_lock.proofs.shared.KernelLock.call_for.Goals as goal
 
 pub returns-in-Err-clause-refuses : goal.returns-in-Err-clause-refuses
 returns-in-Err-clause-refuses g c = (
