@@ -1,18 +1,16 @@
 -- The tables of two spaces that are aside while pages go from the one to the other.
-use Rattle.std.proofs.Common.{◌≡◌, ◌≢◌, ◌≤◌, ℕ, length, IsTrue, Some, None, sym, ap, ◌∙◌, refl, subst, inl, inr}
+use Rattle.std.proofs.Common.{◌≡◌, ◌≢◌, ◌<◌, ℕ, nat_lt, true, List, Option, length, slice_set, IsTrue, sym, ap, ◌∙◌, subst, inl, inr, arith}
 use Rattle.std.proofs.lemmas.Bool.{cases_eq}
 use Rattle.std.specs.Ordering.{nat_cmp}
-use Rattle.std.specs.FinMap as map
 use Rattle.std.specs.FinSet as set
-use Rattle.l4_spaces.specs.Tables.{Tables, IsPage, key_of, space_tables}
-use Rattle.l4_spaces.specs.Rows.{Rows, entry, AreWhole, AreAside}
-use Rattle.l4_spaces.proofs.Aside.{put_aside, clear_aside, put_away, clear_away, still_aside}
-use Rattle.l4_nodes.specs.declared.Place.{Place}
-use Rattle.l4_nodes.specs.Slots.{Slots, SetsPlace}
-use Rattle.l4_links.specs.Inside.Nodes.{IsOf}
+use Rattle.l4_spaces.specs.Tables.{Tables, key_of, table_pages}
+use Rattle.l4_spaces.specs.Rows.{Rows, row, is_made, AreAside, IsRowOf}
+use Rattle.l4_spaces.proofs.Aside.{still_aside}
+use Rattle.l4_spaces.proofs.RowAside.{row_of, tables_back}
+use Rattle.l4_spaces.proofs.Rows.{row_here, row_other}
+use Rattle.l4_nodes.specs.Slots.{Slots}
 use Rattle.l4_links.specs.Inside.Keeping.{IsIndexed}
-use Rattle.l4_links.specs.Inside.Moving.{AreNamed, AreOthersSame, renamed}
-use Rattle.l4_links.proofs.Naming.{indexed_renamed}
+use Rattle.l4_links.specs.Inside.Moving.{AreNamed, AreOthersSame, ArePair, AreSameAround}
 
 -- each page has the same key
 pub indexed_alike : (slots : Slots) (t u : Tables) → ((space page : ℕ) → key_of u space page ≡ key_of t space page) → u.spaces ≡ t.spaces → IsIndexed slots t → IsIndexed slots u
@@ -45,25 +43,37 @@ module _ (from to : ℕ) (before one none : Tables) (sources targets : Rows) (ap
     pub indexed_last : IsIndexed slots after
     indexed_last = indexed_alike slots later after same (spaces_last ∙ sym d.spaces) n.indexed
 
--- a page goes from the one space to the other
-module _ (source place : Place) (key : ℕ) (all : Tables) where
-  abbrev cleared : Tables
-  cleared = record all { pages = map.remove all.pages (source.space, source.page) }
-
-  pub named_moved : (old_sources sources old_targets targets : Rows) (old new : Slots) → source.space ≢ place.space → AreNamed source.space place.space old_sources old_targets old all → IsTrue (set.contains all.spaces place.space) → IsPage place.page
-      → IsOf old source key → ((other : ℕ) → ¬ (IsOf old place other)) → SetsPlace key place old new
-      → entry sources source.page ≡ None → ((other : ℕ) → other ≢ source.page → entry sources other ≡ entry old_sources other) → AreWhole sources → length sources ≤ space_tables
-      → entry targets place.page ≡ Some key → ((other : ℕ) → other ≢ place.page → entry targets other ≡ entry old_targets other) → AreWhole targets → length targets ≤ space_tables
-      → AreNamed source.space place.space sources targets new (renamed source place key all)
-  named_moved old_sources sources old_targets targets old new apart n there fits stands free sets gone s_others s_whole s_full here t_others t_whole t_full = record {
-    source = still_aside cleared (renamed source place key all) source.space sources (put_away cleared place.space source.space place.page apart key)
-        (clear_aside all source.space source.page old_sources sources n.source s_others s_whole s_full gone);
-    target = put_aside cleared place.space place.page old_targets targets (still_aside all cleared place.space old_targets (clear_away all source.space place.space source.page (λ e. apart (sym e))) n.target) t_others t_whole t_full key here;
-    indexed = indexed_renamed old new all (renamed source place key all) source place key stands free sets there fits refl refl n.indexed;
+-- two tables were written, and are among the others again
+module _ (from to : ℕ) (sources targets : Rows) (now : Slots) (t : Tables) (n : AreNamed from to sources targets now t) (apart : from ≢ to) (there : IsTrue (set.contains t.spaces to)) (high other : ℕ) (line target_line : List (Option ℕ))
+    (line_is : row sources high ≡ line) (target_is : row targets other ≡ target_line) (made_source : is_made sources high ≡ true) (made_target : is_made targets other ≡ true) where
+  pub pair_of : ArePair from high to other line target_line now t
+  pair_of = record {
+    source_row = subst (λ (z : List (Option ℕ)). IsRowOf t from high z) line_is (row_of t from high sources n.source made_source);
+    target_row = subst (λ (z : List (Option ℕ)). IsRowOf t to other z) target_is (row_of t to other targets n.target made_target);
+    indexed = n.indexed;
+    there = there;
+    apart = apart;
   }
 
-  pub others_more : (start : Tables) → AreOthersSame source.space place.space start all → AreOthersSame source.space place.space start (renamed source place key all)
-  others_more start d = record {
-    away = λ o p nf nt. put_away cleared place.space o place.page nt key p ∙ clear_away all source.space o source.page nf p ∙ d.away o p nf nt;
-    spaces = d.spaces;
-  }
+  module _ (later : Tables) (new_line new_target : List (Option ℕ)) (new : Slots) (r : ArePair from high to other new_line new_target new later) (d : AreSameAround from high to other t later) where
+    pub named_back : high < length sources → other < length targets → AreNamed from to (slice_set sources high new_line) (slice_set targets other new_target) new later
+    named_back source_in target_in = record {
+      source = tables_back t later from high sources new_line n.source (λ page out. d.away from page (λ i. out i.1) (λ i. apart i.0)) r.source_row source_in;
+      target = tables_back t later to other targets new_target n.target (λ page out. d.away to page (λ i. apart (sym i.0)) (λ i. out i.1)) r.target_row target_in;
+      indexed = r.indexed;
+    }
+
+    pub others_back : (start : Tables) → AreOthersSame from to start t → AreOthersSame from to start later
+    others_back start o = record {
+      away = λ s p nf nt. d.away s p (λ i. nf i.0) (λ i. nt i.0) ∙ o.away s p nf nt;
+      spaces = d.spaces ∙ o.spaces;
+    }
+
+    -- each table exists that did
+    pub made_back : other < length targets → (h : ℕ) → is_made targets h ≡ true → is_made (slice_set targets other new_target) h ≡ true
+    made_back target_in h made = elim (cases_eq h other) [
+      | inl e ↦
+          let whole : length (row (slice_set targets other new_target) h) ≡ table_pages = ap length (ap (row (slice_set targets other new_target)) e ∙ row_here targets other new_target target_in) ∙ r.target_row.whole in
+          let some : 0 < length (row (slice_set targets other new_target) h) = omega (arith, whole) in grind (arith, some)
+      | inr ne ↦ ap (λ (z : List (Option ℕ)). nat_lt 0 (length z)) (row_other targets other h new_target ne) ∙ made
+    ]

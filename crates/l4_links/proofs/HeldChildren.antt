@@ -37,13 +37,13 @@ holds_none child rights slots k n is = absurd (let z : ◌≡◌ {A = Option ℕ
 -- a run, in these two tables
 module _ (source target : ℕ) (rights : RightsSet) (sources targets : Rows) (slots : Slots) (page place f t n : ℕ) (from : source ≤ page) (place_is : place ≡ page - source + target) (f_is : f ≡ page % table_pages) (t_is : t ≡ (page - source + target) % table_pages)
     (line target_line : List (Option ℕ)) (line_is : row sources (page / table_pages) ≡ line) (target_is : row targets (place / table_pages) ≡ target_line) (f_in : f + n ≤ table_pages) (t_in : t + n ≤ table_pages) where
-  source_entry : (step : ℕ) → step < n → entry sources (page + step) ≡ slice_index_or line (f + step) None
+  pub source_entry : (step : ℕ) → step < n → entry sources (page + step) ≡ slice_index_or line (f + step) None
   source_entry step lt =
       let high : (page + step) / table_pages ≡ page / table_pages = omega (arith, lt, f_in, f_is) in
       let low : (page + step) % table_pages ≡ f + step = omega (arith, lt, f_in, f_is) in
       ap (λ (z : List (Option ℕ)). slice_index_or z ((page + step) % table_pages) None) (ap (row sources) high ∙ line_is) ∙ ap (λ (z : ℕ). slice_index_or line z None) low
 
-  target_entry : (step : ℕ) → step < n → entry targets (page + step - source + target) ≡ slice_index_or target_line (t + step) None
+  pub target_entry : (step : ℕ) → step < n → entry targets (page + step - source + target) ≡ slice_index_or target_line (t + step) None
   target_entry step lt =
       let goes : page + step - source + target ≡ place + step = omega (arith, place_is, from) in
       let high : (place + step) / table_pages ≡ place / table_pages = omega (arith, lt, t_in, t_is, place_is) in

@@ -30,6 +30,7 @@ pub mod PageRuns
 pub mod OnePage
 pub mod HeldChildren
 pub mod Moving
+pub mod RowMoves
 pub mod Noting
 pub mod Laws
 pub mod Low

@@ -5,7 +5,7 @@ use Rattle.std.specs.Option.{option_map, option_and_then}
 use Rattle.l4_fpage.specs.Rights.{RightsSet, Within}
 use Rattle.l4_spaces.specs.Tables as tables
 use Rattle.l4_spaces.specs.Tables.{Tables, NonePresentIn, IsNextIn, table_pages}
-use Rattle.l4_spaces.specs.Rows.{Rows, entry, is_made, AreTablesOf}
+use Rattle.l4_spaces.specs.Rows.{Rows, entry, is_made, AreTablesOf, NoneIn}
 use Rattle.l4_nodes.specs.declared.Place.{Place}
 use Rattle.l4_links.specs.declared.Standing.{Standing}
 use Rattle.l4_links.specs.declared.Entry.{Entry}
@@ -15,7 +15,7 @@ use Rattle.l4_links.specs.Entries.{entry_at, IsInPages, moved_place, MovesPages,
 use Rattle.l4_nodes.specs.Slots.{Slots, Spot, slot_at, node_at, SetsPlace, spot_of}
 use Rattle.l4_links.specs.Inside.Nodes.{IsOf}
 use Rattle.l4_links.specs.Inside.Keeping.{standing_of, entry_of, entries_of, IsIndexed}
-use Rattle.l4_links.specs.Inside.Moving.{AreWithin, AreFree, HaveTables, CanMove, IsHindered, Hinders, LacksPlace, Moves}
+use Rattle.l4_links.specs.Inside.Moving.{AreWithin, AreFree, HaveTables, CanMove, CanGo, IsStuck, CanGoIn, MakesTables, Hinders, LacksPlace, Moves}
 use Rattle.l4_links.proofs.Seen.{at_seen}
 use Rattle.l4_links.proofs.Naming.{is_at}
 
@@ -77,6 +77,9 @@ module _ (slots : Slots) (t : Tables) (i : IsIndexed slots t) (space page end ne
 
 -- the first pass
 
+pub makes_more : (old now new : Rows) → MakesTables old now → MakesTables now new → MakesTables old new
+makes_more old now new a b = record { same = λ page. b.same page ∙ a.same page; kept = λ high made. b.kept high (a.kept high made); whole = b.whole; full = b.full }
+
 pub can_first : (source : Place) (target : Place) (rights : RightsSet) (slots : Slots) (rows : Rows) → CanMove source source.page target rights slots rows
 can_first source target rights slots rows = record {
   within = λ k s n at h. absurd (none s h);
@@ -101,79 +104,70 @@ can_all source page end target rights slots t rows i none c = record {
       | inr le ↦ absurd (none_at slots t i source.space page end none k s at h.0 le h.2)
     ]
 
--- what the tables of the target's space say of a place there
-key_here : (t : Tables) (source target from place : Place) (rows : Rows) → AreTablesOf t target.space rows → place ≡ moved_place source target from → tables.key_of t place.space place.page ≡ entry rows place.page
-key_here t source target from place rows a is = ap (λ (p : Place). tables.key_of t p.space place.page) is ∙ a.keys place.page
-
-pub can_more : (source : Place) (page end next key : ℕ) (target : Place) (rights : RightsSet) (slots : Slots) (t : Tables) (rows later : Rows) → IsIndexed slots t → IsNextIn t source.space page end next → tables.key_of t source.space next ≡ Some key
-    → source.page ≤ page → CanMove source page target rights slots rows → AreTablesOf t target.space rows → (place : Place) → place ≡ moved_place source target (record { space = source.space; page = next })
-    → ((n : Node) → node_at slots key ≡ Some n → Within n.rights rights) → entry rows place.page ≡ None → is_made later (place.page / table_pages) ≡ true → ((high : ℕ) → is_made rows high ≡ true → is_made later high ≡ true)
-    → CanMove source (next + 1) target rights slots later
-can_more source page end next key target rights slots t rows later i n is from c a place place_is within absent ready keeps = record {
+-- the pages up to one can go, and then those of a run
+pub can_joined : (source : Place) (page next after : ℕ) (target : Place) (rights : RightsSet) (slots : Slots) (t : Tables) (sources rows later : Rows) → IsIndexed slots t → AreTablesOf t source.space sources → AreTablesOf t target.space rows
+    → CanMove source page target rights slots rows → NoneIn sources page next → CanGoIn source.page next after target.page rights sources rows later slots → MakesTables rows later → CanMove source after target rights slots later
+can_joined source page next after target rights slots t sources rows later i from to c none go makes = record {
   within = λ k s x at h stands. elim (either k s at h) [
     | inl e ↦ c.within k s x at e stands
-    | inr e ↦ within x (ap (node_at slots) (sym e) ∙ ap (option_and_then (λ (s : Slot). s.node)) at ∙ stands)
+    | inr e ↦ (go.can s.place.page e.0 e.1 k (its_key k s at h.0)).1 x (ap (option_and_then (λ (s : Slot). s.node)) at ∙ stands)
   ];
   free = λ k s at h other o. elim (either k s at h) [
     | inl e ↦ c.free k s at e other o
-    | inr e ↦ unnamed slots t i place (key_here t source target (record { space = source.space; page = next }) place rows a place_is ∙ absent) other (subst (λ (p : Place). IsOf slots p other) (goes k s at e) o)
+    | inr e ↦ unnamed slots t i (moved_place source target s.place) (to.keys (s.place.page - source.page + target.page) ∙ (go.can s.place.page e.0 e.1 k (its_key k s at h.0)).0) other o
   ];
   made = λ k s at h. elim (either k s at h) [
-    | inl e ↦ keeps _ (c.made k s at e)
-    | inr e ↦ subst (λ (p : Place). is_made later (p.page / table_pages) ≡ true) (sym (goes k s at e)) ready
+    | inl e ↦ makes.kept _ (c.made k s at e)
+    | inr e ↦ go.there s.place.page e.0 e.1
   ];
 }
   where
-    either : (k : ℕ) (s : Slot) → slot_at slots k ≡ Some s → IsInPages source (next + 1) s.place → IsInPages source page s.place ⊎ (k ≡ key)
+    its_key : (k : ℕ) (s : Slot) → slot_at slots k ≡ Some s → s.place.space ≡ source.space → entry sources s.place.page ≡ Some k
+    its_key k s at e = sym (from.keys s.place.page) ∙ named slots t i source.space k s at e
+
+    either : (k : ℕ) (s : Slot) → slot_at slots k ≡ Some s → IsInPages source after s.place → IsInPages source page s.place ⊎ ((next ≤ s.place.page) × (s.place.page < after))
     either k s at h = elim (cases_lt s.place.page page) [
       | inl lt ↦ inl (h.0, h.1, lt)
-      | inr le ↦ inr (found_alone slots t i source.space page end next key n is k s at h.0 le h.2)
+      | inr le ↦ elim (cases_lt s.place.page next) [
+        | inl before ↦ absurd (let z : ◌≡◌ {A = Option ℕ} None (Some k) = sym (none s.place.page le before) ∙ its_key k s at h.0 in cc)
+        | inr more ↦ inr (more, h.2)
+      ]
     ]
 
-    goes : (k : ℕ) (s : Slot) → slot_at slots k ≡ Some s → k ≡ key → moved_place source target s.place ≡ place
-    goes k s at e =
-        let here : s.place ≡ record { space = source.space; page = next } =
-        same_place (sym (of_slot slots k s at) ∙ subst (λ (j : ℕ). IsOf slots (record { space = source.space; page = next }) j) (sym e) (found_at slots t i source.space page end next key n is)) in
-        ap (moved_place source target) here ∙ sym place_is
+-- a page of these that has a key, and what the tables say of the place that it would go to
+module _ (source : Place) (end other key : ℕ) (target : Place) (rights : RightsSet) (slots : Slots) (t : Tables) (i : IsIndexed slots t) (is : tables.key_of t source.space other ≡ Some key) (from : source.page ≤ other) (before : other < end)
+    (taken : Option ℕ) (taken_is : tables.key_of t target.space (other - source.page + target.page) ≡ taken) where
+  abbrev at_other : Place
+  at_other = record { space = source.space; page = other }
 
--- the page that was found, and the place that it would go to
-module _ (source : Place) (page end next key : ℕ) (target : Place) (rights : RightsSet) (slots : Slots) (t : Tables) (i : IsIndexed slots t) (n : IsNextIn t source.space page end next) (is : tables.key_of t source.space next ≡ Some key)
-    (from : source.page ≤ page) (rows : Rows) (a : AreTablesOf t target.space rows) (place : Place) (place_is : place ≡ moved_place source target (record { space = source.space; page = next })) where
-  abbrev named_here : tables.key_of t place.space place.page ≡ entry rows place.page
-  named_here = key_here t source target (record { space = source.space; page = next }) place rows a place_is
-
-  its_slot : (s : Slot) × (slot_at slots key ≡ Some s) × IsInPages source end s.place × (place ≡ moved_place source target s.place)
+  its_slot : (s : Slot) × (slot_at slots key ≡ Some s) × (s.place ≡ at_other) × IsInPages source end s.place
   its_slot =
-      let w = slot_of slots key (record { space = source.space; page = next }) (found_at slots t i source.space page end next key n is) in (
-        w.0,
-        w.1,
-        subst (λ (p : Place). IsInPages source end p) (sym w.2) (refl, (let a = n.from in omega (arith, a, from)), n.before),
-        place_is ∙ ap (moved_place source target) (sym w.2),
-      )
+      let w = slot_of slots key at_other ((i.names at_other key).0 is) in
+      (w.0, w.1, w.2, subst (λ (p : Place). IsInPages source end p) (sym w.2) (refl, from, before))
 
   its_node : node_at slots key ≡ its_slot.0.node
   its_node = ap (option_and_then (λ (s : Slot). s.node)) its_slot.1
 
-  pub hinders_found : IsHindered key place.page rights slots rows → Hinders source end target rights slots
+  pub hinders_found : IsStuck (Some key) taken rights slots → Hinders source end target rights slots
   hinders_found h = record {
     key = key;
     slot = its_slot.0;
     at = its_slot.1;
-    inside = its_slot.2;
-    why = elim h [
-      | inl x ↦ inl (x.0, sym its_node ∙ x.1, x.2)
-      | inr x ↦ inr (x.0, subst (λ (p : Place). IsOf slots p x.0) its_slot.3 ((i.names place x.0).0 (named_here ∙ x.1)))
+    inside = its_slot.3;
+    why = elim h.2 [
+      | inl x ↦ inl (x.0, sym its_node ∙ ap (node_at slots) (same_key h.1) ∙ x.1, x.2)
+      | inr x ↦ inr (x.0, subst (λ (p : Place). IsOf slots p x.0) (sym (ap (moved_place source target) its_slot.2)) ((i.names (moved_place source target at_other) x.0).0 (taken_is ∙ x.1)))
     ];
   }
 
-  pub lacks_found : ((n : Node) → node_at slots key ≡ Some n → Within n.rights rights) → entry rows place.page ≡ None → LacksPlace source end target rights slots
-  lacks_found within absent = record {
+  pub lacks_found : CanGo (Some key) taken rights slots → LacksPlace source end target rights slots
+  lacks_found go = record {
     key = key;
     slot = its_slot.0;
     at = its_slot.1;
-    inside = its_slot.2;
-    within = λ x stands. within x (its_node ∙ stands);
-    absent = λ other o. unnamed slots t i place (named_here ∙ absent) other (subst (λ (p : Place). IsOf slots p other) (sym its_slot.3) o);
+    inside = its_slot.3;
+    within = λ x stands. (go key refl).1 x (its_node ∙ stands);
+    absent = λ o o_is. unnamed slots t i (moved_place source target at_other) (taken_is ∙ (go key refl).0) o (subst (λ (p : Place). IsOf slots p o) (ap (moved_place source target) its_slot.2) o_is);
   }
 
 -- the second pass
@@ -201,6 +195,34 @@ module _ (source : Place) (page end : ℕ) (target : Place) (old now : Slots) (t
         | inr out ↦ (s, at, m.kept k s at out, same_place (sym (of_slot now k s (m.kept k s at out)) ∙ is), out)
       ]
 
+  -- no key has come to the place that a page goes to
+  pub free_there : AreFree source end target old → source.page ≤ page → (p key : ℕ) → IsOf now (record { space = source.space; page = p }) key → page ≤ p → p < end → (other : ℕ) → ¬ (IsOf now (moved_place source target (record { space = source.space; page = p })) other)
+  free_there free from p key found le lt other o = over (slot_at old other) refl
+    where
+      over : (z : Option Slot) → slot_at old other ≡ z → ⊥
+      over None at =
+          let s = slot_of now other (moved_place source target (record { space = source.space; page = p })) o in
+          let w : ◌≡◌ {A = Option Slot} None (Some s.0) = sym (m.vacant other at) ∙ s.1 in cc
+      over (Some s) at = elim (decide_in source page s.place) [
+        | inl h ↦
+            let goes : moved_place source target s.place ≡ moved_place source target (record { space = source.space; page = p }) = same_place (sym (of_slot now other (record s { place = moved_place source target s.place }) (m.moved other s at h)) ∙ o) in
+            let pages : s.place.page - source.page + target.page ≡ p - source.page + target.page = ap (λ (p : Place). p.page) goes in
+            let a = h.1 in let b = h.2 in omega (arith, pages, a, b, le)
+        | inr out ↦
+            let w = still key (record { space = source.space; page = p }) found refl in
+            free key w.0 w.1 (subst (λ (p : Place). IsInPages source end p) (sym w.3) (refl, omega (arith, from, le), lt)) other
+            (subst (λ (p : Place). IsOf old p other) (same_place (sym (of_slot now other s (m.kept other s at out)) ∙ o) ∙ ap (moved_place source target) (sym w.3)) (of_slot old other s at))
+      ]
+
+  pub free_more : AreFree source end target old → source.page ≤ page → (next after : ℕ) → page ≤ next → after ≤ end → AreFree (record { space = source.space; page = next }) after (moved_place source target (record { space = source.space; page = next })) now
+  free_more free from next after le fits k s at h other o =
+      let a = h.1 in
+      let b = h.2 in
+      let here : s.place ≡ record { space = source.space; page = s.place.page } = λ i. record { space = h.0 i; page = s.place.page } in
+      let goes : moved_place (record { space = source.space; page = next }) (moved_place source target (record { space = source.space; page = next })) s.place ≡ moved_place source target (record { space = source.space; page = s.place.page }) =
+      λ i. record { space = target.space; page = (let e : s.place.page - next + (next - source.page + target.page) ≡ s.place.page - source.page + target.page = omega (arith, a, le, from) in e i) } in
+      free_there free from s.place.page k (subst (λ (p : Place). IsOf now p k) here (of_slot now k s at)) (omega (arith, a, le)) (omega (arith, b, fits)) other (subst (λ (p : Place). IsOf now p other) goes o)
+
   pub moves_all : page ≤ end → NonePresentIn t source.space page end → Moves source end target old now
   moves_all le none = record {
     moved = λ k s at h. elim (decide_in source page s.place) [
@@ -223,25 +245,6 @@ module _ (source : Place) (page end : ℕ) (target : Place) (old now : Slots) (t
 
     in_end : IsInPages source end here
     in_end = (refl, (let a = n.from in omega (arith, a, from)), n.before)
-
-    -- no key has come to the place that the page goes to
-    pub free_still : AreFree source end target old → (other : ℕ) → ¬ (IsOf now (moved_place source target here) other)
-    free_still free other o = over (slot_at old other) refl
-      where
-        over : (z : Option Slot) → slot_at old other ≡ z → ⊥
-        over None at =
-            let s = slot_of now other (moved_place source target here) o in
-            let w : ◌≡◌ {A = Option Slot} None (Some s.0) = sym (m.vacant other at) ∙ s.1 in cc
-        over (Some s) at = elim (decide_in source page s.place) [
-          | inl h ↦
-              let goes : moved_place source target s.place ≡ moved_place source target here = same_place (sym (of_slot now other (record s { place = moved_place source target s.place }) (m.moved other s at h)) ∙ o) in
-              let pages : s.place.page - source.page + target.page ≡ next - source.page + target.page = ap (λ (p : Place). p.page) goes in
-              let a = h.1 in let b = h.2 in let le = n.from in omega (arith, pages, a, b, le)
-          | inr out ↦
-              let w = still key here found refl in
-              free key w.0 w.1 (subst (λ (p : Place). IsInPages source end p) (sym w.3) in_end) other
-              (subst (λ (p : Place). IsOf old p other) (same_place (sym (of_slot now other s (m.kept other s at out)) ∙ o) ∙ ap (moved_place source target) (sym w.3)) (of_slot old other s at))
-        ]
 
     pub made_still : (rows : Rows) → HaveTables source end target old rows → is_made rows ((moved_place source target here).page / table_pages) ≡ true
     made_still rows made =
@@ -279,6 +282,27 @@ module _ (source : Place) (page end : ℕ) (target : Place) (old now : Slots) (t
         | inr ne ↦ sets.others k ne ∙ m.vacant k at
       ];
     }
+
+-- the pages up to one, and then those after it
+pub moves_joined : (source : Place) (page end : ℕ) (target : Place) (old now new : Slots) → source.space ≢ target.space → source.page ≤ page → page ≤ end → Moves source page target old now
+    → Moves (record { space = source.space; page = page }) end (moved_place source target (record { space = source.space; page = page })) now new → Moves source end target old new
+moves_joined source page end target old now new apart from le m d = record {
+  moved = λ k s at h. elim (decide_in source page s.place) [
+    | inl e ↦ d.kept k (record s { place = moved_place source target s.place }) (m.moved k s at e) (λ i. apart (sym i.0))
+    | inr out ↦
+        let past = beyond s h out in
+        d.moved k s (m.kept k s at out) (h.0, past, h.2)
+        ∙ (λ i. Some (record s { place = record { space = target.space; page = (let e : s.place.page - page + (page - source.page + target.page) ≡ s.place.page - source.page + target.page = omega (arith, past, from) in e i) } }))
+  ];
+  kept = λ k s at out. d.kept k s (m.kept k s at (λ h. out (h.0, h.1, (let b = h.2 in omega (arith, le, b))))) (λ h. out (h.0, (let a = h.1 in omega (arith, a, from)), h.2));
+  vacant = λ k at. d.vacant k (m.vacant k at);
+}
+  where
+    beyond : (s : Slot) → IsInPages source end s.place → ¬ (IsInPages source page s.place) → page ≤ s.place.page
+    beyond s h out = elim (cases_lt s.place.page page) [
+      | inl lt ↦ absurd (out (h.0, h.1, lt))
+      | inr past ↦ past
+    ]
 
 -- what was moved, as a contract sees it
 

@@ -1,5 +1,5 @@
 -- Children of many pages, run by run, while the tables of the places' space are aside.
-use Rattle.std.proofs.Common.{◌≡◌, ◌≢◌, ℕ, ◌+◌, ◌*◌, ◌-◌, ◌/◌, ◌%◌, ◌<◌, ◌≤◌, Bool, List, Option, Some, None, MatchOption, is_some, false, true, length, slice_index_or, slice_set, refl, sym, ap, ◌∙◌, subst, inl, inr, arith}
+use Rattle.std.proofs.Common.{◌≡◌, ◌≢◌, ℕ, nat_lt, ◌+◌, ◌*◌, ◌-◌, ◌/◌, ◌%◌, ◌<◌, ◌≤◌, Bool, List, Option, Some, None, MatchOption, is_some, false, true, length, slice_index_or, slice_set, refl, sym, ap, ◌∙◌, subst, inl, inr, arith}
 use Rattle.std.proofs.lemmas.Bool.{cases_eq, cases_lt}
 use Rattle.std.proofs.lemmas.List.{get_or_past}
 use Rattle.std.specs.Option.{option_map, option_and_then}
@@ -42,6 +42,13 @@ pub made_within : (rows : Rows) (high : ℕ) → is_made rows high ≡ true → 
 made_within rows high made = elim (cases_lt high (length rows)) [
   | inl lt ↦ lt
   | inr le ↦ absurd (let z : ◌≡◌ {A = Bool} false true = sym (past_made rows high le) ∙ made in cc)
+]
+
+-- and is whole
+pub made_whole : (rows : Rows) (high : ℕ) (line : List (Option ℕ)) → AreWhole rows → is_made rows high ≡ true → row rows high ≡ line → length line ≡ table_pages
+made_whole rows high line whole made is = sym (ap length is) ∙ elim (whole high) [
+  | inl none ↦ absurd (let z : false ≡ true = sym (ap (λ (z : List (Option ℕ)). nat_lt 0 (length z)) none) ∙ made in cc)
+  | inr long ↦ long
 ]
 
 -- where adding stopped
@@ -193,7 +200,7 @@ module _ (source target : Place) (rights : RightsSet) (apart : source.space ≢ 
       apart = apart;
     })
 
-    module _ (n : ℕ) (given : RightsSet) (rights_are : given ≡ rights) (new_row : List (Option ℕ)) (old new : Slots) (w : AddsRow f t n place given line target_line new_row old new) where
+    module _ (n : ℕ) (new_row : List (Option ℕ)) (old new : Slots) (w : AddsRow f t n place rights line target_line new_row old new) where
       pub part_rows : (pages : Tables) (first head : Option ℕ) (stamp : ℕ) (all : Tables) → AreTablesOf pages source.space sources → AreGrowing target.space pages rows old first head stamp all
           → (later : Tables) × AreRows source.space high target.space other line new_row new first head stamp later × AreSameBeyond target.space other all later
           × AddsChildren (record { space = source.space; page = page }) (page + n) (moved_place source target (record { space = source.space; page = page })) rights (entries_of old) (entries_of new)
@@ -203,8 +210,7 @@ module _ (source target : Place) (rights : RightsSet) (apart : source.space ≢ 
             subst (λ (z : ℕ). AreRows source.space high z other line new_row new first head stamp v.0) space_is v.1,
             subst (λ (z : ℕ). AreSameBeyond z other all v.0) space_is v.2,
             subst (λ (z : ℕ). AddsChildren (record { space = source.space; page = z }) (z + n) (moved_place source target (record { space = source.space; page = page })) rights (entries_of old) (entries_of new)) (sym here_is)
-                (subst (λ (r : RightsSet). AddsChildren (record { space = source.space; page = high * table_pages + f }) (high * table_pages + f + n) (moved_place source target (record { space = source.space; page = page })) r (entries_of old) (entries_of new)) rights_are
-                (subst (λ (p : Place). AddsChildren (record { space = source.space; page = high * table_pages + f }) (high * table_pages + f + n) p given (entries_of old) (entries_of new)) place_is v.3)),
+                (subst (λ (p : Place). AddsChildren (record { space = source.space; page = high * table_pages + f }) (high * table_pages + f + n) p rights (entries_of old) (entries_of new)) place_is v.3),
           )
 
       pub part_run : AddsPart source page (page + n) target rights sources rows (slice_set rows other new_row) old new
@@ -214,7 +220,7 @@ module _ (source target : Place) (rights : RightsSet) (apart : source.space ≢ 
 
       -- it stopped at this entry
       pub run_halted : (pages : Tables) (first head : Option ℕ) (stamp : ℕ) (all : Tables) → AreTablesOf pages source.space sources → AreGrowing target.space pages rows old first head stamp all → (end key : ℕ) (refused : Bool)
-          → slice_index_or line (f + n) None ≡ Some key → IsHeld key given (t + n) refused new new new_row new_row → source.page ≤ page → page + n < end → f + n < table_pages → t + n < table_pages
+          → slice_index_or line (f + n) None ≡ Some key → IsHeld key rights (t + n) refused new new new_row new_row → source.page ≤ page → page + n < end → f + n < table_pages → t + n < table_pages
           → IsHalted source end target rights (entries_of new) (record { page = page + n; key = key; refused = refused })
       run_halted pages first head stamp all src g end key refused is h from before f_lt t_lt =
           let v = part_rows pages first head stamp all src g in
@@ -222,7 +228,7 @@ module _ (source target : Place) (rights : RightsSet) (apart : source.space ≢ 
           let goes : page + n - source.page + target.page ≡ other * table_pages + (t + n) = (let e = there_is in let d : place.page ≡ page - source.page + target.page = ap (λ (p : Place). p.page) place_is in omega (arith, e, d, from)) in
           halted_at source end target rights new v.0 v.1.indexed (record { page = page + n; key = key; refused = refused })
           (ap (key_of v.0 source.space) page_is ∙ v.1.source_row.keys_are (f + n) f_lt ∙ is)
-          (subst (λ (r : RightsSet). SharesSome key r new) rights_are h.shares) (omega (arith, from)) before
+          h.shares (omega (arith, from)) before
           (λ no none. h.taken no (sym (v.1.target_row.keys_are (t + n) t_lt) ∙ sym (ap (key_of v.0 target.space) goes) ∙ none))
           (λ yes. ap (key_of v.0 target.space) goes ∙ v.1.target_row.keys_are (t + n) t_lt ∙ h.lacks yes)
 

@@ -1,20 +1,17 @@
 //! Moves pages to other places all at once, under their keys. The trees contain no places, so nothing else changes. The tables of both spaces
 //! are aside meanwhile, so no page is looked for in its space.
 
-ghost use Rattle.std.specs.Prelude.{◌≡◌, ◌≢◌, ◌≤◌, ◌+◌, ◌-◌, ◌/◌, ◌∷◌, ◌⊎◌, [], ℕ, length, IfOk, OnErr, Some, None, true, false};
-ghost use Rattle.l4_fpage.specs.Rights.{RightsSet, Within};
+ghost use Rattle.std.specs.Prelude.{◌≡◌, ◌≢◌, ◌≤◌, ◌<◌, ◌+◌, ◌-◌, ℕ, length, IfOk, OnErr, MatchOption, Some, None, true, false};
 ghost use Rattle.l4_spaces.specs.Tables.{Tables, IsPage, IsSpace, space_pages, space_tables, table_pages};
-ghost use Rattle.l4_spaces.specs.Rows.{entry, is_made, AreWhole};
-ghost use Rattle.l4_nodes.specs.declared.Place.{Place as APlace};
-ghost use Rattle.l4_nodes.specs.declared.nodes.Node.{Node as ANode};
+ghost use Rattle.l4_spaces.specs.Rows.{entry, AreWhole};
 ghost use Rattle.l4_links.specs.Entries.{moved_place};
-ghost use Rattle.l4_nodes.specs.Slots.{node_at, SetsPlace};
-ghost use Rattle.l4_links.specs.Inside.Nodes.{IsOf};
-ghost use Rattle.l4_links.specs.Inside.Moving.{AreWithin, AreFree, CanMove, IsHindered, Hinders, LacksPlace, Moves, AreNamed, AreOthersSame, renamed};
+ghost use Rattle.l4_nodes.specs.Slots.{node_at};
+ghost use Rattle.l4_links.specs.Inside.Moving.{AreWithin, AreFree, CanMove, CanGo, IsStuck, CanGoRow, IsStuckRow, IsStuckIn, CanGoIn, MakesTables, MovesAt, MovesRow, Hinders, LacksPlace, Moves, AreNamed, StayNamed};
 
+use crate::children::{Run, run_at};
 use l4_fpage::Rights;
 use l4_nodes::{Place, Slots, node_of, set_place};
-use l4_spaces::tables::{clear, key_in, make_all, next_page, put};
+use l4_spaces::tables::{TABLE_PAGES, key_in, make_all, next_page};
 use l4_spaces::{NoMemory, Row};
 
 /// Pages of a space, as many places of another one, and rights.
@@ -42,57 +39,86 @@ pub(crate) fn place_from(source: Place, target: Place, page: u32) -> Place
     }
 }
 
-/// Returns whether the node under the key has no other rights than these.
-#[inline]
-fn is_within(nodes: &Slots, key: usize, rights: Rights) -> bool
-    ensures yes { result ≡ true → (n : ANode) → node_at nodes.now.slots key ≡ Some n
-        → Within n.rights rights }
-    ensures no { result ≡ false → (n : ANode) × (node_at nodes.now.slots key ≡ Some n)
-        × ¬ (Within n.rights rights) }
+/// Returns whether a page with this key, or with none, can move: its place has no key, and the page has no other rights than these.
+#[inline(always)]
+fn can_go(nodes: &Slots, key: Option<usize>, taken: Option<usize>, rights: Rights) -> bool
+    ensures yes { result ≡ true → CanGo key taken rights nodes.now.slots }
+    ensures no { result ≡ false → IsStuck key taken rights nodes.now.slots }
 {
+    let Some(key) = key else {
+        return true;
+    };
+    if let Some(_) = taken {
+        return false;
+    }
     let Some(node) = node_of(nodes, key) else {
         return true;
     };
     rights.contains(node.rights)
 }
 
-/// Returns whether the page of the key can move to the page of these tables: it has no other rights than these, and that page has no key.
-/// Allocates the table of the page.
-#[inline]
-fn can_move(
+/// Returns whether each page of the run can move.
+#[inline(never)]
+fn can_go_run(nodes: &Slots, source: &Row, target: &Row, run: &Run, rights: Rights) -> bool
+    requires source { length source.now ≡ table_pages }
+    requires target { length target.now ≡ table_pages }
+    requires from { run.now.from + run.now.entries ≤ table_pages }
+    requires to { run.now.to + run.now.entries ≤ table_pages }
+    ensures yes { result ≡ true → CanGoRow run.now.from run.now.to run.now.entries rights source.now
+        target.now nodes.now.slots }
+    ensures no { result ≡ false → IsStuckRow run.now.from run.now.to run.now.entries rights
+        source.now target.now nodes.now.slots }
+{
+    let from = run.from;
+    let to = run.to;
+    for step in 0..run.entries {
+        if !can_go(nodes, source.at(from + step), target.at(to + step), rights) {
+            return false;
+        }
+    }
+    true
+}
+
+/// Returns the page after the run that begins with this page, if each page of the run can move. Allocates the table of their places.
+fn can_go_from(
     nodes: &Slots,
+    sources: &Vec<Row>,
     targets: &mut Vec<Row>,
-    key: usize,
+    of: &Pages,
     page: u32,
-    rights: Rights,
-) -> Result<bool, NoMemory>
+    key: usize,
+) -> Result<Option<u32>, NoMemory>
+    requires sources { AreWhole sources.now.items }
     requires whole { AreWhole targets.old.items }
     requires full { length targets.old.items ≤ space_tables }
-    requires fits { IsPage page }
-    ensures within { IfOk result (λ can. can ≡ true → (n : ANode)
-        → node_at nodes.now.slots key ≡ Some n → Within n.rights rights) }
-    ensures absent { IfOk result (λ can. can ≡ true → entry targets.old.items page ≡ None) }
-    ensures lacks { OnErr result (((n : ANode) → node_at nodes.now.slots key ≡ Some n
-        → Within n.rights rights) × (entry targets.old.items page ≡ None)) }
-    ensures hindered { IfOk result (λ can. can ≡ false
-        → IsHindered key page rights nodes.now.slots targets.old.items) }
-    ensures ready { IfOk result (λ can. can ≡ true
-        → is_made targets.new.items (page / table_pages) ≡ true) }
-    ensures same { (other : ℕ) → entry targets.new.items other ≡ entry targets.old.items other }
-    ensures kept { (high : ℕ) → is_made targets.old.items high ≡ true
-        → is_made targets.new.items high ≡ true }
-    ensures whole { AreWhole targets.new.items }
-    ensures full { length targets.new.items ≤ space_tables }
+    requires from { of.now.source.page ≤ page }
+    requires before { page < of.now.end }
+    requires fits { of.now.end - of.now.source.page + of.now.target.page ≤ space_pages }
+    requires shows { entry sources.now.items page ≡ Some key }
+    ensures can { IfOk result (λ next. MatchOption next
+        (IsStuckIn of.now.source.page page of.now.end of.now.target.page of.now.rights
+        sources.now.items targets.old.items nodes.now.slots)
+        (λ next. (page < next) × (next ≤ of.now.end) × CanGoIn of.now.source.page page next
+        of.now.target.page of.now.rights sources.now.items targets.old.items targets.new.items
+        nodes.now.slots)) }
+    ensures lacks { OnErr result
+        (CanGo (Some key) (entry targets.old.items (page - of.now.source.page + of.now.target.page))
+        of.now.rights nodes.now.slots) }
+    ensures makes { MakesTables targets.old.items targets.new.items }
 {
-    if !is_within(nodes, key, rights) {
-        return Ok(false);
-    }
-    if let Some(_) = key_in(targets, page) {
-        return Ok(false);
+    let place = place_from(of.source, of.target, page);
+    if !can_go(nodes, Some(key), key_in(targets, place.page), of.rights) {
+        return Ok(None);
     }
     let alloc = *targets.allocator();
-    make_all(targets, alloc, &[page])?;
-    Ok(true)
+    make_all(targets, alloc, &[place.page])?;
+    let run = run_at(of, page);
+    let source = &sources[(page / TABLE_PAGES) as usize];
+    let target = &targets[(place.page / TABLE_PAGES) as usize];
+    if !can_go_run(nodes, source, target, &run, of.rights) {
+        return Ok(None);
+    }
+    Ok(Some(page + run.entries as u32))
 }
 
 /// Returns whether all pages can move to their places. Allocates the tables of these places.
@@ -112,50 +138,67 @@ fn can_move_all(
         nodes.now.slots) }
     ensures hinders { IfOk result (λ can. can ≡ false
         → Hinders of.now.source of.now.end of.now.target of.now.rights nodes.now.slots) }
-    ensures same { (page : ℕ) → entry targets.new.items page ≡ entry targets.old.items page }
-    ensures whole { AreWhole targets.new.items }
-    ensures full { length targets.new.items ≤ space_tables }
+    ensures makes { MakesTables targets.old.items targets.new.items }
 {
     let mut page = of.source.page;
     loop {
         let Some((next, key)) = next_page(sources, page, of.end) else {
             return Ok(true);
         };
-        let place = place_from(of.source, of.target, next);
-        let can = can_move(nodes, targets, key, place.page, of.rights)?;
-        if !can {
+        let found = can_go_from(nodes, sources, targets, of, next, key)?;
+        let Some(after) = found else {
             return Ok(false);
-        }
-        page = next + 1;
+        };
+        page = after;
     }
 }
 
-/// Gives the key of a page to another place, which has no key, and whose table exists.
-#[inline]
-fn move_key(
+/// Moves the page of an entry to the place, which has an entry of the other table. Does nothing if the entry has no key.
+#[inline(always)]
+fn move_at(
     nodes: &mut Slots,
-    sources: &mut Vec<Row>,
-    targets: &mut Vec<Row>,
-    source: Place,
-    key: usize,
+    source: &mut Row,
+    target: &mut Row,
+    from: usize,
+    to: usize,
     place: Place,
 )
-    requires apart { source.space ≢ place.space }
-    requires named { (all : Tables) × AreNamed source.space place.space sources.old.items
-        targets.old.items nodes.old.slots all × IsSpace all place.space }
-    requires stands { IsOf nodes.old.slots source key }
+    requires from { from < length source.old }
+    requires to { to < length target.old }
     requires fits { IsPage place.page }
-    requires free { (other : ℕ) → ¬ (IsOf nodes.old.slots place other) }
-    requires made { is_made targets.old.items (place.page / table_pages) ≡ true }
-    ensures sets { SetsPlace key place nodes.old.slots nodes.new.slots }
-    ensures named { (all : Tables) → AreNamed source.space place.space sources.old.items
-        targets.old.items nodes.old.slots all → IsSpace all place.space
-        → AreNamed source.space place.space sources.new.items targets.new.items nodes.new.slots (renamed source place key all) }
-    ensures kept { (high : ℕ) → is_made targets.new.items high ≡ is_made targets.old.items high }
+    ensures { MovesAt place from to source.old source.new target.old target.new nodes.old.slots
+        nodes.new.slots }
 {
+    let Some(key) = source.at(from) else {
+        return;
+    };
     set_place(nodes, key, place);
-    clear(sources, source.page);
-    put(targets, place.page, key);
+    source.clear(from);
+    target.put(to, key);
+}
+
+/// Moves the pages of the run to the place and those after it.
+#[inline(never)]
+fn move_run(nodes: &mut Slots, source: &mut Row, target: &mut Row, run: &Run, place: Place)
+    requires source { length source.old ≡ table_pages }
+    requires target { length target.old ≡ table_pages }
+    requires from { run.now.from + run.now.entries ≤ table_pages }
+    requires to { run.now.to + run.now.entries ≤ table_pages }
+    requires fits { place.page + run.now.entries ≤ space_pages }
+    ensures { MovesRow run.now.from run.now.to run.now.entries place source.old source.new
+        target.old target.new nodes.old.slots nodes.new.slots }
+{
+    let from = run.from;
+    let to = run.to;
+    let space = place.space;
+    let first = place.page;
+    for step in 0..run.entries {
+        let here = Place {
+            space,
+            page: first + step as u32,
+        };
+        move_at(nodes, source, target, from + step, to + step, here);
+    }
 }
 
 /// Moves all pages to their places.
@@ -168,23 +211,20 @@ fn move_all(nodes: &mut Slots, sources: &mut Vec<Row>, targets: &mut Vec<Row>, o
     requires can { CanMove of.now.source of.now.end of.now.target of.now.rights nodes.old.slots
         targets.old.items }
     ensures moves { Moves of.now.source of.now.end of.now.target nodes.old.slots nodes.new.slots }
-    ensures named { (all : Tables) → AreNamed of.now.source.space of.now.target.space
-        sources.old.items targets.old.items nodes.old.slots all → IsSpace all of.now.target.space
-        → (later : Tables)
-        × AreNamed of.now.source.space of.now.target.space sources.new.items targets.new.items nodes.new.slots later × AreOthersSame of.now.source.space of.now.target.space all later }
+    ensures named { StayNamed of.now.source.space of.now.target.space sources.old.items
+        sources.new.items targets.old.items targets.new.items nodes.old.slots nodes.new.slots }
 {
     let mut page = of.source.page;
     loop {
-        let Some((next, key)) = next_page(sources, page, of.end) else {
+        let Some((next, _)) = next_page(sources, page, of.end) else {
             return;
         };
-        let here = Place {
-            space: of.source.space,
-            page: next,
-        };
         let place = place_from(of.source, of.target, next);
-        move_key(nodes, sources, targets, here, key, place);
-        page = next + 1;
+        let run = run_at(of, next);
+        let source = &mut sources[(next / TABLE_PAGES) as usize];
+        let target = &mut targets[(place.page / TABLE_PAGES) as usize];
+        move_run(nodes, source, target, &run, place);
+        page = next + run.entries as u32;
     }
 }
 
@@ -212,10 +252,8 @@ pub(crate) fn move_block(
     ensures lacks { OnErr result (LacksPlace of.now.source of.now.end of.now.target of.now.rights
         nodes.old.slots) }
     ensures same { (key : ℕ) → node_at nodes.new.slots key ≡ node_at nodes.old.slots key }
-    ensures named { (all : Tables) → AreNamed of.now.source.space of.now.target.space
-        sources.old.items targets.old.items nodes.old.slots all → IsSpace all of.now.target.space
-        → (later : Tables)
-        × AreNamed of.now.source.space of.now.target.space sources.new.items targets.new.items nodes.new.slots later × AreOthersSame of.now.source.space of.now.target.space all later }
+    ensures named { StayNamed of.now.source.space of.now.target.space sources.old.items
+        sources.new.items targets.old.items targets.new.items nodes.old.slots nodes.new.slots }
 {
     let can = can_move_all(nodes, sources, targets, of)?;
     if !can {

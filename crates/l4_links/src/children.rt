@@ -20,7 +20,7 @@ use l4_nodes::{Node, Place, Slots, node_of};
 use l4_spaces::tables::{TABLE_PAGES, is_ready, make_all, next_page};
 use l4_spaces::{BLOCK, NoMemory, Row, Spaces};
 
-/// Entries of one table, as many of another one, and rights.
+/// Entries of one table, and as many of another one.
 #[derive(Clone, Copy)]
 pub(crate) struct Run {
     /// The entry of the first page in the table that has the sources.
@@ -28,7 +28,6 @@ pub(crate) struct Run {
     /// The entry of the first place in the other table.
     pub to: usize,
     pub entries: usize,
-    pub rights: Rights,
 }
 
 /// Returns the node under the key, if it shares a right with these.
@@ -87,6 +86,7 @@ pub(crate) fn add_run(
     target: &mut Row,
     run: &Run,
     place: Place,
+    rights: Rights,
 ) -> Option<(usize, usize, bool)>
     requires source { run.now.from + run.now.entries ≤ length source.now }
     requires target { run.now.to + run.now.entries ≤ length target.old }
@@ -97,17 +97,16 @@ pub(crate) fn add_run(
         nodes.old.slots first head stamp all
         × (place.page ≡ other * table_pages + run.now.to) }
     ensures { MatchOption result
-        (AddsRow run.now.from run.now.to run.now.entries place run.now.rights source.now target.old
+        (AddsRow run.now.from run.now.to run.now.entries place rights source.now target.old
         target.new nodes.old.slots nodes.new.slots)
-        (λ held. AddsRow run.now.from run.now.to held.0 place run.now.rights source.now target.old
+        (λ held. AddsRow run.now.from run.now.to held.0 place rights source.now target.old
         target.new nodes.old.slots nodes.new.slots × (held.0 < run.now.entries)
         × (slice_index_or source.now (run.now.from + held.0) None ≡ Some held.1)
-        × IsHeld held.1 run.now.rights (run.now.to + held.0) held.2 nodes.new.slots
+        × IsHeld held.1 rights (run.now.to + held.0) held.2 nodes.new.slots
         nodes.new.slots target.new target.new) }
 {
     let from = run.from;
     let to = run.to;
-    let rights = run.rights;
     let space = place.space;
     let first = place.page;
     for step in 0..run.entries {
@@ -131,7 +130,6 @@ pub(crate) fn run_at(of: &Pages, page: u32) -> Run
     requires fits { of.now.end - of.now.source.page + of.now.target.page ≤ space_pages }
     ensures source { result.from ≡ page % table_pages }
     ensures target { result.to ≡ (page - of.now.source.page + of.now.target.page) % table_pages }
-    ensures rights { result.rights ≡ of.now.rights }
     ensures some { 1 ≤ result.entries }
     ensures before { page + result.entries ≤ of.now.end }
     ensures in_source { result.from + result.entries ≤ table_pages }
@@ -141,12 +139,8 @@ pub(crate) fn run_at(of: &Pages, page: u32) -> Run
     let to = ((page - of.source.page + of.target.page) % TABLE_PAGES) as usize;
     let left = (of.end - page) as usize;
     let places = (TABLE_PAGES as usize - to).min(BLOCK - from % BLOCK);
-    Run {
-        from,
-        to,
-        entries: left.min(places),
-        rights: of.rights,
-    }
+    let entries = left.min(places);
+    Run { from, to, entries }
 }
 
 /// Allocates the table of the page, if what is under the key shares a right with these. Returns whether the table exists.
@@ -223,7 +217,7 @@ fn add_from(
     let run = run_at(of, page);
     let source = &sources[(page / TABLE_PAGES) as usize];
     let target = &mut targets[(place.page / TABLE_PAGES) as usize];
-    let Some((step, key, refused)) = add_run(nodes, source, target, &run, place) else {
+    let Some((step, key, refused)) = add_run(nodes, source, target, &run, place, of.rights) else {
         return Ok(page + run.entries as u32);
     };
     Err(Halt {

@@ -6,7 +6,7 @@ ghost use Rattle.l4_spaces.specs.Rows.{entry, AreWhole};
 ghost use Rattle.l4_links.specs.Entries.{HoldsChildren};
 ghost use Rattle.l4_links.specs.Inside.Nodes.{IsForest};
 ghost use Rattle.l4_links.specs.Inside.Keeping.{IsIndexed, entries_of};
-ghost use Rattle.l4_links.specs.Inside.Holding.{IsOwnLeaf, HoldsAt, HoldsPage, HoldsPages};
+ghost use Rattle.l4_links.specs.Inside.Holding.{HoldsAt, HoldsRow, LacksInRow, HoldsPage, HoldsPages};
 
 use crate::blocks::{Pages, place_from};
 use crate::children::{Run, run_at, sharing};
@@ -15,28 +15,6 @@ use l4_fpage::Rights;
 use l4_nodes::{Slots, node_of};
 use l4_spaces::tables::{TABLE_PAGES, is_ready, next_page};
 use l4_spaces::{Row, Spaces};
-
-/// Returns whether the node under the key is a child of this parent, has these rights, and has no descendants.
-#[inline(always)]
-fn is_own_leaf(nodes: &Slots, parent: usize, rights: Rights, key: usize) -> bool
-    requires forest { (ks : List ℕ) × IsForest nodes.now.slots ks }
-    ensures yes { result ≡ true → IsOwnLeaf parent rights nodes.now.slots key }
-    ensures no { result ≡ false → ¬ (IsOwnLeaf parent rights nodes.now.slots key) }
-{
-    let Some(node) = node_of(nodes, key) else {
-        return false;
-    };
-    let Some(own) = node.parent.key() else {
-        return false;
-    };
-    if own != parent {
-        return false;
-    }
-    if node.rights != rights {
-        return false;
-    }
-    is_leaf(nodes, key)
-}
 
 /// Returns whether a page with this key, or with none, has its child under this key, unless it shares no right with these.
 #[inline(always)]
@@ -59,27 +37,36 @@ pub(crate) fn holds_at(
     let Some(child) = child else {
         return false;
     };
-    is_own_leaf(nodes, key, above.rights.intersection(rights), child)
+    let Some(node) = node_of(nodes, child) else {
+        return false;
+    };
+    let Some(own) = node.parent.key() else {
+        return false;
+    };
+    if own != key {
+        return false;
+    }
+    if node.rights != above.rights.intersection(rights) {
+        return false;
+    }
+    is_leaf(nodes, child)
 }
 
 /// Returns whether each page of the run has its child, unless it shares no right.
 #[inline(never)]
-fn holds_run(nodes: &Slots, source: &Row, target: &Row, run: &Run) -> bool
+fn holds_run(nodes: &Slots, source: &Row, target: &Row, run: &Run, rights: Rights) -> bool
     requires forest { (ks : List ℕ) × IsForest nodes.now.slots ks }
     requires source { length source.now ≡ table_pages }
     requires target { length target.now ≡ table_pages }
     requires from { run.now.from + run.now.entries ≤ table_pages }
     requires to { run.now.to + run.now.entries ≤ table_pages }
-    ensures yes { result ≡ true → (step : ℕ) → step < run.now.entries
-        → HoldsAt (slice_index_or source.now (run.now.from + step) None)
-        (slice_index_or target.now (run.now.to + step) None) run.now.rights nodes.now.slots }
-    ensures no { result ≡ false → (step : ℕ) × (step < run.now.entries)
-        × ¬ (HoldsAt (slice_index_or source.now (run.now.from + step) None)
-        (slice_index_or target.now (run.now.to + step) None) run.now.rights nodes.now.slots) }
+    ensures yes { result ≡ true → HoldsRow run.now.from run.now.to run.now.entries rights source.now
+        target.now nodes.now.slots }
+    ensures no { result ≡ false → LacksInRow run.now.from run.now.to run.now.entries rights
+        source.now target.now nodes.now.slots }
 {
     let from = run.from;
     let to = run.to;
-    let rights = run.rights;
     for step in 0..run.entries {
         if !holds_at(nodes, source.at(from + step), target.at(to + step), rights) {
             return false;
@@ -120,7 +107,7 @@ fn holds_from(
     let run = run_at(of, page);
     let source = &sources[(page / TABLE_PAGES) as usize];
     let target = &targets[(place.page / TABLE_PAGES) as usize];
-    if !holds_run(nodes, source, target, &run) {
+    if !holds_run(nodes, source, target, &run, of.rights) {
         return None;
     }
     Some(page + run.entries as u32)

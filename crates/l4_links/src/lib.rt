@@ -26,10 +26,12 @@ use children::{add_all, sharing};
 use holding::{holds_all, holds_at};
 use l4_fpage::Rights;
 pub use l4_nodes::Place;
-use l4_nodes::{Link, Node, Slots, node_of, set_plain, set_rights, set_source, set_wanted};
+use l4_nodes::{
+    Link, Node, Slots, give, node_of, place_of, set_plain, set_rights, set_source, set_wanted,
+};
 pub use l4_spaces::NoMemory;
 use l4_spaces::Spaces;
-use lists::{remove, take_over};
+use lists::remove;
 use std::alloc::Global;
 use std::marker::Model;
 use walks::{SOURCES_WALK, fresh, stamp_for};
@@ -104,7 +106,7 @@ impl Model for Links {
 impl Links {
     ghost use Rattle.l4_spaces.specs.Listed.{NoSpaceFrom, IsNextSpace};
     ghost use Rattle.l4_links.specs.ListOf.{IsListOf};
-    ghost use Rattle.l4_links.specs.Entries.{entry_at, standing_at, parent_of, IsStanding, IsBlank, IsAt, IsSource, HaveRights, HavePlaces, AreTrees, NoKeyFrom, IsNextKey, NoKeyIn, IsNextKeyIn, IsKeyOf, NoParentIn, IsNextParentIn, Descends, AddsBlank, Stands, Sprouts, AddsChild, Clears, CutsBelow, Buries, CapsBelow, CapsTree, SetsSource, SetsPlain, SetsWanted, TakesOver, MovesPages, Hinders, LacksPlace, AddsChildren, IsHalted, HoldsChildren};
+    ghost use Rattle.l4_links.specs.Entries.{entry_at, standing_at, parent_of, IsStanding, IsBlank, IsAt, IsSource, HaveRights, HavePlaces, AreTrees, NoKeyFrom, IsNextKey, NoKeyIn, IsNextKeyIn, IsKeyOf, NoParentIn, IsNextParentIn, Descends, AddsBlank, Stands, Sprouts, Clears, CutsBelow, Buries, CapsBelow, CapsTree, SetsSource, SetsPlain, SetsWanted, TakesOver, MovesPages, Hinders, LacksPlace, AddsChildren, IsHalted, HoldsChildren};
     ghost use Rattle.l4_links.specs.declared.Standing.{Standing as AStanding};
 
     /// Creates a value without pages and spaces. Memory for the nodes of this many pages is allocated at once, except for the tables that
@@ -408,9 +410,7 @@ impl Links {
             → ¬ (HoldsChildren source end target rights self.now.entries) }
     {
         if end - source.page == 1 {
-            let key = self.find(source);
-            let child = self.find(target);
-            return holds_at(&self.nodes, key, child, rights);
+            return holds_at(&self.nodes, self.find(source), self.find(target), rights);
         }
         let of = Pages {
             source,
@@ -457,7 +457,16 @@ impl Links {
         ensures takes { TakesOver key blank rights self.old.entries self.new.entries }
         ensures spaces { self.new.spaces ≡ self.old.spaces }
     {
-        take_over(&mut self.nodes, &mut self.pages, key, blank, rights);
+        let Some(from) = place_of(&self.nodes, key) else {
+            unreachable!()
+        };
+        let Some(to) = place_of(&self.nodes, blank) else {
+            unreachable!()
+        };
+        self.pages.set(to.space, to.page, key);
+        self.pages.clear(from.space, from.page);
+        self.nodes.remove(blank);
+        give(&mut self.nodes, key, to, rights);
     }
 
     /// Moves the pages from the source on and before the end to the places from the target on, in another space. Each page keeps its key,

@@ -7,13 +7,13 @@ ghost use Rattle.l4_nodes.specs.Keys.{IsKey};
 ghost use Rattle.l4_links.specs.Inside.Trees.{Sprouts, Rises};
 ghost use Rattle.l4_links.specs.Inside.Orders.{TakesOut, first_of};
 ghost use Rattle.l4_nodes.specs.Slots.{node_at, slot_at, spots, HasRoomFor};
-ghost use Rattle.l4_links.specs.Inside.Nodes.{limbs, links, values, AreKeys, IsOrder, IsForest, Parts, TakesSlot, CutsOff, ClosesGap, Comes, child, AddsUnder, Prunes, Clears, TakesOver};
+ghost use Rattle.l4_links.specs.Inside.Nodes.{limbs, links, values, AreKeys, IsOrder, IsForest, Parts, TakesSlot, CutsOff, ClosesGap, Comes, child, AddsUnder, Prunes, Clears};
 ghost use Rattle.l4_links.specs.Inside.Keeping.{IsIndexed};
 
 use crate::burial::first_without;
 use l4_fpage::Rights;
 use l4_nodes::{
-    Link, Node, Place, Slots, empty, give, is_wanted, node_of, place_of, set_next, set_prev, write,
+    Link, Node, Place, Slots, empty, is_wanted, node_of, place_of, set_next, set_prev, write,
 };
 use l4_spaces::Spaces;
 
@@ -240,32 +240,4 @@ pub(crate) fn remove(nodes: &mut Slots, pages: &mut Spaces, key: usize)
     };
     pages.clear(place.space, place.page);
     nodes.remove(key);
-}
-
-/// Gives the key the blank's page, records that an item with these rights grants it, and removes the blank.
-pub(crate) fn take_over(
-    nodes: &mut Slots,
-    pages: &mut Spaces,
-    key: usize,
-    blank: usize,
-    rights: Rights,
-)
-    requires there { node_at nodes.old.slots key ≢ None }
-    requires room { slot_at nodes.old.slots blank ≢ None }
-    requires blank { node_at nodes.old.slots blank ≡ None }
-    requires indexed { IsIndexed nodes.old.slots pages.old }
-    ensures takes { TakesOver key blank rights nodes.old.slots nodes.new.slots }
-    ensures indexed { IsIndexed nodes.new.slots pages.new }
-    ensures spaces { pages.new.spaces ≡ pages.old.spaces }
-{
-    let Some(from) = place_of(nodes, key) else {
-        unreachable!()
-    };
-    let Some(to) = place_of(nodes, blank) else {
-        unreachable!()
-    };
-    pages.set(to.space, to.page, key);
-    pages.clear(from.space, from.page);
-    nodes.remove(blank);
-    give(nodes, key, to, rights);
 }

@@ -14,7 +14,7 @@ made : (c : After-can_move_all) (all : Tables) → AreNamed c.args.of.now.source
     → AreNamed c.args.of.now.source.space c.args.of.now.target.space c.args.sources.now.items c.can_move_all.new.targets.items c.args.nodes.now.slots all
 made c all n = record {
   source = n.source;
-  target = made_aside all c.args.of.now.target.space c.args.targets.now.items c.can_move_all.new.targets.items n.target c.can_move_all.ensures.same c.can_move_all.ensures.whole c.can_move_all.ensures.full;
+  target = made_aside all c.args.of.now.target.space c.args.targets.now.items c.can_move_all.new.targets.items n.target c.can_move_all.ensures.makes.same c.can_move_all.ensures.makes.whole c.can_move_all.ensures.makes.full;
   indexed = n.indexed;
 }
 

@@ -90,7 +90,7 @@ returns-in_default-clause-adds c =
           (part_run c.args.of.now.source c.args.of.now.target c.args.of.now.rights c.requires.apart c.args.sources.now.items c.make_ready.new.targets.items c.args.page c.run_at-run.result.from c.run_at-run.result.to c.place_from-place.result
           c.place_from-place.ensures c.run_at-run.ensures.source c.run_at-run.ensures.target c.index-source.result.now c.index_mut-target.result.now (line at) (target_line at)
           (shown_made c.args.sources.now.items c.args.page c.args.key c.requires.shows) (c.in-Ok.ensures.made c.if-not-ready.false)
-          c.run_at-run.result.entries c.run_at-run.result.rights c.run_at-run.ensures.rights c.add_run.new.target c.args.nodes.now.slots c.add_run.new.nodes.slots c.in_default.ensures),
+          c.run_at-run.result.entries c.add_run.new.target c.args.nodes.now.slots c.add_run.new.nodes.slots c.in_default.ensures),
     )
 
 pub returns-clause-halts : goal.returns-clause-halts
@@ -108,10 +108,10 @@ returns-clause-halts c =
           (part_run c.args.of.now.source c.args.of.now.target c.args.of.now.rights c.requires.apart c.args.sources.now.items c.make_ready.new.targets.items c.args.page c.run_at-run.result.from c.run_at-run.result.to c.place_from-place.result
           c.place_from-place.ensures c.run_at-run.ensures.source c.run_at-run.ensures.target c.index-source.result.now c.index_mut-target.result.now (line at) (target_line at)
           (shown_made c.args.sources.now.items c.args.page c.args.key c.requires.shows) (c.in-Ok.ensures.made c.if-not-ready.false)
-          c.in-Some.step c.run_at-run.result.rights c.run_at-run.ensures.rights c.add_run.new.target c.args.nodes.now.slots c.add_run.new.nodes.slots held.0),
+          c.in-Some.step c.add_run.new.target c.args.nodes.now.slots c.add_run.new.nodes.slots held.0),
       run_halted c.args.of.now.source c.args.of.now.target c.args.of.now.rights c.requires.apart c.args.sources.now.items c.make_ready.new.targets.items c.args.page c.run_at-run.result.from c.run_at-run.result.to c.place_from-place.result
           c.place_from-place.ensures c.run_at-run.ensures.source c.run_at-run.ensures.target c.index-source.result.now c.index_mut-target.result.now (line at) (target_line at)
           (shown_made c.args.sources.now.items c.args.page c.args.key c.requires.shows) (c.in-Ok.ensures.made c.if-not-ready.false)
-          c.in-Some.step c.run_at-run.result.rights c.run_at-run.ensures.rights c.add_run.new.target c.args.nodes.now.slots c.add_run.new.nodes.slots held.0
+          c.in-Some.step c.add_run.new.target c.args.nodes.now.slots c.add_run.new.nodes.slots held.0
           g.0 g.1 g.2 g.3 g.4 g.5 (growing at) c.args.of.now.end c.in-Some.key c.in-Some.refused held.2 held.3 c.requires.from (omega (arith, step, before)) (omega (arith, step, in_source)) (omega (arith, step, in_target)),
     )

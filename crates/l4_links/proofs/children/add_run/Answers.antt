@@ -6,7 +6,7 @@ use Rattle.l4_links.proofs.children.add_run.Goals as goal
 
 pub loop-step-init : goal.loop-step-init
 loop-step-init c = record {
-  adds = run_first c.args.run.now.from c.args.run.now.to c.args.place c.args.run.now.rights c.args.source.now c.args.target.now c.args.nodes.now.slots;
+  adds = run_first c.args.run.now.from c.args.run.now.to c.args.place c.args.rights c.args.source.now c.args.target.now c.args.nodes.now.slots;
   within = omega arith;
 }
 
@@ -42,14 +42,14 @@ loop-step-preserved c =
     let lt = c.loop-step-test.true in
     record {
       adds =
-          run_entered c.args.run.now.from c.args.run.now.to c.loop-step.step c.args.place c.args.run.now.rights c.args.source.now c.args.target.now c.loop-step.target c.args.nodes.now.slots c.loop-step.nodes.slots c.loop-step.invariant.adds
+          run_entered c.args.run.now.from c.args.run.now.to c.loop-step.step c.args.place c.args.rights c.args.source.now c.args.target.now c.loop-step.target c.args.nodes.now.slots c.loop-step.nodes.slots c.loop-step.invariant.adds
           (omega (arith, from, sources, lt)) (omega (arith, to, targets, lt)) (omega (arith, fits, lt)) c.at-key.result c.at-key.ensures c.add_at.new.nodes.slots c.add_at.new.target c.in_default.ensures;
       within = omega (arith, lt);
     }
 
 pub returns-in-Some : goal.returns-in-Some
 returns-in-Some c =
-    let h = run_held c.args.run.now.from c.args.run.now.to c.loop-step.step c.args.place c.args.run.now.rights c.args.source.now c.args.target.now c.loop-step.target c.args.nodes.now.slots c.loop-step.nodes.slots c.loop-step.invariant.adds c.in-Some.key c.in-Some.refused
+    let h = run_held c.args.run.now.from c.args.run.now.to c.loop-step.step c.args.place c.args.rights c.args.source.now c.args.target.now c.loop-step.target c.args.nodes.now.slots c.loop-step.nodes.slots c.loop-step.invariant.adds c.in-Some.key c.in-Some.refused
     c.add_at.new.nodes.slots c.add_at.new.target c.in-Some.ensures.1 in
     (h.0, c.loop-step-test.true, sym c.at-key.ensures ∙ c.in-Some.ensures.0, h.1)
 
@@ -58,4 +58,4 @@ returns c =
     let end = c.loop-step-test.false in
     let within = c.loop-step.invariant.within in
     let all : c.loop-step.step ≡ c.args.run.now.entries = omega (arith, end, within) in
-    subst (λ (n : ℕ). AddsRow c.args.run.now.from c.args.run.now.to n c.args.place c.args.run.now.rights c.args.source.now c.args.target.now c.loop-step.target c.args.nodes.now.slots c.loop-step.nodes.slots) all c.loop-step.invariant.adds
+    subst (λ (n : ℕ). AddsRow c.args.run.now.from c.args.run.now.to n c.args.place c.args.rights c.args.source.now c.args.target.now c.loop-step.target c.args.nodes.now.slots c.loop-step.nodes.slots) all c.loop-step.invariant.adds

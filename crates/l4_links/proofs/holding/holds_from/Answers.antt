@@ -1,10 +1,8 @@
-use Rattle.std.proofs.Common.{◌≡◌, ◌+◌, ◌-◌, ◌/◌, true, None, slice_index_or, sym, ap, ◌∙◌, subst, arith}
-use Rattle.l4_fpage.specs.Rights.{RightsSet}
+use Rattle.std.proofs.Common.{◌≡◌, ◌+◌, ◌-◌, ◌/◌, true, sym, ap, ◌∙◌, arith}
 use Rattle.l4_spaces.specs.Tables.{table_pages}
 use Rattle.l4_spaces.specs.Rows.{row, is_made}
 use Rattle.l4_spaces.proofs.Rows.{row_was}
 use Rattle.l4_nodes.specs.declared.Place.{Place}
-use Rattle.l4_links.specs.Inside.Holding.{HoldsAt}
 use Rattle.l4_links.proofs.HeldChildren.{run_holds, run_lacks}
 use Rattle.l4_links.proofs.PageRuns.{shown_made, made_within}
 use Rattle.l4_links.proofs.holding.holds_from.Goals.{After-holds_run}
@@ -34,9 +32,7 @@ returns-then-not-holds_run c =
       omega (arith, lt, before),
       run_lacks c.args.of.now.source.page c.args.of.now.target.page c.args.of.now.rights c.args.sources.now.items c.args.targets.now.items c.args.nodes.now.slots c.args.page c.place_from-place.result.page c.run_at-run.result.from c.run_at-run.result.to
           c.run_at-run.result.entries c.requires.from (place_is at) c.run_at-run.ensures.source c.run_at-run.ensures.target c.index-source.result.now c.index-target.result.now (line at) (target_line at)
-          c.run_at-run.ensures.in_source c.run_at-run.ensures.in_target no.0 lt
-          (subst (λ (r : RightsSet). ¬ (HoldsAt (slice_index_or c.index-source.result.now (c.run_at-run.result.from + no.0) None) (slice_index_or c.index-target.result.now (c.run_at-run.result.to + no.0) None) r c.args.nodes.now.slots))
-          c.run_at-run.ensures.rights no.2),
+          c.run_at-run.ensures.in_source c.run_at-run.ensures.in_target no.0 lt no.2,
     )
 
 pub returns : goal.returns
@@ -48,7 +44,5 @@ returns c =
       c.run_at-run.ensures.before,
       run_holds c.args.of.now.source.page c.args.of.now.target.page c.args.of.now.rights c.args.sources.now.items c.args.targets.now.items c.args.nodes.now.slots c.args.page c.place_from-place.result.page c.run_at-run.result.from c.run_at-run.result.to
           c.run_at-run.result.entries c.requires.from (place_is at) c.run_at-run.ensures.source c.run_at-run.ensures.target c.index-source.result.now c.index-target.result.now (line at) (target_line at)
-          c.run_at-run.ensures.in_source c.run_at-run.ensures.in_target
-          (λ step lt. subst (λ (r : RightsSet). HoldsAt (slice_index_or c.index-source.result.now (c.run_at-run.result.from + step) None) (slice_index_or c.index-target.result.now (c.run_at-run.result.to + step) None) r c.args.nodes.now.slots)
-          c.run_at-run.ensures.rights (yes step lt)),
+          c.run_at-run.ensures.in_source c.run_at-run.ensures.in_target yes,
     )
