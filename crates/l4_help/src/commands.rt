@@ -275,13 +275,14 @@ followed, or a rule is broken. Then the status is as without --dot.
 A line that cannot be part of a plan has one of these codes, or S2, S3 or S4 (see
 l4 --help):
 
-  O1    a plan has one line 'unordered', and after it at most one line 'finally'
-  O2    a query or a rule is allowed only after 'finally', and a name only before
-        'unordered'
-  O3    after 'finally', only show, parent, reply, never and always are allowed
-  O4    'steps' is not allowed, because its answer depends on the whole order
+  O1    a plan has one unordered line, and after it at most one finally line
+  O2    a query or a rule is allowed only after the finally line, and a name only
+        before the unordered line
+  O3    after the finally line, only show, parent, reply, never and always are
+        allowed
+  O4    steps is not allowed, because its answer depends on the whole order
   O5    no line creates the thread whose call this is
-  O6    the plan has no line 'unordered'
+  O6    the plan has no unordered line
 
 Exit status: 0 if every order was followed and no rule is broken, 1 otherwise, 2 if
 the command line or a line of the plan is invalid or FILE cannot be opened, 3 if a
