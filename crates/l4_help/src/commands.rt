@@ -261,14 +261,12 @@ before it. 'never ANSWER' states that no outcome has this line, and 'always ANSW
 that every outcome has it. 'l4 run' executes a plan in the order in which it is
 written, and checks no rule.
 
-Without --frames, the kernel has as many frames as the plan needs, at most 256: the
-least power of two above each page that one of its lines names.
-
-With --dot, prints the graph of the states in the DOT language of Graphviz. States
-have numbers, and state 1 is the one at 'unordered'. An edge is a line that a thread
-executes in a state, and leads to the state after it. A state with a double border
-ends an order, and names its outcome. A comment says whether an order was not
-followed, or a rule is broken. Then the status is as without --dot.
+With --dot, prints the graph of the states in the DOT language of Graphviz. An arrow
+without a line leads to the state at 'unordered'. Every other edge has the number of
+the line that a thread executes, and leads to the state after it. A state with a
+double border ends an order, and names its outcome. The first comment is the summary.
+If not every order was followed, no state is printed. The exit status is as without
+--dot.
 
   l4 orders --dot FILE | dot -Tsvg > states.svg
 
