@@ -419,7 +419,6 @@ fn execute<R: AllocGlobal + Files + Input + Print + Eprint>(rt: &R, asked: Optio
         Options::Test { files, tap, write } => test(rt, files.as_slice(), tap, write),
         Options::Orders {
             plan,
-            fits: _,
             most,
             witness,
             brief,

@@ -261,27 +261,26 @@ before it. 'never ANSWER' states that no outcome has this line, and 'always ANSW
 that every outcome has it. 'l4 run' executes a plan in the order in which it is
 written, and checks no rule.
 
-Without --frames, the kernel has as many frames as the plan needs, at most 256: the
-least power of two above each page that one of its lines names.
-
-With --dot, prints the graph of the states in the DOT language of Graphviz. States
-have numbers, and state 1 is the one at 'unordered'. An edge is a line that a thread
-executes in a state, and leads to the state after it. A state with a double border
-ends an order, and names its outcome. A comment says whether an order was not
-followed, or a rule is broken. Then the status is as without --dot.
+With --dot, prints the graph of the states in the DOT language of Graphviz. An arrow
+without a line leads to the state at 'unordered'. Every other edge has the number of
+the line that a thread executes, and leads to the state after it. A state with a
+double border ends an order, and names its outcome. The first comment is the summary.
+If not every order was followed, no state is printed. The exit status is as without
+--dot.
 
   l4 orders --dot FILE | dot -Tsvg > states.svg
 
 A line that cannot be part of a plan has one of these codes, or S2, S3 or S4 (see
 l4 --help):
 
-  O1    a plan has one line 'unordered', and after it at most one line 'finally'
-  O2    a query or a rule is allowed only after 'finally', and a name only before
-        'unordered'
-  O3    after 'finally', only show, parent, reply, never and always are allowed
-  O4    'steps' is not allowed, because its answer depends on the whole order
+  O1    a plan has one unordered line, and after it at most one finally line
+  O2    a query or a rule is allowed only after the finally line, and a name only
+        before the unordered line
+  O3    after the finally line, only show, parent, reply, never and always are
+        allowed
+  O4    steps is not allowed, because its answer depends on the whole order
   O5    no line creates the thread whose call this is
-  O6    the plan has no line 'unordered'
+  O6    the plan has no unordered line
 
 Exit status: 0 if every order was followed and no rule is broken, 1 otherwise, 2 if
 the command line or a line of the plan is invalid or FILE cannot be opened, 3 if a

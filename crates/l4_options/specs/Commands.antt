@@ -1,5 +1,5 @@
 -- The commands of the programs, as clap reads them, and what the words of a command line ask for (this profile's own).
-use Rattle.std.specs.Prelude.{◌≡◌, ◌⊎◌, ◌&&◌, List, [], ◌∷◌, length, map, codes, Some, None, is_some, option_map, not, true, false}
+use Rattle.std.specs.Prelude.{◌≡◌, ◌⊎◌, ◌&&◌, List, [], ◌∷◌, length, map, codes, Some, None, is_some, option_map, true, false}
 use Rattle.std.specs.String.{string_bytes}
 use Rattle.clap.specs.Faults.{fault_of}
 use Rattle.clap.specs.Kinds.{IsAmong, Kinds}
@@ -136,9 +136,8 @@ Asks name found (Encode words) = (name ≡ codes "encode") × AreEncodedIn found
 Asks name found (Test files tap write) =
     (name ≡ codes "test") × AreFilesIn found (map string_bytes files.items) × (tap ≡ is_on found (codes "tap")) × (write ≡ is_on found (codes "write"))
     × (tap && write ≡ false)
-Asks name found (Orders plan fits most witness brief dot) =
-    (name ≡ codes "orders") × IsScriptIn found plan × (fits ≡ not (is_some (first_of (codes "frames") found)))
-    × IsCountAt found (codes "most") most × IsChosenAt found (codes "witness") witness
+Asks name found (Orders plan most witness brief dot) =
+    (name ≡ codes "orders") × IsScriptIn found plan × IsCountAt found (codes "most") most × IsChosenAt found (codes "witness") witness
     × (brief ≡ is_on found (codes "outcomes")) × (dot ≡ is_on found (codes "dot")) × (dot && is_some witness ≡ false) × (dot && brief ≡ false)
 Asks name found (Show text) = ⊥
 

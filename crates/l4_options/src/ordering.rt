@@ -1,31 +1,19 @@
 //! The command line of `l4 orders`.
-ghost use Rattle.std.specs.Prelude.{◌≡◌, IfOk, codes, is_some, not};
-ghost use Rattle.clap.specs.Walk.{first_of};
+ghost use Rattle.std.specs.Prelude.{◌≡◌, IfOk, codes};
 ghost use Rattle.l4_options.specs.Spelled.{IsCountAt, IsChosenAt};
 ghost use Rattle.l4_options.specs.Commands.{option, switch, orders_command, Asks};
 ghost use Rattle.l4_options.specs.Inside.Lines.{IsCommand, IsRule, found_in};
 
 use crate::requests::{OptionFault, Options};
-use crate::values::{decimal_of, file_argument, is_on, script_of, size_option, text_of};
+use crate::values::{
+    decimal_of, file_argument, frames_option, is_on, script_of, size_option, text_of,
+};
 use clap::{Arg, ArgAction, ArgMatches, Command};
 use l4_help::commands::ORDERS;
 use std::alloc::{AllocError, Global};
 
 /// The number of states that are visited if `--most` is left out.
 const DEFAULT_MOST: u32 = 1_000_000;
-
-/// The option `--frames`.
-fn frames_option<'a>(alloc: Global) -> Arg<'a>
-    ensures { IsRule (option (codes "frames")) result }
-{
-    Arg::new(alloc, "frames")
-        .long("frames")
-        .value_name("N")
-        .help(
-            "The number of page frames, from 1 to 4096 [default: as many as the plan needs, at most 256]",
-        )
-        .action(ArgAction::Set)
-}
 
 /// The option `--most`.
 fn most_option<'a>(alloc: Global) -> Arg<'a>
@@ -108,16 +96,6 @@ fn witness_of(alloc: Global, matches: &ArgMatches<'_>) -> Result<Option<u32>, Op
     }
 }
 
-/// Whether the machine has as many frames as the plan needs: the number is left out.
-fn fits(matches: &ArgMatches<'_>) -> bool
-    ensures { result ≡ not (is_some (first_of (codes "frames") (found_in matches.now))) }
-{
-    match text_of(matches, "frames") {
-        Some(_) => false,
-        None => true,
-    }
-}
-
 /// What the matches of `orders` ask for.
 pub(crate) fn orders_options(
     alloc: Global,
@@ -138,7 +116,6 @@ pub(crate) fn orders_options(
     match script_of(alloc, matches) {
         Ok(plan) => Ok(Options::Orders {
             plan,
-            fits: fits(matches),
             most,
             witness,
             brief,

@@ -81,13 +81,11 @@ pub enum Options {
         tap: bool,
         write: bool,
     },
-    /// Prints every outcome that some order of the calls of a plan's threads can have, after visiting at most this many states. If `fits`, the
-    /// machine has only as many frames as the plan needs, and at most `plan.frames`. Prints only the script that produces outcome `witness`, if
-    /// there is one, leaves out the orders if `brief`, and prints the graph of the states instead if `dot`; then `witness` and `brief` are not
-    /// set.
+    /// Prints every outcome that some order of the calls of a plan's threads can have, after visiting at most this many states. Prints only
+    /// the script that produces outcome `witness`, if there is one, leaves out the orders if `brief`, and prints the graph of the states
+    /// instead if `dot`; then `witness` and `brief` are not set.
     Orders {
         plan: ScriptOptions,
-        fits: bool,
         most: u32,
         witness: Option<u32>,
         brief: bool,
