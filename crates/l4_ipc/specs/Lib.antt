@@ -3,7 +3,6 @@ pub mod SpacePages
 pub mod Start
 pub mod Moving
 pub mod Steps
-pub mod OwnCall
 pub mod NextSteps
 pub mod Runs
 pub mod Reading

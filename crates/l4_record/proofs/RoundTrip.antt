@@ -9,7 +9,7 @@ use Rattle.l4_ipc.specs.declared.steps.Answer.{Answer}
 use Rattle.l4_ipc.specs.declared.steps.NextStep.{NextStep}
 use Rattle.l4_ipc.specs.declared.steps.NextStep.TheVariants.{Transfer as Transferred, Expire as Expires}
 use Rattle.l4_ipc.specs.declared.steps.Outcome.{Outcome}
-use Rattle.l4_ipc.specs.OwnCall.{own_answer}
+use Rattle.l4_ipc.specs.NextSteps.{own_answer}
 use Rattle.l4_journal.specs.Codes.{call_tag, call_fields, outcome_code, AnswerFits, CallFits}
 use Rattle.l4_journal.proofs.RoundTrip.{call_again, answer_again, outcome_again}
 use Rattle.l4_record.specs.Following.{next_entry, start_entry}

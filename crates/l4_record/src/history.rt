@@ -1,7 +1,7 @@
 //! The history as a list of entries.
 ghost use Rattle.std.specs.Prelude.{◌≡◌, ◌+◌, ◌<◌, ◌^◌, ◌≤◌, ◌++◌, ◌∷◌, [], drop, nat_eq, length, slice_get, IfOk, OnOk, true, false};
 ghost use Rattle.l4_ipc.specs.declared.calls.Call.TheVariants.{Ipc as AnIpc, Fault as AFault};
-ghost use Rattle.l4_ipc.specs.OwnCall.{own_answer};
+ghost use Rattle.l4_ipc.specs.NextSteps.{own_answer};
 ghost use Rattle.l4_record.specs.Lists.{EntryList, entry_list};
 ghost use Rattle.l4_record.specs.Following.{start_entry, next_entry};
 ghost use Rattle.l4_record.specs.Inside.Words.{ends_word};

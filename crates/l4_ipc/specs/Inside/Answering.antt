@@ -10,7 +10,7 @@ use Rattle.l4_ipc.specs.declared.steps.Answer.{Answer}
 use Rattle.l4_ipc.specs.declared.steps.Refused.{Refused}
 use Rattle.l4_ipc.specs.declared.steps.Step.TheVariants.{Start, Expire}
 use Rattle.l4_ipc.specs.Machine.{machine}
-use Rattle.l4_ipc.specs.OwnCall.{own_answer}
+use Rattle.l4_ipc.specs.NextSteps.{own_answer}
 use Rattle.l4_ipc.specs.Steps.{Steps}
 
 -- the result of a call that ends no other thread's call; `ended` says whether it has ended itself

@@ -1,6 +1,6 @@
 -- Entries as words: a tag, the seat, and a word for each field (this profile's own).
 use Rattle.std.specs.Prelude.{ℕ, Bool, true, false, List, [], ◌∷◌, ◌++◌, Option, Some, nat_eq, if◌then◌else◌}
-use Rattle.l4_ipc.specs.OwnCall.{own_answer}
+use Rattle.l4_ipc.specs.NextSteps.{own_answer}
 use Rattle.l4_ipc.specs.declared.calls.Call.{Call}
 use Rattle.l4_ipc.specs.declared.steps.Answer.{Answer}
 use Rattle.l4_ipc.specs.declared.steps.NextStep.{NextStep}

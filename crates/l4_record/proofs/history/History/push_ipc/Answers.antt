@@ -1,7 +1,7 @@
 use Rattle.std.proofs.Common.{◌++◌, ◌∷◌, [], false, ap, ◌∙◌}
 use Rattle.std.specs.Prelude.{is_some}
 use Rattle.std.specs.Option.{option_to_list}
-use Rattle.l4_ipc.specs.OwnCall.{own_answer}
+use Rattle.l4_ipc.specs.NextSteps.{own_answer}
 use Rattle.l4_ipc.specs.declared.calls.Call.TheVariants.{Ipc}
 use Rattle.l4_record.specs.Following.{start_entry}
 use Rattle.l4_record.specs.Lists.{EntryList}
