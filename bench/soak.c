@@ -1,6 +1,10 @@
 /* Sends messages and pages over a locked kernel, and hands out its entries in segments, each of which is checked: it begins where the one
  * before it ended, and every entry gets the recorded answer on a second kernel, which replays all segments from boot. At the end the second
- * kernel has the same threads, replies and mappings as the locked one. */
+ * kernel has the same threads, replies and mappings as the locked one.
+ *
+ *     soak [CALLS [FILE]]
+ *
+ * FILE gets the files of all segments, one after another. */
 #include <l4.h>
 #include <stdio.h>
 #include <stdlib.h>
@@ -35,8 +39,17 @@ static void replay(l4_kernel *kernel, const l4_entry *entry) {
     }
 }
 
-/* Hands out a segment, checks it, and returns the number of the first entry after it. */
-static uint64_t hand_out(l4_lock *lock, l4_kernel *kernel, uint64_t next) {
+/* Writes the file of a segment behind those before it. */
+static void save(l4_segment *segment, FILE *file) {
+    size_t room = (size_t)l4_segment_bytes(segment, NULL, 0).count;
+    uint8_t *bytes = (uint8_t *)malloc(room);
+    must(bytes != NULL && l4_segment_bytes(segment, bytes, room).refusal == L4_OK, "no memory for the file of a segment");
+    must(fwrite(bytes, 1, room, file) == room, "the file cannot be written");
+    free(bytes);
+}
+
+/* Hands out a segment, checks it, writes it to the file if there is one, and returns the number of the first entry after it. */
+static uint64_t hand_out(l4_lock *lock, l4_kernel *kernel, FILE *file, uint64_t next) {
     l4_segment segment = L4_EMPTY;
     l4_entry entry;
     uint64_t end;
@@ -47,6 +60,9 @@ static uint64_t hand_out(l4_lock *lock, l4_kernel *kernel, uint64_t next) {
         entry = l4_segment_entry(&segment, next);
         must(entry.kind != L4_NONE, "an entry is missing");
         replay(kernel, &entry);
+    }
+    if (file != NULL) {
+        save(&segment, file);
     }
     l4_segment_free(&segment);
     return end;
@@ -81,10 +97,19 @@ static unsigned long resident(void) {
     return pages;
 }
 
+/* The receiver waits, and the sender sends it the number of the call and maps a page. */
+static void exchange(l4_lock *lock, const l4_call *receiving, const l4_call *sending, unsigned long long call) {
+    uint32_t words[5] = {l4_tag(0, 2, 2), (uint32_t)call, 0, 0, 0};
+    l4_map_item(words + 3, (uint32_t)(call / 2 % 1024) * L4_PAGE_BYTES, l4_fpage_of_page((uint32_t)(call / 2 % FRAMES), L4_READ | L4_WRITE));
+    must(l4_lock_enter(lock, RECEIVER, receiving, words, 0).reply.kind == L4_NONE, "a receive does not wait");
+    must(l4_lock_enter(lock, SENDER, sending, words, 5).reply.kind == L4_REPLY_IPC, "a message is not sent");
+    must(l4_lock_take(lock, RECEIVER).words[0] == (uint32_t)call, "another message arrived");
+}
+
 int main(int argc, char **argv) {
     unsigned long long calls = argc > 1 ? strtoull(argv[1], NULL, 10) : 1000000, call;
-    uint32_t words[5] = {0, 0, 0, 0, 0};
     uint64_t next = 0;
+    FILE *file = argc > 2 ? fopen(argv[2], "wb") : NULL;
     l4_lock lock = L4_EMPTY;
     l4_kernel kernel = L4_EMPTY;
     l4_call receiving, sending;
@@ -95,24 +120,21 @@ int main(int argc, char **argv) {
     memset(&sending, 0, sizeof sending);
     sending.kind = L4_IPC;
     sending.to = L4_ROOT_ID;
+    must(argc <= 2 || file != NULL, "the file cannot be opened");
     must(l4_lock_new(&lock, FRAMES) == L4_OK && l4_boot(&kernel, FRAMES) == L4_OK, "no kernel");
     must(l4_lock_give(&lock, SENDER) == L4_OK && l4_lock_give(&lock, RECEIVER) == L4_OK, "no seat");
     for (call = 0; call < calls; call += 2) {
-        words[0] = l4_tag(0, 2, 2);
-        words[1] = (uint32_t)call;
-        l4_map_item(words + 3, (uint32_t)(call / 2 % 1024) * L4_PAGE_BYTES, l4_fpage_of_page((uint32_t)(call / 2 % FRAMES), L4_READ | L4_WRITE));
-        must(l4_lock_enter(&lock, RECEIVER, &receiving, words, 0).reply.kind == L4_NONE, "a receive does not wait");
-        must(l4_lock_enter(&lock, SENDER, &sending, words, 5).reply.kind == L4_REPLY_IPC, "a message is not sent");
-        must(l4_lock_take(&lock, RECEIVER).words[0] == (uint32_t)call, "another message arrived");
+        exchange(&lock, &receiving, &sending, call);
         if ((call + 2) % EACH == 0) {
-            next = hand_out(&lock, &kernel, next);
+            next = hand_out(&lock, &kernel, file, next);
         }
         if (call + 2 == calls / 100 || (call + 2) % (calls / 10) == 0) {
             printf("%llu calls, %lu pages in use\n", call + 2, resident());
             fflush(stdout);
         }
     }
-    next = hand_out(&lock, &kernel, next);
+    next = hand_out(&lock, &kernel, file, next);
+    must(file == NULL || fclose(file) == 0, "the file cannot be written");
     must(next == l4_lock_length(&lock).count && next == calls / 2 * 3, "entries are missing");
     must(l4_lock_seat_of(&lock, RECEIVER).receipts == calls / 2, "receipts are missing");
     compare(&lock, &kernel);

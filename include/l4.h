@@ -776,6 +776,12 @@ l4_count l4_segment_length(l4_segment *segment);
 /* Returns the segment's entry with this number since boot. The kind is L4_NONE if the segment has no such entry. Refusals: B1. */
 l4_entry l4_segment_entry(l4_segment *segment, size_t number);
 
+/* Writes the file of the segment to the array, up to its length, and returns how many bytes the file has. Its heading names the frames at boot
+ * and the page size of the locked kernel. `l4 history --from` reads such files, several of them one after another too, and the README of the
+ * crate l4_segments describes each byte. With a room of 0, the call only counts the bytes. Refusals in this order: B1; NoMemory. Nothing is
+ * written then. */
+l4_count l4_segment_bytes(l4_segment *segment, uint8_t *out, size_t room);
+
 /* The counts of a seat: the number of calls that it has started, each of which is in the history once; the number of receipts that it got;
  * and kept_from, the number of the first receipt that is kept. All of them count since boot.
  * `there` is 0 if the seat was not given. */

@@ -558,6 +558,22 @@ static void first_segment(l4_lock *lock, l4_segment *segment) {
     EXPECT(l4_lock_check_provenance(lock, 3, 7, links, 0).refusal == L4_L8);
 }
 
+/* The file of a segment whose one entry, number 8, starts the receive of thread 2, in words of four bytes with the lowest byte first. The last
+ * eight are the SHA-256 digest of those before them. */
+static void segment_file(l4_segment *segment) {
+    static const uint32_t file[27] = {0x3447534c, 1, 256, 4096, 8, 0, 1, 0, 10, 2, 0, 0, 0, 2, 0, 0, 0xffffffff, 0, 0x10,
+        0x9029d093, 0x6c43e52a, 0xa9a401ad, 0x4cbe1f85, 0xeef547bd, 0x333e3d62, 0x097392b7, 0xebddd0ba};
+    uint8_t out[112];
+    size_t at;
+    memset(out, 'x', sizeof out);
+    EXPECT(l4_segment_bytes(segment, NULL, 0).count == 108 && l4_segment_bytes(segment, out, 2).count == 108);
+    EXPECT(out[0] == 'L' && out[1] == 'S' && out[2] == 'x');
+    EXPECT(l4_segment_bytes(segment, out, sizeof out).refusal == L4_OK && out[108] == 'x');
+    for (at = 0; at < 108; at++) {
+        EXPECT(out[at] == (file[at / 4] >> at % 4 * 8 & 0xff));
+    }
+}
+
 /* A segment is handed out while thread 2 waits: its receipt names entries of two segments. */
 static void segments(void) {
     static const uint32_t words[3] = {0x80, 0x300a, 0x70c4}, seats[4] = {1, 2, 3, 4};
@@ -566,11 +582,13 @@ static void segments(void) {
     l4_kernel copy = L4_EMPTY;
     EXPECT(l4_lock_hand_out(&lock, &first) == L4_B1 && l4_segment_first(&first).refusal == L4_B1 && l4_segment_length(&first).refusal == L4_B1);
     EXPECT(l4_segment_entry(&first, 0).refusal == L4_B1 && l4_lock_kept_from(&lock).refusal == L4_B1);
+    EXPECT(l4_segment_bytes(&first, NULL, 0).refusal == L4_B1);
     maps(&lock);
     first_segment(&lock, &first);
     EXPECT(by_seat(&lock, 2, receive(0x10), no_words, 0).reply.kind == L4_NONE);
     EXPECT(l4_lock_hand_out(&lock, &second) == L4_OK && l4_segment_first(&second).count == 8 && l4_segment_length(&second).count == 1);
     EXPECT(l4_segment_entry(&second, 7).kind == L4_NONE && l4_segment_entry(&second, 8).kind == L4_START && l4_segment_entry(&second, 9).kind == L4_NONE);
+    segment_file(&second);
     EXPECT(by_seat(&lock, 4, send(2), words, 3).reply.kind == L4_REPLY_IPC && l4_lock_take(&lock, 2).tag == 0x80);
     EXPECT(l4_lock_entry(&lock, 8).refusal == L4_L8 && l4_lock_entry(&lock, 10).kind == L4_TRANSFER && l4_lock_length(&lock).count == 11);
     EXPECT(l4_lock_receipt(&lock, 2, 2).there == 1 && l4_lock_receipt(&lock, 2, 2).start == 8 && l4_lock_receipt(&lock, 2, 2).end == 10);

@@ -39,7 +39,8 @@ pub use planning::{
     l4_plan_pages_sized, l4_plan_region, l4_plan_region_sized,
 };
 pub use segments::{
-    l4_lock_hand_out, l4_segment_entry, l4_segment_first, l4_segment_free, l4_segment_length,
+    l4_lock_hand_out, l4_segment_bytes, l4_segment_entry, l4_segment_first, l4_segment_free,
+    l4_segment_length,
 };
 pub use sharing::{
     l4_lock_descendants, l4_lock_mapping_of, l4_lock_next_page, l4_lock_next_space,

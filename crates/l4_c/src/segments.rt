@@ -1,13 +1,14 @@
 //! Segments of the history of a locked kernel, for C.
 ghost use Rattle.std.specs.Prelude.{◌≡◌, None};
 ghost use Rattle.l4_c.specs.Segmented.{HandsOutTo, HandsOutSegment, TellsFirst, TellsSegmentLength, TellsSegmentEntry};
+ghost use Rattle.l4_c_queries.specs.Files.{TellsFile};
 
-use l4_c_queries::{CountResult, counted, segment_entry};
+use l4_c_queries::{CountResult, counted, segment_entry, write_file};
 use l4_c_values::{
     EMPTY, EntryResult, HELD, LockHandle, NO_MEMORY, SegmentHandle, TOO_LONG, no_entry,
 };
 use l4_record::{History, Segment};
-use l4_seated_lock::SeatedLock;
+use l4_seated_lock::{HandedSegment, SeatedLock};
 use std::alloc::Global;
 
 /// Hands out the entries that the locked kernel keeps, into an empty handle.
@@ -18,9 +19,15 @@ fn hand_out(alloc: Global, lock: &mut SeatedLock, handle: &mut SegmentHandle) ->
         handle.put(held);
         return HELD;
     }
-    let empty = Segment {
+    let (frames, size) = (lock.frames(), lock.kernel().page_size());
+    let segment = Segment {
         first: 0,
         history: History::new(alloc),
+    };
+    let empty = HandedSegment {
+        frames,
+        size,
+        segment,
     };
     let Ok(mut room) = Box::new(alloc, empty) else {
         return NO_MEMORY;
@@ -28,7 +35,11 @@ fn hand_out(alloc: Global, lock: &mut SeatedLock, handle: &mut SegmentHandle) ->
     let Some(segment) = lock.hand_out() else {
         return TOO_LONG;
     };
-    *room = segment;
+    *room = HandedSegment {
+        frames,
+        size,
+        segment,
+    };
     handle.put(room);
     0
 }
@@ -65,11 +76,11 @@ pub extern "C" fn l4_segment_first(alloc: Global, handle: &mut SegmentHandle) ->
     ensures kept { handle.new.value ≡ handle.old.value }
     ensures told { TellsFirst handle.old.value result }
 {
-    let Some(segment) = handle.take(alloc) else {
+    let Some(handed) = handle.take(alloc) else {
         return counted(EMPTY, 0);
     };
-    let count = segment.first as u64;
-    handle.put(segment);
+    let count = handed.segment.first as u64;
+    handle.put(handed);
     counted(0, count)
 }
 
@@ -79,11 +90,11 @@ pub extern "C" fn l4_segment_length(alloc: Global, handle: &mut SegmentHandle) -
     ensures kept { handle.new.value ≡ handle.old.value }
     ensures told { TellsSegmentLength handle.old.value result }
 {
-    let Some(segment) = handle.take(alloc) else {
+    let Some(handed) = handle.take(alloc) else {
         return counted(EMPTY, 0);
     };
-    let count = segment.history.len() as u64;
-    handle.put(segment);
+    let count = handed.segment.history.len() as u64;
+    handle.put(handed);
     counted(0, count)
 }
 
@@ -97,10 +108,29 @@ pub extern "C" fn l4_segment_entry(
     ensures kept { handle.new.value ≡ handle.old.value }
     ensures told { TellsSegmentEntry handle.old.value number result }
 {
-    let Some(segment) = handle.take(alloc) else {
+    let Some(handed) = handle.take(alloc) else {
         return no_entry(EMPTY);
     };
-    let told = segment_entry(&segment, number);
-    handle.put(segment);
+    let told = segment_entry(&handed.segment, number);
+    handle.put(handed);
+    told
+}
+
+/// Writes the file of the segment to the array, up to its length, and returns how many bytes the file has. The refusals are B1 and NoMemory,
+/// in this order. Nothing is written after a refusal.
+#[unsafe(no_mangle)]
+pub extern "C" fn l4_segment_bytes(
+    alloc: Global,
+    handle: &mut SegmentHandle,
+    out: &mut [u8],
+) -> CountResult
+    ensures kept { handle.new.value ≡ handle.old.value }
+    ensures told { TellsFile handle.old.value out.old result out.new }
+{
+    let Some(handed) = handle.take(alloc) else {
+        return counted(EMPTY, 0);
+    };
+    let told = write_file(alloc, &handed, out);
+    handle.put(handed);
     told
 }

@@ -1,4 +1,5 @@
 pub mod Placing
 pub mod Below
+pub mod Told
 pub mod Found
 pub mod Kept

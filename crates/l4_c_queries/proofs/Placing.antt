@@ -51,3 +51,10 @@ module _ {X : Type 0} where
   placed_next f list out whole at d item e lt room h =
       placed_more (map f (drop at list)) (map f (drop (at + 1) list)) out whole item at
       (at_drop_more (λ l. map f l) list at d lt ∙ ap (λ (y : X). y ∷ map f (drop (at + 1) list)) (sym e)) room h
+
+  -- the same for the items of a list themselves
+  pub placed_item : (list out whole : List X) (at : ℕ) (d item : X) → item ≡ get_or list at d → at < length list → at < length out → take at out ++ placed (drop at list) (drop at out) ≡ whole
+      → take (at + 1) (set out at item) ++ placed (drop (at + 1) list) (drop (at + 1) (set out at item)) ≡ whole
+  placed_item list out whole at d item e lt room h =
+      placed_more (drop at list) (drop (at + 1) list) out whole item at
+      (at_drop_more (λ (l : List X). l) list at d lt ∙ ap (λ (y : X). y ∷ drop (at + 1) list) (sym e)) room h

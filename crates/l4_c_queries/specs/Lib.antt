@@ -1,5 +1,6 @@
 pub mod Asked
 pub mod Descended
+pub mod Files
 pub mod Listed
 pub mod Placed
 pub mod Recalled

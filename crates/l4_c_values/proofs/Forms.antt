@@ -4,7 +4,7 @@ use Rattle.l4_ipc.specs.contracts.kernel.Kernel as Kernel
 use Rattle.l4_pager.specs.contracts.regions.RegionPager as RegionPager
 use Rattle.l4_sigma0.specs.contracts.owners.Sigma0 as Sigma0
 use Rattle.l4_seated_lock.specs.contracts.seated.SeatedLock as SeatedLock
-use Rattle.l4_record.specs.contracts.segments.Segment as Segment
+use Rattle.l4_seated_lock.specs.contracts.handed.HandedSegment as HandedSegment
 use Rattle.l4_c_values.specs.contracts.kernels.KernelHandle as KernelHandle
 use Rattle.l4_c_values.specs.contracts.pagers.PagerHandle as PagerHandle
 use Rattle.l4_c_values.specs.contracts.sigma0s.Sigma0Handle as Sigma0Handle
@@ -70,7 +70,7 @@ lock = record {
 
 abbrev pub segment : Form
 segment = record {
-  Held = Segment.the_row;
+  Held = HandedSegment.the_row;
   name = SegmentHandle.struct.name;
   Denot = SegmentHandle.the_row.Denot;
   hidden = λ d. d.hidden;

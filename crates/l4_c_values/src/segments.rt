@@ -1,11 +1,11 @@
 //! Handles of segments of a history.
 ghost use Rattle.std.specs.Prelude.{◌≡◌, Option, None, Some, MatchOption};
-ghost use Rattle.l4_record.specs.declared.segments.Segment.{Segment as ASegment};
-ghost use Rattle.l4_record.specs.contracts.segments.Segment as inner;
+ghost use Rattle.l4_seated_lock.specs.declared.handed.HandedSegment.{HandedSegment as ASegment};
+ghost use Rattle.l4_seated_lock.specs.contracts.handed.HandedSegment as inner;
 ghost use Rattle.std.specs.Coded.{coded_option};
 
 use crate::loose::Loose;
-use l4_record::Segment;
+use l4_seated_lock::HandedSegment;
 use std::alloc::Global;
 use std::marker::Model;
 use std::mem::replace;
@@ -21,7 +21,7 @@ pub struct SegmentHandle {
 
 impl Model for SegmentHandle {
     ghost use Rattle.l4_c_values.specs.Inside.Held.{held};
-    ghost use Rattle.l4_record.specs.contracts.segments.Segment as inner;
+    ghost use Rattle.l4_seated_lock.specs.contracts.handed.HandedSegment as inner;
 
     ghost also_owns = { λ h. held inner.the_row h.hidden h.value };
 }
@@ -34,7 +34,7 @@ impl SegmentHandle {
         SegmentHandle { hidden: null_mut() }
     }
 
-    fn of(loose: Loose<Segment, Global>) -> SegmentHandle
+    fn of(loose: Loose<HandedSegment, Global>) -> SegmentHandle
         ensures { result.value ≡ Some loose.value }
     {
         let Loose { at, alloc: _ } = loose;
@@ -43,7 +43,7 @@ impl SegmentHandle {
         }
     }
 
-    fn into_loose(self, alloc: Global) -> Option<Loose<Segment, Global>>
+    fn into_loose(self, alloc: Global) -> Option<Loose<HandedSegment, Global>>
         ensures { MatchOption result (self.value ≡ None) (λ loose. self.value ≡ Some loose.value) }
     {
         let SegmentHandle { hidden } = self;
@@ -51,14 +51,14 @@ impl SegmentHandle {
             None
         } else {
             Some(Loose {
-                at: hidden as *mut Segment,
+                at: hidden as *mut HandedSegment,
                 alloc,
             })
         }
     }
 
     /// Moves the segment out of the handle, and leaves the handle empty. Returns `None` if the handle is empty.
-    pub fn take(&mut self, alloc: Global) -> Option<Box<Segment>>
+    pub fn take(&mut self, alloc: Global) -> Option<Box<HandedSegment>>
         ensures taken { MatchOption result (self.old.value ≡ None)
             (λ segment. self.old.value ≡ Some segment.value) }
         ensures empty { self.new.value ≡ None }
@@ -68,7 +68,7 @@ impl SegmentHandle {
     }
 
     /// Puts a segment into the handle, which must be empty.
-    pub fn put(&mut self, segment: Box<Segment>)
+    pub fn put(&mut self, segment: Box<HandedSegment>)
         requires { self.old.value ≡ None }
         ensures { self.new.value ≡ Some segment.value }
     {

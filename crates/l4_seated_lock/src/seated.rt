@@ -75,6 +75,13 @@ impl SeatedLock {
         }
     }
 
+    /// Returns the number of frames at boot.
+    pub fn frames(&self) -> u32
+        ensures { result ≡ self.now.frames }
+    {
+        self.locked.frames()
+    }
+
     /// Returns the kernel.
     pub fn kernel(&self) -> &Kernel
         ensures { result.now ≡ self.now.kernel }
