@@ -519,6 +519,7 @@ functions! {
     fn l4_segment_first(segment: *mut l4_segment) -> l4_count;
     fn l4_segment_length(segment: *mut l4_segment) -> l4_count;
     fn l4_segment_entry(segment: *mut l4_segment, number: usize) -> l4_entry;
+    fn l4_segment_bytes(segment: *mut l4_segment, out: *mut u8, room: usize) -> l4_count;
     fn l4_lock_seat_of(lock: *mut l4_lock, seat: u32) -> l4_seat;
     fn l4_lock_receipt(lock: *mut l4_lock, seat: u32, number: usize) -> l4_receipt;
     fn l4_lock_provenance(lock: *mut l4_lock, space: u64, page: u32, links: *mut l4_link, room: usize) -> l4_chain;
@@ -987,6 +988,19 @@ impl Handle<l4_segment> {
     pub(crate) fn entry(&self, number: usize) -> l4_entry {
         // SAFETY: as in `enabled`.
         unsafe { l4_segment_entry(self.cell.get(), number) }
+    }
+
+    /// Returns the file of the segment, or the number of the refusal.
+    pub(crate) fn bytes(&self) -> Result<Vec<u8>, u32> {
+        // SAFETY: as in `enabled`; an array with a room of 0 is neither read nor written.
+        let counted = unsafe { l4_segment_bytes(self.cell.get(), std::ptr::null_mut(), 0) };
+        let mut bytes = vec![0; counted.count as usize];
+        // SAFETY: as in `enabled`; the bytes belong to this function, and their room is their length.
+        let told = unsafe { l4_segment_bytes(self.cell.get(), bytes.as_mut_ptr(), bytes.len()) };
+        match told.refusal {
+            L4_OK => Ok(bytes),
+            refusal => Err(refusal),
+        }
     }
 }
 

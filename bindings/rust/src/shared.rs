@@ -185,6 +185,28 @@ impl Segment {
     pub fn entries(&self) -> impl Iterator<Item = Entry> + '_ {
         (self.first()..).map_while(|number| Entry::of(&self.handle.entry(number as usize)))
     }
+
+    /// Returns the file of the segment. `l4 history --from` reads such files, several of them one after another too.
+    ///
+    /// ```
+    /// # use l4::{Call, Fpage, SharedKernel, ThreadId, Timeout};
+    /// # use std::time::Duration;
+    /// # let path = std::env::temp_dir().join(format!("l4-segment-{}", std::process::id()));
+    /// let kernel = SharedKernel::new(256)?;
+    /// let mut root = kernel.seat(2)?;
+    /// root.call_for(&Call::receive(ThreadId::ANY, Fpage::NIL, Timeout::Never), Duration::ZERO)?;
+    /// std::fs::write(&path, kernel.hand_out()?.to_bytes()?)?;
+    /// # assert_eq!(std::fs::read(&path)?.len(), 108);
+    /// # std::fs::remove_file(&path)?;
+    /// # Ok::<(), Box<dyn std::error::Error>>(())
+    /// ```
+    ///
+    /// # Errors
+    ///
+    /// NoMemory.
+    pub fn to_bytes(&self) -> Result<Vec<u8>, Refusal> {
+        self.handle.bytes().map_err(|number| Refusal::of(number, 0))
+    }
 }
 
 impl fmt::Debug for Segment {

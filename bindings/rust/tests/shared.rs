@@ -172,6 +172,12 @@ fn a_thread_hands_out_segments_meanwhile() {
     }
 }
 
+/// The file of a segment that begins with entry 1, of a kernel with one frame: "LSG4", the version, the frames, the bytes of a page, and the
+/// number of the first entry.
+const HEADING: [u8; 24] = [
+    76, 83, 71, 52, 1, 0, 0, 0, 1, 0, 0, 0, 0, 16, 0, 0, 1, 0, 0, 0, 0, 0, 0, 0,
+];
+
 #[test]
 fn receipts_and_steps_of_later_calls_continue_their_numbers() {
     let kernel = SharedKernel::new(1).unwrap();
@@ -196,6 +202,7 @@ fn receipts_and_steps_of_later_calls_continue_their_numbers() {
     assert_eq!(kernel.check_provenance(0, 0, &[]), Err(Refusal::HandedOut));
     let second = kernel.hand_out().unwrap();
     assert_eq!((second.first(), second.len()), (1, 1));
+    assert_eq!(second.to_bytes().unwrap()[..24], HEADING);
     assert!(kernel.hand_out().unwrap().is_empty());
     assert_eq!(kernel.close(vec![root]).unwrap().len(), 0);
     assert_eq!(second.entries().count(), 1);
