@@ -429,6 +429,7 @@ FUNCTIONS: Dict[str, Tuple[Any, List[Any]]] = {
     "l4_segment_first": (l4_count, [SEGMENT]),
     "l4_segment_length": (l4_count, [SEGMENT]),
     "l4_segment_entry": (l4_entry, [SEGMENT, c_size_t]),
+    "l4_segment_bytes": (l4_count, [SEGMENT, c_char_p, c_size_t]),
     "l4_lock_seat_of": (l4_seat, [LOCK, c_uint32]),
     "l4_lock_receipt": (l4_receipt, [LOCK, c_uint32, c_size_t]),
     "l4_lock_provenance": (l4_chain, [LOCK, c_uint64, c_uint32, LINKS, c_size_t]),

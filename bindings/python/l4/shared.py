@@ -3,7 +3,7 @@ from __future__ import annotations
 
 import threading
 import time
-from ctypes import byref
+from ctypes import byref, create_string_buffer
 from dataclasses import dataclass
 from itertools import count
 from typing import Any, Callable, ContextManager, Iterable, Iterator, List, Optional, Set, Tuple, Union
@@ -179,6 +179,23 @@ class Segment(Handle):
             entry = _entry(self._answer(library.l4_segment_entry, place))
             assert entry is not None
             yield entry
+
+    def to_bytes(self) -> bytes:
+        """Returns the file of the segment. `l4 history --from` reads such files, several of them one after another too. Raises Refused with
+        NoMemory.
+
+        >>> from l4 import Call, SharedKernel
+        >>> kernel = SharedKernel()
+        >>> kernel.seat(2).call_for(Call.receive(), 0)
+        >>> kernel.hand_out().to_bytes()[:8]
+        b'LSG4\\x01\\x00\\x00\\x00'
+        """
+        told = self._answer(library.l4_segment_bytes, None, 0)
+        out = create_string_buffer(max(told.count, 1))
+        told = self._answer(library.l4_segment_bytes, out, told.count)
+        if told.refusal:
+            raise Refused(told.refusal)
+        return out.raw[: told.count]
 
 
 class SharedKernel(Unique, Queries):

@@ -23,6 +23,7 @@ from l4 import (
     ThreadState,
     Transfer,
 )
+from l4.segments import SavedSegment, read
 
 PAGE = Message.of(items=[Item.map(Fpage.page(16, Rights.ALL), 16 * PAGE_BYTES)])
 
@@ -151,6 +152,7 @@ class Shared(unittest.TestCase):
         with kernel.hand_out() as segment:
             self.assertEqual((segment.first, len(segment)), (0, 1))
             self.assertEqual([str(entry) for entry in segment], ["start 2 create 0x0000c001 0x0000c001 0x00000000"])
+            self.assertEqual(read(segment.to_bytes()), [SavedSegment(1, 4096, 0, tuple(segment))])
         self.assertEqual((kernel.history(), root.receipts, root.starts, kernel.steps()), ((), (), 1, 1))
         root.call(Call.delete(ThreadId.of(3)))
         self.assertEqual([(receipt.start, receipt.end) for receipt in root.receipts], [(1, 1)])
@@ -160,8 +162,11 @@ class Shared(unittest.TestCase):
             kernel.check_provenance(0, 0, [])
         later = kernel.hand_out()
         self.assertEqual((later.first, len(later), len(kernel.hand_out())), (1, 1, 0))
+        self.assertEqual(read(later.to_bytes() + kernel.hand_out().to_bytes())[1], SavedSegment(1, 4096, 2, ()))
         with self.assertRaisesRegex(ValueError, "^the Segment is closed$"):
             list(segment)
+        with self.assertRaisesRegex(ValueError, "^the Segment is closed$"):
+            segment.to_bytes()
         self.assertEqual(kernel.close([root]), ())
         self.assertEqual(len(list(later)), 1)
 
