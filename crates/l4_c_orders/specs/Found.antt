@@ -1,27 +1,14 @@
 -- What a search found, as C gets it (this profile's own).
-use Rattle.std.specs.Prelude.{◌≡◌, ◌⊎◌, ℕ, List, [], length, slice_get, Option, None, Some, Result, Ok, Err, codes}
+use Rattle.std.specs.Prelude.{◌≡◌, ◌⊎◌, ℕ, List, [], length, slice_get, Option, None, Some, codes}
 use Rattle.std.specs.Option.{option_map_or}
 use Rattle.l4_merges.specs.declared.exploring.Explored.{Explored}
-use Rattle.l4_merges.specs.declared.exploring.GaveUp.{GaveUp}
-use Rattle.l4_merges.specs.declared.exploring.GaveUp.TheVariants.{Bound, Memory, Full}
 use Rattle.l4_refusals.specs.Texts.{spelled}
 use Rattle.l4_orders.specs.Telling.{witness_text}
+use Rattle.l4_outcomes.specs.Counts.{end_number, counted_orders}
+use Rattle.l4_outcomes.specs.declared.searched.Searched.{Searched}
 use Rattle.l4_c_texts.specs.Written.{written}
 use Rattle.l4_c_orders.specs.declared.outcomes.CountResult.{CountResult}
 use Rattle.l4_c_orders.specs.declared.outcomes.FoundResult.{FoundResult}
-use Rattle.l4_c_orders.specs.declared.searched.Searched.{Searched}
-
--- every order was followed; or the search visited as many states as it may, memory ran out, or the history of an order is full
-abbrev pub end_number : Result (Unit {0}) GaveUp → ℕ
-end_number (Ok u) = 1
-end_number (Err Bound) = 2
-end_number (Err Memory) = 3
-end_number (Err Full) = 4
-
--- the number of orders, or 0 if not every order was followed
-abbrev pub counted_orders : Result (Unit {0}) GaveUp → ℕ → ℕ
-counted_orders (Ok u) orders = orders
-counted_orders (Err why) orders = 0
 
 abbrev pub found_result : Explored → FoundResult
 found_result e =

@@ -1,12 +1,12 @@
 //! What a search found.
 ghost use Rattle.std.specs.Prelude.{◌≡◌, IfOk};
-ghost use Rattle.l4_c_orders.specs.Found.{end_number, counted_orders, found_result, no_found, count_result, answers_in, witness_in, Writes, TellsFound, TellsAnswers, WritesWitness, TellsWitness};
+ghost use Rattle.l4_c_orders.specs.Found.{found_result, no_found, count_result, answers_in, witness_in, Writes, TellsFound, TellsAnswers, WritesWitness, TellsWitness};
 
 use crate::handles::OrdersHandle;
-use crate::searched::Searched;
 use l4_c_texts::write_text;
 use l4_c_values::{EMPTY, NO_MEMORY};
-use l4_orders::{Explored, GaveUp, witness_text};
+use l4_orders::witness_text;
+use l4_outcomes::{Searched, counts_of};
 use std::alloc::{AllocError, Global};
 
 /// How a search ended, and the numbers of outcomes that it found, of all orders, and of states that it visited.
@@ -30,39 +30,17 @@ pub struct CountResult {
     pub count: u64,
 }
 
-/// Returns how a search ended, as a number.
-fn end_number(explored: &Explored) -> u32
-    ensures { result ≡ end_number explored.now.ended }
-{
-    match explored.ended {
-        Ok(()) => 1,
-        Err(GaveUp::Bound) => 2,
-        Err(GaveUp::Memory) => 3,
-        Err(GaveUp::Full) => 4,
-    }
-}
-
-/// Returns the number of orders, or 0 if the search ended early.
-fn counted_orders(explored: &Explored) -> u64
-    ensures { result ≡ counted_orders explored.now.ended explored.now.orders }
-{
-    match explored.ended {
-        Ok(()) => explored.orders,
-        Err(_) => 0,
-    }
-}
-
 /// Returns the result for a search.
 fn found_told(search: &Searched) -> FoundResult
     ensures { result ≡ found_result search.now.explored }
 {
-    let explored = &search.explored;
+    let counts = counts_of(&search.explored);
     FoundResult {
         refusal: 0,
-        ended: end_number(explored),
-        outcomes: explored.found.len() as u64,
-        orders: counted_orders(explored),
-        states: explored.states,
+        ended: counts.ended,
+        outcomes: counts.outcomes,
+        orders: counts.orders,
+        states: counts.states,
     }
 }
 
