@@ -940,6 +940,11 @@ l4_count l4_orders_answers(l4_orders *orders, size_t outcome, char *out, size_t 
  * order: B1, NoMemory. */
 l4_count l4_orders_witness(l4_orders *orders, size_t outcome, char *out, size_t room);
 
+/* Writes the numbers of the lines of that order, from 1, as they are in the plan, and in the order in which they were executed. At most
+ * `room` numbers are written; count is the number of all of them. It is 0 if there is no such outcome. Nothing is written after a refusal.
+ * Refusals in this order: B1, NoMemory. */
+l4_count l4_orders_lines(l4_orders *orders, size_t outcome, uint64_t *lines, size_t room);
+
 /* Frees a search with its plan, and leaves the handle empty. */
 void l4_orders_free(l4_orders *orders);
 

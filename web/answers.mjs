@@ -68,6 +68,14 @@ class Answers {
     return { text: `${counted(items.length, "item")} in ${counted(messages, "message")}`, verdict, items, pages: pages.slice(0, MOST_SHOWN), claim: text };
   }
 
+  /** The outcomes of a plan over all orders of its calls, each with the script of an order that produces it. */
+  orders(asked) {
+    this.report("Searching the orders");
+    const { end, orders, states, outcomes } = this.program.orders(ended(linesIn(asked.script)), machineOf(asked), asked.most);
+    const shown = outcomes.slice(0, MOST_SHOWN).map(({ answers, witness }) => ({ answers: cutList(answers), witness }));
+    return { end, orders: grouped(end === "all" ? orders : 0), states, outcomeCount: outcomes.length, outcomes: shown };
+  }
+
   /** A text as `l4` writes it. */
   text(asked) {
     const script = ended(linesIn(asked.script)), machine = machineOf(asked), words = asked.words;

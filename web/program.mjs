@@ -1,9 +1,11 @@
 // The program l4 in its WebAssembly module (crates/l4_page): bytes in, a text out.
-import { megabytes } from "../bindings/python/l4/views/texts.mjs";
+import { linesIn, megabytes } from "../bindings/python/l4/views/texts.mjs";
 
 const WASM_PAGE = 65536;
 // the bytes of a call's answer, the room for its text at first, and the longest text that is read
-const TOLD_BYTES = 32, ROOM = 1 << 16, MOST_TEXT = 128 << 20;
+const TOLD_BYTES = 64, ROOM = 1 << 16, MOST_TEXT = 128 << 20;
+// the room for the texts of a search at first, and for their lengths: a search that finds more is made again
+const SEARCH_ROOM = 1 << 22, LENGTHS = 1 << 13;
 
 export const RIGHTS = { x: 1, w: 2, r: 4 };
 /** How words are read: as a message, each alone, as an fpage, as a window, as a thread id. */
@@ -20,11 +22,14 @@ const codeOf = (refusal) => String.fromCharCode(refusal >> 8, refusal & 255);
 
 /** A call that the program refused. */
 export class Refused extends Error {
-  constructor(refusal) {
-    super(REFUSALS[codeOf(refusal)]);
+  constructor(refusal, text = "") {
+    super(REFUSALS[codeOf(refusal)] ?? text);
     this.code = codeOf(refusal);
   }
 }
+
+/** The ends of a search, by the module's numbers. */
+const ENDS = { 1: "all", 2: "most", 3: "memory", 4: "history" };
 
 /** Why a call failed, in words. */
 export function failureText(fault) {
@@ -38,6 +43,13 @@ export function failureText(fault) {
 class Given {
   constructor(...words) {
     this.words = Uint32Array.from(words);
+  }
+}
+
+/** Room for items of some bytes each, which a call writes. */
+class Room {
+  constructor(length, bytes = 1) {
+    Object.assign(this, { length, byteLength: length * bytes });
   }
 }
 
@@ -74,25 +86,39 @@ export class Program {
   }
 
   once(name, room, given) {
+    const { buffer, answer, rooms: [place] } = this.enter(name, [...given, new Room(room)]);
+    const refusal = answer.getUint32(0, true);
+    if (refusal) throw new Refused(refusal);
+    const length = Number(answer.getBigUint64(8, true));
+    return {
+      length, room, found: answer.getUint32(4, true) === 1, lines: Number(answer.getBigUint64(16, true)),
+      bytes: new Uint8Array(buffer, place, Math.min(length, room)),
+    };
+  }
+
+  /** Calls a function. Returns the memory after the call, its answer there, and the place of each room. */
+  enter(name, given) {
     const { exports } = new WebAssembly.Instance(this.module);
     const values = given.map(bytesOf);
     // the module grows its memory itself, so what lies behind its first memory is the caller's
     const base = exports.memory.buffer.byteLength;
-    const need = values.reduce((sum, value) => sum + (value.byteLength === undefined ? 0 : rounded(value.byteLength)), TOLD_BYTES) + room;
+    const need = values.reduce((sum, value) => sum + (value.byteLength === undefined ? 0 : rounded(value.byteLength)), TOLD_BYTES);
     grow(exports.memory, Math.ceil(need / WASM_PAGE));
     let place = base + TOLD_BYTES;
-    const words = [BigInt(base)];
+    const words = [BigInt(base)], rooms = [];
     values.forEach((value, k) => {
       if (value.byteLength === undefined) {
         words.push(Number(value));
         return;
       }
-      new Uint8Array(exports.memory.buffer, place, value.byteLength).set(new Uint8Array(value.buffer, value.byteOffset, value.byteLength));
+      if (value instanceof Room) rooms.push(place);
+      else new Uint8Array(exports.memory.buffer, place, value.byteLength).set(new Uint8Array(value.buffer, value.byteOffset, value.byteLength));
       words.push(BigInt(place), ...(given[k] instanceof Given ? [] : [BigInt(value.length)]));
       place += rounded(value.byteLength);
     });
-    exports[name](...words, BigInt(place), BigInt(room));
-    return read(exports.memory.buffer, base, place, room);
+    exports[name](...words);
+    const { buffer } = exports.memory;
+    return { buffer, answer: new DataView(buffer, base, TOLD_BYTES), rooms };
   }
 
   run(script, { frames, pageBytes }) {
@@ -133,16 +159,45 @@ export class Program {
   decode(words, reading, { pageBytes }) {
     return this.call("page_decode", Uint32Array.from(words), reading, pageBytes).text;
   }
+
+  /** Searches all orders of a plan, and visits at most `most` states. Returns the outcomes with the lines of their answers, each with the
+   * script of an order that produces it; how the search ended ("all", "most", "memory" or "history"); and the numbers of orders (a BigInt)
+   * and states. */
+  orders(plan, machine, most) {
+    let told = this.search(plan, machine, most, SEARCH_ROOM, LENGTHS);
+    if (told.length > MOST_TEXT) throw new Error(`The outcomes have ${megabytes(told.length)}. The page shows up to ${megabytes(MOST_TEXT)}; \`l4 orders\` prints all of them.`);
+    if (told.length > SEARCH_ROOM || told.lengthCount > LENGTHS) told = this.search(plan, machine, most, told.length, told.lengthCount);
+    const { end, orders, states } = told;
+    return { end, orders, states, outcomes: outcomesIn(told.bytes, told.lengths) };
+  }
+
+  search(plan, { frames, pageBytes }, most, room, count) {
+    const given = new Given(frames, pageBytes, most % 2 ** 32, Math.floor(most / 2 ** 32));
+    const { buffer, answer, rooms: [place, lengths] } = this.enter("page_orders", [plan, given, new Room(room), new Room(count, 8)]);
+    const number = (at) => answer.getBigUint64(at, true), refusal = answer.getUint32(0, true), length = Number(number(48));
+    const bytes = new Uint8Array(buffer, place, Math.min(length, room));
+    if (refusal) throw new Refused(refusal, refusalText(refusal, answer.getUint32(4, true), number(8), new TextDecoder().decode(bytes)));
+    const lengthCount = 2 * Number(number(24));
+    return {
+      length, lengthCount, bytes, end: ENDS[answer.getUint32(16, true)], orders: number(32), states: Number(number(40)),
+      lengths: Array.from(new BigUint64Array(buffer, lengths, Math.min(lengthCount, count)), Number),
+    };
+  }
 }
 
-/** Reads the answer of a call, and as much of its text as there was room for. */
-function read(memory, base, place, room) {
-  const answer = new DataView(memory, base, TOLD_BYTES);
-  const refusal = answer.getUint32(0, true);
-  if (refusal) throw new Refused(refusal);
-  const length = Number(answer.getBigUint64(8, true));
-  return {
-    length, room, found: answer.getUint32(4, true) === 1, lines: Number(answer.getBigUint64(16, true)),
-    bytes: new Uint8Array(memory, place, Math.min(length, room)),
-  };
+/** Why a text is not a plan: the line, the code with the thread that it names, and what the code means. */
+function refusalText(refusal, thread, line, meaning) {
+  const code = thread ? `${codeOf(refusal)} ${thread}` : codeOf(refusal);
+  return `${line ? `line ${line}: ` : ""}${code}: ${meaning}`;
+}
+
+/** The outcomes in a text that has the answers of each and then its script, which have these lengths. */
+function outcomesIn(bytes, lengths) {
+  const texts = [];
+  let place = 0;
+  for (const length of lengths) {
+    texts.push(new TextDecoder().decode(bytes.subarray(place, place + length)));
+    place += length;
+  }
+  return Array.from({ length: texts.length / 2 }, (_, k) => ({ answers: linesIn(texts[2 * k]), witness: texts[2 * k + 1] }));
 }

@@ -1,6 +1,7 @@
 // The page's module in node. What it writes for the files of tests/scripts, explained, annotated, histories, steps, whys, plans and decodes must be
 // NAME.out, byte for byte. Then come cases on standard input, one per line in JSON: the words of `l4`, or `steps` for `l4_steps`, with the input,
-// and what the program wrote with its status; or what a model knows after a script, which must be what the page's views are made from.
+// and what the program wrote with its status (of `l4 orders`, the outcomes or a witness); or what a model knows after a script, which must be
+// what the page's views are made from.
 //
 // usage: node [--experimental-wasm-memory64] tests/browser/module.mjs MODULE
 import fs from "node:fs";
@@ -20,7 +21,7 @@ const wordsOf = (text) => text.toString().split(/\s+/).filter((word) => word);
 
 /** The words of a command line without its options, and the options. */
 function parsed(words) {
-  const options = { frames: 256, "page-size": 4096, as: undefined }, rest = [];
+  const options = { frames: 256, "page-size": 4096, as: undefined, most: 1_000_000, witness: undefined }, rest = [];
   for (let k = 0; k < words.length; k += 1) {
     const found = /^--([a-z-]+)(?:=(.*))?$/.exec(words[k]);
     if (!found) rest.push(words[k]);
@@ -34,6 +35,20 @@ const regionOf = ([source, target, count, rights]) => ({
   source: Number(source), target: Number(target), count: Number(count), rights: [...rights].reduce((sum, letter) => sum + (RIGHTS[letter] ?? 0), 0),
 });
 
+/** The outcomes as `l4 orders --outcomes` prints them. */
+function outcomesText({ outcomes, end, orders, states }) {
+  const counted = (number, noun) => `${number} ${noun}${Number(number) === 1 ? "" : "s"}`, isWhole = end === "all";
+  const told = outcomes.map(({ answers }, k) => [`outcome ${k + 1}`, ...answers].map((line) => `${line}\n`).join(""));
+  const counts = [counted(outcomes.length, "outcome"), ...(isWhole ? [counted(orders, "order")] : []), counted(states, "state")];
+  return `${told.join("")}${[...counts, ...(isWhole ? [] : [`incomplete: ${end}`])].join(", ")}\n`;
+}
+
+/** What `l4 orders` writes. */
+function searched(found, witness) {
+  const text = witness === undefined ? outcomesText(found) : found.outcomes[Number(witness) - 1].witness;
+  return { text, found: found.end === "all" };
+}
+
 /** What `l4` writes for these words and this input, and its status. */
 function written(program, [command, ...words], input) {
   const { rest, options, machine } = parsed(words), done = (text) => ({ text, found: true });
@@ -41,6 +56,7 @@ function written(program, [command, ...words], input) {
     case "run":
       if (options.number && options.moves) return done(program.annotate(input, machine));
       return done(options.explain ? program.explain(input, machine) : program.run(input, machine));
+    case "orders": return searched(program.orders(input, machine, Number(options.most)), options.witness);
     case "steps": return program.call("page_steps", input, machine.frames, machine.pageBytes);
     case "history": return done(program.history(input, machine, options.answers === true));
     case "why": return program.why(input, machine, Number(rest[0]), Number(rest[1]));

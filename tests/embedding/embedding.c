@@ -775,6 +775,13 @@ static void small_plans(void) {
 static const char plan[] =
     "# a comment\nthread 3 new nil\nthread 4 new nil\nunordered\ndelete 4\nsend 3 4 0x10001 5\nrecv 4 any 0\nfinally\nreply 3\nreply 4\n";
 
+/* The order of the outcome has these lines. */
+static int has_order(l4_orders *orders, size_t outcome, size_t count, uint64_t first, uint64_t second, uint64_t third) {
+    uint64_t lines[3] = {0, 0, 9};
+    l4_count told = l4_orders_lines(orders, outcome, lines, count);
+    return told.refusal == L4_OK && told.count == count && lines[0] == first && lines[1] == second && lines[2] == third;
+}
+
 /* The outcome has these answers, and its witness begins and ends with the lines that are in no order. */
 static int has_outcome(l4_orders *orders, size_t outcome, const char *answers, const char *turns) {
     char text[200], script[200];
@@ -793,6 +800,8 @@ static void found_orders(l4_orders *orders) {
     EXPECT(has_outcome(orders, 0, "3 ipc 00008000 4 nil\nline 6 refused K2\nstuck 4 7\n", "delete 4\nsend 3 4 0x10001 5\n"));
     EXPECT(has_outcome(orders, 1, "3 ipc 00000000 0 nil\nline 7 refused K2\n", "send 3 4 0x10001 5\nrecv 4 any 0\ndelete 4\n"));
     EXPECT(has_outcome(orders, 2, "3 ipc 00008000 4 nil\nline 7 refused K2\n", "recv 4 any 0\ndelete 4\nsend 3 4 0x10001 5\n"));
+    EXPECT(has_order(orders, 0, 2, 5, 6, 9) && has_order(orders, 1, 3, 6, 7, 5) && has_order(orders, 2, 3, 7, 5, 6));
+    EXPECT(l4_orders_lines(orders, 1, NULL, 0).count == 3 && l4_orders_lines(orders, 3, NULL, 0).count == 0);
     EXPECT(l4_orders_answers(orders, 1, cut, 2).count == 39 && cut[0] == '3' && cut[1] == 0 && cut[2] == 'x');
     EXPECT(l4_orders_answers(orders, 3, cut, 4).count == 0 && cut[0] == 0 && l4_orders_witness(orders, 3, cut, 4).count == 0);
     EXPECT(l4_orders_answers(orders, 0, NULL, 0).count == 49 && l4_orders_witness(orders, 0, NULL, 0).refusal == L4_OK);
@@ -819,6 +828,7 @@ static void orders_of_plans(void) {
     char text[8];
     l4_orders_free(&orders);
     EXPECT(l4_orders_found(&orders).refusal == L4_B1 && l4_orders_found(&orders).outcomes == 0);
+    EXPECT(l4_orders_lines(&orders, 0, NULL, 0).refusal == L4_B1);
     EXPECT(l4_orders_answers(&orders, 0, text, 8).refusal == L4_B1 && l4_orders_witness(&orders, 0, text, 8).refusal == L4_B1);
     told = l4_orders_search(&orders, 16, plan, strlen(plan), 1000);
     EXPECT(told.refusal == L4_OK && told.line == 0 && told.detail == 0);

@@ -365,6 +365,7 @@ LOCK = POINTER(l4_lock)
 SEGMENT = POINTER(l4_segment)
 LINKS = POINTER(l4_link)
 ORDERS = POINTER(l4_orders)
+LINES = POINTER(c_uint64)
 
 # the result and the parameters of each function
 FUNCTIONS: Dict[str, Tuple[Any, List[Any]]] = {
@@ -450,6 +451,7 @@ FUNCTIONS: Dict[str, Tuple[Any, List[Any]]] = {
     "l4_orders_found": (l4_found, [ORDERS]),
     "l4_orders_answers": (l4_count, [ORDERS, c_size_t, c_char_p, c_size_t]),
     "l4_orders_witness": (l4_count, [ORDERS, c_size_t, c_char_p, c_size_t]),
+    "l4_orders_lines": (l4_count, [ORDERS, c_size_t, LINES, c_size_t]),
     "l4_orders_free": (None, [ORDERS]),
 }
 

@@ -5,7 +5,7 @@ queries after a line `finally` are the outcome. The user guide describes plans.
 """
 from __future__ import annotations
 
-from ctypes import byref, create_string_buffer
+from ctypes import byref, c_uint64, create_string_buffer
 from dataclasses import dataclass
 from enum import Enum
 from typing import Any, Callable, Optional, Tuple
@@ -34,11 +34,13 @@ class PlanOutcome:
     """An outcome that some order of the calls has.
 
     `answers` has the lines of the answers to the queries, and then a line `stuck N L` for each thread N that is left before its line L of the
-    plan. `witness` is the script of an order that produces this outcome: `l4 run` and `Script.run` answer its queries so.
+    plan. `witness` is the script of an order that produces this outcome: `l4 run` and `Script.run` answer its queries so. `order` has the
+    numbers of the plan's lines in that order, from 1, without those before `unordered` and after `finally`.
     """
 
     answers: Tuple[str, ...]
     witness: str
+    order: Tuple[int, ...]
 
 
 @dataclass(frozen=True)
@@ -67,9 +69,19 @@ def _text(write: Callable[..., Any], search: _library.l4_orders, outcome: int) -
     return text.raw[: told.count].decode("utf-8", "surrogateescape")
 
 
+def _lines(search: _library.l4_orders, outcome: int) -> Tuple[int, ...]:
+    """Returns the numbers of the lines of an outcome's order."""
+    room = library.l4_orders_lines(byref(search), outcome, None, 0).count
+    lines = (c_uint64 * room)()
+    told = library.l4_orders_lines(byref(search), outcome, lines, room)
+    if told.refusal:
+        raise Refused(told.refusal)
+    return tuple(lines)
+
+
 def _outcome(search: _library.l4_orders, place: int) -> PlanOutcome:
     answers = _text(library.l4_orders_answers, search, place)
-    return PlanOutcome(tuple(answers.splitlines()), _text(library.l4_orders_witness, search, place))
+    return PlanOutcome(tuple(answers.splitlines()), _text(library.l4_orders_witness, search, place), _lines(search, place))
 
 
 def _found(search: _library.l4_orders) -> Orders:

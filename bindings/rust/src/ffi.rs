@@ -540,6 +540,7 @@ functions! {
     fn l4_orders_found(orders: *mut l4_orders) -> l4_found;
     fn l4_orders_answers(orders: *mut l4_orders, outcome: usize, out: *mut c_char, room: usize) -> l4_count;
     fn l4_orders_witness(orders: *mut l4_orders, outcome: usize, out: *mut c_char, room: usize) -> l4_count;
+    fn l4_orders_lines(orders: *mut l4_orders, outcome: usize, lines: *mut u64, room: usize) -> l4_count;
     fn l4_orders_free(orders: *mut l4_orders) -> ();
 }
 
@@ -1042,6 +1043,21 @@ impl Handle<l4_orders> {
     pub(crate) fn witness(&self, outcome: usize) -> Result<String, u32> {
         // SAFETY: as in `answers`.
         whole(|out, room| unsafe { l4_orders_witness(self.cell.get(), outcome, out, room) })
+    }
+
+    /// Returns the numbers of the lines of an outcome's order, or the number of the refusal.
+    pub(crate) fn lines(&self, outcome: usize) -> Result<Vec<u64>, u32> {
+        // SAFETY: as in `enabled`; the room is that of the lines, and none is written if it is 0.
+        let write = |lines: *mut u64, room: usize| unsafe {
+            l4_orders_lines(self.cell.get(), outcome, lines, room)
+        };
+        let mut lines = vec![0; write(std::ptr::null_mut(), 0).count as usize];
+        let told = write(lines.as_mut_ptr(), lines.len());
+        if told.refusal == L4_OK {
+            Ok(lines)
+        } else {
+            Err(told.refusal)
+        }
     }
 }
 

@@ -38,6 +38,8 @@ pub struct PlanOutcome {
     pub answers: Vec<String>,
     /// The script of an order that produces this outcome: `l4 run` answers its queries so.
     pub witness: String,
+    /// The numbers of the plan's lines in that order, from 1, without those before `unordered` and after `finally`.
+    pub order: Vec<u64>,
 }
 
 /// What a search found.
@@ -94,6 +96,7 @@ impl From<Refusal> for BadPlan {
 /// assert_eq!(found.order_count, Some(2));
 /// assert_eq!(found.outcomes.len(), 1);
 /// assert_eq!(found.outcomes[0].answers, ["2 ipc 00010000 0 1"]);
+/// assert_eq!(found.outcomes[0].order.len(), 2);
 /// # Ok::<(), l4::BadPlan>(())
 /// ```
 ///
@@ -125,6 +128,9 @@ pub fn orders_sized(plan: &str, frames: u32, most: u64, size: PageSize) -> Resul
             answers: answers.lines().map(str::to_owned).collect(),
             witness: search
                 .witness(place)
+                .map_err(|number| Refusal::of(number, 0))?,
+            order: search
+                .lines(place)
                 .map_err(|number| Refusal::of(number, 0))?,
         });
     }

@@ -1,7 +1,7 @@
 -- The form of the handle.
 use Rattle.std.proofs.Common.{refl}
 use Rattle.l4_c_values.proofs.Handles.{Form}
-use Rattle.l4_c_orders.specs.contracts.searched.Searched as Searched
+use Rattle.l4_outcomes.specs.contracts.searched.Searched as Searched
 use Rattle.l4_c_orders.specs.contracts.handles.OrdersHandle as OrdersHandle
 
 abbrev pub search : Form

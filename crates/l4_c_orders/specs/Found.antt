@@ -1,27 +1,14 @@
 -- What a search found, as C gets it (this profile's own).
-use Rattle.std.specs.Prelude.{◌≡◌, ◌⊎◌, ℕ, List, [], length, slice_get, Option, None, Some, Result, Ok, Err, codes}
+use Rattle.std.specs.Prelude.{◌≡◌, ◌⊎◌, ℕ, List, [], ◌++◌, length, min, take, drop, slice_get, Option, None, Some, codes}
 use Rattle.std.specs.Option.{option_map_or}
 use Rattle.l4_merges.specs.declared.exploring.Explored.{Explored}
-use Rattle.l4_merges.specs.declared.exploring.GaveUp.{GaveUp}
-use Rattle.l4_merges.specs.declared.exploring.GaveUp.TheVariants.{Bound, Memory, Full}
 use Rattle.l4_refusals.specs.Texts.{spelled}
-use Rattle.l4_orders.specs.Telling.{witness_text}
+use Rattle.l4_orders.specs.Telling.{line_numbers, witness_text}
+use Rattle.l4_outcomes.specs.Counts.{end_number, counted_orders}
+use Rattle.l4_outcomes.specs.declared.searched.Searched.{Searched}
 use Rattle.l4_c_texts.specs.Written.{written}
 use Rattle.l4_c_orders.specs.declared.outcomes.CountResult.{CountResult}
 use Rattle.l4_c_orders.specs.declared.outcomes.FoundResult.{FoundResult}
-use Rattle.l4_c_orders.specs.declared.searched.Searched.{Searched}
-
--- every order was followed; or the search visited as many states as it may, memory ran out, or the history of an order is full
-abbrev pub end_number : Result (Unit {0}) GaveUp → ℕ
-end_number (Ok u) = 1
-end_number (Err Bound) = 2
-end_number (Err Memory) = 3
-end_number (Err Full) = 4
-
--- the number of orders, or 0 if not every order was followed
-abbrev pub counted_orders : Result (Unit {0}) GaveUp → ℕ → ℕ
-counted_orders (Ok u) orders = orders
-counted_orders (Err why) orders = 0
 
 abbrev pub found_result : Explored → FoundResult
 found_result e =
@@ -64,3 +51,22 @@ WritesWitness s number old r new = Writes (witness_in s number) old r new ⊎ ((
 abbrev pub TellsWitness : Option Searched → ℕ → List ℕ → CountResult → List ℕ → Type 0
 TellsWitness None number old r new = (r ≡ count_result (spelled (codes "B1")) 0) × (new ≡ old)
 TellsWitness (Some s) number old r new = WritesWitness s number old r new
+
+-- NUMBERS
+
+-- how many numbers there are is returned, and as many of them as fit are written
+abbrev pub WritesNumbers : List ℕ → List ℕ → CountResult → List ℕ → Type 0
+WritesNumbers numbers old r new =
+    (r ≡ count_result 0 (length numbers)) × (new ≡ take (min (length numbers) (length old)) numbers ++ drop (min (length numbers) (length old)) old)
+
+-- the numbers of the lines of the order that was found with this outcome, or no numbers
+abbrev pub lines_in : Searched → ℕ → List ℕ
+lines_in s number = option_map_or (λ one. line_numbers s.plan one.order.items) (slice_get s.explored.found.items number) []
+
+-- the numbers are written, or memory ran out
+abbrev pub WritesLines : Searched → ℕ → List ℕ → CountResult → List ℕ → Type 0
+WritesLines s number old r new = WritesNumbers (lines_in s number) old r new ⊎ ((r ≡ count_result (spelled (codes "NoMemory")) 0) × (new ≡ old))
+
+abbrev pub TellsLines : Option Searched → ℕ → List ℕ → CountResult → List ℕ → Type 0
+TellsLines None number old r new = (r ≡ count_result (spelled (codes "B1")) 0) × (new ≡ old)
+TellsLines (Some s) number old r new = WritesLines s number old r new

@@ -1,11 +1,11 @@
 //! Handles of searches.
 ghost use Rattle.std.specs.Prelude.{◌≡◌, Option, None, Some, MatchOption};
-ghost use Rattle.l4_c_orders.specs.declared.searched.Searched.{Searched as ASearch};
-ghost use Rattle.l4_c_orders.specs.contracts.searched.Searched as inner;
+ghost use Rattle.l4_outcomes.specs.declared.searched.Searched.{Searched as ASearch};
+ghost use Rattle.l4_outcomes.specs.contracts.searched.Searched as inner;
 ghost use Rattle.std.specs.Coded.{coded_option};
 
-use crate::searched::Searched;
 use l4_c_values::Loose;
+use l4_outcomes::Searched;
 use std::alloc::Global;
 use std::marker::Model;
 use std::mem::replace;
@@ -21,7 +21,7 @@ pub struct OrdersHandle {
 
 impl Model for OrdersHandle {
     ghost use Rattle.l4_c_values.specs.Inside.Held.{held};
-    ghost use Rattle.l4_c_orders.specs.contracts.searched.Searched as inner;
+    ghost use Rattle.l4_outcomes.specs.contracts.searched.Searched as inner;
 
     ghost also_owns = { λ h. held inner.the_row h.hidden h.value };
 }

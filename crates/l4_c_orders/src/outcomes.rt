@@ -1,12 +1,12 @@
 //! What a search found.
 ghost use Rattle.std.specs.Prelude.{◌≡◌, IfOk};
-ghost use Rattle.l4_c_orders.specs.Found.{end_number, counted_orders, found_result, no_found, count_result, answers_in, witness_in, Writes, TellsFound, TellsAnswers, WritesWitness, TellsWitness};
+ghost use Rattle.l4_c_orders.specs.Found.{found_result, no_found, count_result, answers_in, witness_in, lines_in, Writes, WritesNumbers, TellsFound, TellsAnswers, WritesWitness, TellsWitness, WritesLines, TellsLines};
 
 use crate::handles::OrdersHandle;
-use crate::searched::Searched;
 use l4_c_texts::write_text;
 use l4_c_values::{EMPTY, NO_MEMORY};
-use l4_orders::{Explored, GaveUp, witness_text};
+use l4_orders::{line_numbers, witness_text};
+use l4_outcomes::{Searched, counts_of};
 use std::alloc::{AllocError, Global};
 
 /// How a search ended, and the numbers of outcomes that it found, of all orders, and of states that it visited.
@@ -22,7 +22,7 @@ pub struct FoundResult {
     pub states: u64,
 }
 
-/// The length of a text.
+/// The length of a text, or the number of lines of an order.
 #[repr(C)]
 #[derive(Clone, Copy)]
 pub struct CountResult {
@@ -30,39 +30,17 @@ pub struct CountResult {
     pub count: u64,
 }
 
-/// Returns how a search ended, as a number.
-fn end_number(explored: &Explored) -> u32
-    ensures { result ≡ end_number explored.now.ended }
-{
-    match explored.ended {
-        Ok(()) => 1,
-        Err(GaveUp::Bound) => 2,
-        Err(GaveUp::Memory) => 3,
-        Err(GaveUp::Full) => 4,
-    }
-}
-
-/// Returns the number of orders, or 0 if the search ended early.
-fn counted_orders(explored: &Explored) -> u64
-    ensures { result ≡ counted_orders explored.now.ended explored.now.orders }
-{
-    match explored.ended {
-        Ok(()) => explored.orders,
-        Err(_) => 0,
-    }
-}
-
 /// Returns the result for a search.
 fn found_told(search: &Searched) -> FoundResult
     ensures { result ≡ found_result search.now.explored }
 {
-    let explored = &search.explored;
+    let counts = counts_of(&search.explored);
     FoundResult {
         refusal: 0,
-        ended: end_number(explored),
-        outcomes: explored.found.len() as u64,
-        orders: counted_orders(explored),
-        states: explored.states,
+        ended: counts.ended,
+        outcomes: counts.outcomes,
+        orders: counts.orders,
+        states: counts.states,
     }
 }
 
@@ -179,6 +157,55 @@ pub extern "C" fn l4_orders_witness(
         return counted(EMPTY, 0);
     };
     let told = write_witness(alloc, &search, outcome, out);
+    handle.put(search);
+    told
+}
+
+/// Returns the numbers of the lines of an order that produces the outcome with this number, or no numbers.
+fn lines_in(alloc: Global, search: &Searched, number: usize) -> Result<Vec<u64>, AllocError>
+    ensures { IfOk result (λ numbers. numbers.items ≡ lines_in search.now number) }
+{
+    match search.explored.found.get(number) {
+        Some(one) => line_numbers(alloc, &search.plan, one.order.as_slice()),
+        None => Ok(Vec::new(alloc)),
+    }
+}
+
+/// Writes as many numbers as there is room for, and returns how many there are.
+fn write_numbers(numbers: &[u64], out: &mut [u64]) -> CountResult
+    ensures { WritesNumbers numbers.now out.old result out.new }
+{
+    let count = numbers.len().min(out.len());
+    out[..count].copy_from_slice(&numbers[..count]);
+    counted(0, numbers.len() as u64)
+}
+
+/// Writes the numbers of the lines of an order that produces an outcome.
+fn write_lines(alloc: Global, search: &Searched, number: usize, out: &mut [u64]) -> CountResult
+    ensures { WritesLines search.now number out.old result out.new }
+{
+    match lines_in(alloc, search, number) {
+        Ok(numbers) => write_numbers(numbers.as_slice(), out),
+        Err(_) => counted(NO_MEMORY, 0),
+    }
+}
+
+/// Writes the numbers of the lines of the order that was found with an outcome, and returns how many lines there are. The refusals are B1 and
+/// NoMemory, in this order. Nothing is written after a refusal.
+#[unsafe(no_mangle)]
+pub extern "C" fn l4_orders_lines(
+    alloc: Global,
+    handle: &mut OrdersHandle,
+    outcome: usize,
+    out: &mut [u64],
+) -> CountResult
+    ensures kept { handle.new.value ≡ handle.old.value }
+    ensures told { TellsLines handle.old.value outcome out.old result out.new }
+{
+    let Some(search) = handle.take(alloc) else {
+        return counted(EMPTY, 0);
+    };
+    let told = write_lines(alloc, &search, outcome, out);
     handle.put(search);
     told
 }

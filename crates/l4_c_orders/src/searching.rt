@@ -1,52 +1,18 @@
 //! Searches the orders of plans.
-ghost use Rattle.std.specs.Prelude.{◌≡◌, None, MatchResult, true, false, codes};
+ghost use Rattle.std.specs.Prelude.{◌≡◌, None, codes};
 ghost use Rattle.l4_fpage.specs.declared.sizes.PageSize.TheVariants.{Kib4};
-ghost use Rattle.l4_refusals.specs.Texts.{spelled};
 ghost use Rattle.l4_c_values.specs.InBytes.{InBytes};
-ghost use Rattle.l4_c_orders.specs.Faults.{search_result};
-ghost use Rattle.l4_c_orders.specs.Searching.{HasFrames, HasNoFrames, IsSearched, IsUnsearched, Searches};
+ghost use Rattle.l4_outcomes.specs.Faults.{refused_by};
+ghost use Rattle.l4_c_orders.specs.Searching.{Searches};
 
-use crate::faults::{SearchResult, failure_told, fault_told, told};
 use crate::handles::OrdersHandle;
-use crate::searched::Searched;
-use l4_c_values::{BAD_FRAMES, HELD, NO_MEMORY, NO_SUCH_SIZE, size_of};
+use l4_c_values::{HELD, NO_MEMORY, NO_SUCH_SIZE, size_of};
 use l4_fpage::PageSize;
-use l4_orders::{all_orders, read_plan};
+use l4_outcomes::{SearchResult, search, without_line};
 use std::alloc::Global;
 
-/// Reads a plan, and searches its orders.
-fn searched(
-    alloc: Global,
-    frames: u32,
-    size: PageSize,
-    text: &[u8],
-    most: u64,
-) -> Result<Searched, SearchResult>
-    requires { HasFrames frames }
-    ensures { MatchResult result (IsSearched frames size text.now)
-        (IsUnsearched size text.now) }
-{
-    let mut rest = text;
-    let plan = match read_plan(alloc, size, &mut rest) {
-        Ok(plan) => plan,
-        Err(fault) => return Err(fault_told(fault)),
-    };
-    match all_orders(alloc, frames, size, &plan, most) {
-        Ok(explored) => Ok(Searched { plan, explored }),
-        Err(failure) => Err(failure_told(failure)),
-    }
-}
-
-/// Returns whether a machine can have this number of frames.
-fn has_frames(frames: u32) -> bool
-    ensures yes { result ≡ true → HasFrames frames }
-    ensures no { result ≡ false → HasNoFrames frames }
-{
-    frames >= 1 && frames <= 4096
-}
-
 /// Fills an empty handle with the search of a plan.
-fn search(
+fn fill(
     alloc: Global,
     handle: &mut OrdersHandle,
     frames: u32,
@@ -58,21 +24,18 @@ fn search(
 {
     if let Some(held) = handle.take(alloc) {
         handle.put(held);
-        return told(HELD, 0, 0);
+        return without_line(HELD);
     }
-    if !has_frames(frames) {
-        return told(BAD_FRAMES, 0, 0);
-    }
-    let found = match searched(alloc, frames, size, text, most) {
+    let found = match search(alloc, frames, size, text, most) {
         Ok(found) => found,
         Err(refused) => return refused,
     };
     match Box::new(alloc, found) {
         Ok(found) => {
             handle.put(found);
-            told(0, 0, 0)
+            without_line(0)
         }
-        Err(_) => told(NO_MEMORY, 0, 0),
+        Err(_) => without_line(NO_MEMORY),
     }
 }
 
@@ -88,7 +51,7 @@ pub extern "C" fn l4_orders_search(
 ) -> SearchResult
     ensures { Searches frames Kib4 plan.now handle.old.value result handle.new.value }
 {
-    search(alloc, handle, frames, PageSize::Kib4, plan, most)
+    fill(alloc, handle, frames, PageSize::Kib4, plan, most)
 }
 
 /// Searches all orders of a plan for pages of `page_bytes` bytes. Refuses a number of bytes that no page has (B4) before every other refusal.
@@ -103,12 +66,11 @@ pub extern "C" fn l4_orders_search_sized(
 ) -> SearchResult
     ensures { InBytes page_bytes
         (λ size. Searches frames size plan.now handle.old.value result handle.new.value)
-        ((result ≡ search_result (spelled (codes "B4")) 0 0)
-        × (handle.new.value ≡ handle.old.value)) }
+        ((result ≡ refused_by (codes "B4")) × (handle.new.value ≡ handle.old.value)) }
 {
     match size_of(page_bytes) {
-        Some(size) => search(alloc, handle, frames, size, plan, most),
-        None => told(NO_SUCH_SIZE, 0, 0),
+        Some(size) => fill(alloc, handle, frames, size, plan, most),
+        None => without_line(NO_SUCH_SIZE),
     }
 }
 

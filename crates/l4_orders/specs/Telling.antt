@@ -1,5 +1,5 @@
 -- What `l4 orders` prints (this profile's own).
-use Rattle.std.specs.Prelude.{ℕ, ◌+◌, ◌==◌, Bool, if◌then◌else◌, List, [], ◌∷◌, ◌++◌, length, Result, Ok, Err, codes, decimal}
+use Rattle.std.specs.Prelude.{ℕ, ◌+◌, ◌==◌, Bool, if◌then◌else◌, List, [], ◌∷◌, ◌++◌, length, map, Result, Ok, Err, codes, decimal}
 use Rattle.std.specs.List.{flat_map}
 use Rattle.std.specs.Option.{option_to_list}
 use Rattle.l4_merges.specs.declared.exploring.Explored.{Explored}
@@ -20,6 +20,10 @@ lines_from blocks gone (place ∷ order) = option_to_list (line_at blocks gone p
 
 abbrev pub lines_of_order : Plan → List ℕ → List PlanLine
 lines_of_order plan order = lines_from plan.blocks.items (none_gone plan) order
+
+-- their numbers in the file
+abbrev pub line_numbers : Plan → List ℕ → List ℕ
+line_numbers plan order = map (λ line. line.number) (lines_of_order plan order)
 
 -- OUTCOMES
 

@@ -22,4 +22,4 @@ pub use parts::{LineFault, PlanFault};
 pub use plans::{Block, Plan, PlanLine};
 pub use reading::read_plan;
 pub use rules::{breaks_any, rules_text};
-pub use telling::{orders_text, summary_text, witness_text};
+pub use telling::{line_numbers, orders_text, summary_text, witness_text};

@@ -1,7 +1,7 @@
 //! Outcomes and witnesses as text.
 ghost use Rattle.std.specs.Prelude.{◌≡◌, ◌++◌, IfOk, OnOk};
 ghost use Rattle.std.specs.List.{flat_map};
-ghost use Rattle.l4_orders.specs.Telling.{lines_of_order, number_text, order_text, outcome_text, outcomes_text, counted_text, reason_text, ended_text, summary_text, orders_text, line_text, witness_text};
+ghost use Rattle.l4_orders.specs.Telling.{lines_of_order, line_numbers, number_text, order_text, outcome_text, outcomes_text, counted_text, reason_text, ended_text, summary_text, orders_text, line_text, witness_text};
 
 use crate::numbers::put_number;
 use crate::plans::{Plan, PlanLine, advance};
@@ -34,6 +34,21 @@ fn put_numbers(
         advance(&mut gone, *place)?;
     }
     Ok(())
+}
+
+/// Returns the numbers of the lines of an order.
+pub fn line_numbers(alloc: Global, plan: &Plan, order: &[usize]) -> Result<Vec<u64>, AllocError>
+    ensures { IfOk result (λ numbers. numbers.items ≡ line_numbers plan.now order.now) }
+{
+    let mut numbers = Vec::new(alloc);
+    let mut gone = plan.none_gone(alloc)?;
+    for place in order {
+        if let Some(line) = plan.line_at(gone.as_slice(), *place) {
+            numbers.extend_from_slice(&[line.number])?;
+        }
+        advance(&mut gone, *place)?;
+    }
+    Ok(numbers)
 }
 
 /// Appends the numbers of the lines of an order in a line.

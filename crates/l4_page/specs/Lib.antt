@@ -1,5 +1,6 @@
 pub mod Given
 pub mod Lists
+pub mod Outcomes
 pub mod Plans
 pub mod Scripts
 pub mod Told

@@ -3,9 +3,9 @@ use Rattle.std.specs.Prelude.{◌≡◌, ℕ, Bool, List, ◌++◌, length, take
 use Rattle.l4_refusals.specs.Texts.{spelled}
 use Rattle.l4_page.specs.declared.telling.Told.{Told as Answer}
 
--- the memory after as much of the text as fits was written to it; the rest is unchanged
-abbrev pub placed : List ℕ → List ℕ → List ℕ
-placed text places = take (min (length text) (length places)) text ++ drop (min (length text) (length places)) places
+-- the memory after as many of the items as fit were written to it; the rest is unchanged
+abbrev pub placed : {A : Type 0} → List A → List A → List A
+placed items places = take (min (length items) (length places)) items ++ drop (min (length items) (length places)) places
 
 abbrev pub text_told : List ℕ → Bool → ℕ → Answer
 text_told text found lines = record { refusal = 0; found = if found then 1 else 0; length = length text; lines = lines }

@@ -2,6 +2,7 @@
 #![tactic(auto)]
 
 mod given;
+mod outcomes;
 mod planning;
 mod running;
 mod stepping;
@@ -9,6 +10,7 @@ mod telling;
 mod tracing;
 mod words;
 
+pub use outcomes::{OutcomesTold, SearchGiven, page_orders};
 pub use planning::{page_check, page_plan};
 pub use running::{page_annotate, page_explain, page_history, page_run};
 pub use stepping::page_steps;

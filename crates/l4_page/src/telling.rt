@@ -30,13 +30,20 @@ pub fn refused(refusal: u32) -> Told
     }
 }
 
+/// Writes as many of the items as there is room for.
+pub fn place<T: Copy>(items: &[T], out: &mut [T])
+    ensures { out.new ≡ placed items.now out.old }
+{
+    let count = items.len().min(out.len());
+    out[..count].copy_from_slice(&items[..count]);
+}
+
 /// Writes as much of a text as there is room for.
 pub fn tell(text: &[u8], found: bool, lines: u64, out: &mut [u8]) -> Told
     ensures told { result ≡ text_told text.now found lines }
     ensures written { out.new ≡ placed text.now out.old }
 {
-    let count = text.len().min(out.len());
-    out[..count].copy_from_slice(&text[..count]);
+    place(text, out);
     Told {
         refusal: 0,
         found: if found { 1 } else { 0 },

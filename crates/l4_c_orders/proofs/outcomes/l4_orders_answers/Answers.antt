@@ -1,6 +1,6 @@
 use Rattle.std.proofs.Common.{Option, sym, subst}
 use Rattle.l4_c_orders.specs.Found.{Writes, answers_in, TellsAnswers}
-use Rattle.l4_c_orders.specs.declared.searched.Searched.{Searched}
+use Rattle.l4_outcomes.specs.declared.searched.Searched.{Searched}
 use Rattle.l4_c_orders.proofs.outcomes.l4_orders_answers.Goals as goal
 
 pub returns-clause-told : goal.returns-clause-told

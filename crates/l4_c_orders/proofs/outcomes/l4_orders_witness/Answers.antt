@@ -1,6 +1,6 @@
 use Rattle.std.proofs.Common.{Option, sym, subst}
 use Rattle.l4_c_orders.specs.Found.{WritesWitness, TellsWitness}
-use Rattle.l4_c_orders.specs.declared.searched.Searched.{Searched}
+use Rattle.l4_outcomes.specs.declared.searched.Searched.{Searched}
 use Rattle.l4_c_orders.proofs.outcomes.l4_orders_witness.Goals as goal
 
 pub returns-clause-told : goal.returns-clause-told

@@ -1,15 +1,19 @@
--- Why there is no search of a text, as C gets it (this profile's own).
+-- Why there is no search of a text, in numbers (this profile's own).
 use Rattle.std.specs.Prelude.{◌≡◌, ◌⊎◌, ℕ, List, codes}
 use Rattle.l4_refusals.specs.Texts.{spelled}
 use Rattle.l4_orders.specs.declared.parts.LineFault.{LineFault}
 use Rattle.l4_orders.specs.declared.parts.LineFault.TheVariants.{Long, Cut, Unread, Repeated, OfNoThread, NoQuery, Steps, NoThread}
 use Rattle.l4_orders.specs.declared.parts.PlanFault.{PlanFault}
 use Rattle.l4_orders.specs.declared.parts.PlanFault.TheVariants.{Stopped, Malformed, NoUnordered}
-use Rattle.l4_c_orders.specs.declared.faults.SearchResult.{SearchResult}
+use Rattle.l4_outcomes.specs.declared.faults.SearchResult.{SearchResult}
 
--- 0, or the code of the reason why there is no search, with the thread and the line that it names
+-- 0, or the number of the reason why there is no search, with the thread and the line that it names
 abbrev pub search_result : ℕ → ℕ → ℕ → SearchResult
 search_result code thread line = record { refusal = code; detail = thread; line = line }
+
+-- a reason with this code that names no line
+abbrev pub refused_by : List ℕ → SearchResult
+refused_by code = search_result (spelled code) 0 0
 
 -- the code of a line that cannot be part of a plan
 abbrev pub line_code : LineFault → List ℕ
@@ -29,10 +33,10 @@ line_thread fault = 0
 
 -- The result for a text that is not a plan. A text in memory can be read to its end, so memory ran out if the reading stopped.
 abbrev pub fault_result : PlanFault → SearchResult
-fault_result (Stopped fault) = search_result (spelled (codes "NoMemory")) 0 0
+fault_result (Stopped fault) = refused_by (codes "NoMemory")
 fault_result (Malformed number fault) = search_result (spelled (line_code fault)) (line_thread fault) number
-fault_result NoUnordered = search_result (spelled (codes "O6")) 0 0
+fault_result NoUnordered = refused_by (codes "O6")
 
 -- memory ran out, or a history was full
 abbrev pub IsLack : SearchResult → Type 0
-IsLack r = (r ≡ search_result (spelled (codes "NoMemory")) 0 0) ⊎ (r ≡ search_result (spelled (codes "L1")) 0 0)
+IsLack r = (r ≡ refused_by (codes "NoMemory")) ⊎ (r ≡ refused_by (codes "L1"))

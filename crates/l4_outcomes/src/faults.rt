@@ -1,9 +1,7 @@
-//! Why there is no search, as C gets it.
+//! Why there is no search.
 ghost use Rattle.std.specs.Prelude.{◌≡◌};
-ghost use Rattle.l4_refusals.specs.Texts.{spelled};
-ghost use Rattle.l4_c_orders.specs.Faults.{search_result, line_code, line_thread, fault_result, IsLack};
+ghost use Rattle.l4_outcomes.specs.Faults.{search_result, line_code, line_thread, fault_result, IsLack};
 
-use l4_c_values::{NO_MEMORY, TOO_LONG};
 use l4_merges::Failure;
 use l4_orders::{LineFault, PlanFault};
 use l4_refusals::number_of;
@@ -18,14 +16,14 @@ pub struct SearchResult {
     pub line: u64,
 }
 
-/// Returns the result with this refusal, or with 0.
-pub(crate) fn told(refusal: u32, detail: u32, line: u64) -> SearchResult
-    ensures { result ≡ search_result refusal detail line }
+/// Returns the result with this refusal, or with 0, that names no line.
+pub fn without_line(refusal: u32) -> SearchResult
+    ensures { result ≡ search_result refusal 0 0 }
 {
     SearchResult {
         refusal,
-        detail,
-        line,
+        detail: 0,
+        line: 0,
     }
 }
 
@@ -60,11 +58,13 @@ pub(crate) fn fault_told(fault: PlanFault) -> SearchResult
     ensures { result ≡ fault_result fault }
 {
     match fault {
-        PlanFault::Stopped(_) => told(NO_MEMORY, 0, 0),
-        PlanFault::Malformed(line, fault) => {
-            told(number_of(line_code(fault)), line_thread(fault), line)
-        }
-        PlanFault::NoUnordered => told(number_of(b"O6"), 0, 0),
+        PlanFault::Stopped(_) => without_line(number_of(b"NoMemory")),
+        PlanFault::Malformed(line, fault) => SearchResult {
+            refusal: number_of(line_code(fault)),
+            detail: line_thread(fault),
+            line,
+        },
+        PlanFault::NoUnordered => without_line(number_of(b"O6")),
     }
 }
 
@@ -73,7 +73,7 @@ pub(crate) fn failure_told(failure: Failure) -> SearchResult
     ensures { IsLack result }
 {
     match failure {
-        Failure::Memory => told(NO_MEMORY, 0, 0),
-        Failure::Full => told(TOO_LONG, 0, 0),
+        Failure::Memory => without_line(number_of(b"NoMemory")),
+        Failure::Full => without_line(number_of(b"L1")),
     }
 }
