@@ -5,25 +5,26 @@ ghost use Rattle.l4_record.specs.Chains.{IsProvenance, IsAbsent};
 ghost use Rattle.l4_record.specs.Replays.{IsBootWith, IsNotReplayed};
 ghost use Rattle.l4_provenance.specs.Inside.Arrivals.{Arrived};
 
+use crate::histories::Replayable;
 use crate::replaying::{Arrival, last_arrival};
 use l4_ipc::{Kernel, PageSize, Place, Refused};
-use l4_record::{ChainLink, History, ReplayFault};
+use l4_record::{ChainLink, ReplayFault};
 use std::alloc::Global;
 
 /// Executes this number of entries from the start of a history on a new kernel. Returns how the place got the mapping that it then has.
-fn arrival(
+fn arrival<H: Replayable>(
     alloc: Global,
     frames: u32,
     size: PageSize,
-    history: &History,
+    history: &H,
     count: usize,
     place: Place,
 ) -> Result<Arrival, ReplayFault>
-    requires { count ≤ length history.now.entries }
+    requires { count ≤ length (H.entries history.now) }
     ensures { MatchResult result
         (λ a. (boot : Machine) × IsBootWith frames size boot
-        × ((now : Machine) × Arrived boot history.now.entries count place now a))
-        (IsNotReplayed frames size history.now.entries) }
+        × ((now : Machine) × Arrived boot (H.entries history.now) count place now a))
+        (IsNotReplayed frames size (H.entries history.now)) }
 {
     let mut kernel = match Kernel::boot(alloc, frames, size) {
         Ok(kernel) => kernel,
@@ -40,18 +41,18 @@ fn arrival(
 /// The history is replayed once on a second kernel, and once more up to each link. Errors: `BadFrames` if the number
 /// of frames is not from 1 to 4,096; `NoMemory` if memory runs out, also in a step of the replay where it did not run
 /// out in the history; `OtherAnswer` if a step gets any other answer than the history says.
-pub fn provenance(
+pub fn provenance<H: Replayable>(
     alloc: Global,
     frames: u32,
     size: PageSize,
-    history: &History,
+    history: &H,
     place: Place,
 ) -> Result<Option<Vec<ChainLink>>, ReplayFault>
     ensures { MatchResult result
         (λ found. (boot : Machine) × IsBootWith frames size boot
-        × MatchOption found (IsAbsent boot history.now.entries place)
-        (λ links. IsProvenance boot history.now.entries place links.items))
-        (IsNotReplayed frames size history.now.entries) }
+        × MatchOption found (IsAbsent boot (H.entries history.now) place)
+        (λ links. IsProvenance boot (H.entries history.now) place links.items))
+        (IsNotReplayed frames size (H.entries history.now)) }
 {
     let mut links = Vec::new(alloc);
     let mut count = history.len();

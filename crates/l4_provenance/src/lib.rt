@@ -2,11 +2,13 @@
 #![tactic(auto)]
 
 mod finding;
+mod histories;
 mod moves;
 mod replaying;
 mod writing;
 
 pub use finding::provenance;
+pub use histories::Replayable;
 pub use l4_record::{ChainLink, ReplayFault};
 pub use moves::{MovedPage, next_move};
 pub use replaying::{repeat_entry, replay};

@@ -6,9 +6,10 @@ ghost use Rattle.l4_ipc.specs.Runs.{Run};
 ghost use Rattle.l4_record.specs.History.{steps_of, answers_of};
 ghost use Rattle.l4_provenance.specs.Inside.Arrivals.{Brought, newer, Arrived};
 
+use crate::histories::Replayable;
 use crate::writing::link_to;
 use l4_ipc::{Kernel, Lower, Outcome, Place, Refused};
-use l4_record::{ChainLink, Entry, History, ReplayFault};
+use l4_record::{ChainLink, Entry, ReplayFault};
 
 /// How a place got its mapping.
 #[derive(Clone, Copy)]
@@ -84,15 +85,15 @@ fn newer_of(link: Option<ChainLink>, last: Option<ChainLink>) -> Option<ChainLin
 
 /// Replays this number of entries from the start of the history. Returns how the place got the mapping that it then
 /// has.
-pub fn last_arrival(
+pub fn last_arrival<H: Replayable>(
     kernel: &mut Kernel,
-    history: &History,
+    history: &H,
     count: usize,
     place: Place,
 ) -> Result<Arrival, ReplayFault>
-    requires { count ≤ length history.now.entries }
-    ensures ok { IfOk result (Arrived kernel.old history.now.entries count place kernel.new) }
-    ensures err { IfErr result (StopsIn kernel.old history.now.entries kernel.new) }
+    requires { count ≤ length (H.entries history.now) }
+    ensures ok { IfOk result (Arrived kernel.old (H.entries history.now) count place kernel.new) }
+    ensures err { IfErr result (StopsIn kernel.old (H.entries history.now) kernel.new) }
 {
     let mut last = None;
     kernel.law_forest();
@@ -121,11 +122,11 @@ pub fn last_arrival(
 /// Errors: `NoMemory` if memory runs out in a step, and not in the history's; `OtherAnswer` if a step gets any other
 /// answer than the history says. After either, the steps before that one have been executed with the history's
 /// answers, then that step with its own answer, and no later step.
-pub fn replay(kernel: &mut Kernel, history: &History) -> Result<(), ReplayFault>
+pub fn replay<H: Replayable>(kernel: &mut Kernel, history: &H) -> Result<(), ReplayFault>
     ensures ok { IfOk result
-        (λ _. Run kernel.old (steps_of history.now.entries) (answers_of history.now.entries)
+        (λ _. Run kernel.old (steps_of (H.entries history.now)) (answers_of (H.entries history.now))
         kernel.new) }
-    ensures err { IfErr result (StopsIn kernel.old history.now.entries kernel.new) }
+    ensures err { IfErr result (StopsIn kernel.old (H.entries history.now) kernel.new) }
 {
     kernel.law_forest();
     for number in 0..history.len() {

@@ -8,23 +8,23 @@ use Rattle.l4_provenance.proofs.Back.{Back, Came, came_of, back_next, found_all,
 use Rattle.l4_provenance.proofs.finding.provenance.Goals as goal
 
 pub returns-in-Absent : goal.returns-in-Absent
-returns-in-Absent c =
-    let h = c.args.history.now.entries in
+returns-in-Absent g c =
+    let h = (g.H.Replayable.entries c.args.history.now) in
     let a = subst (λ (x : Arrival). Came c.args.frames c.args.size h c.loop-came.count c.loop-came.reached x) c.in-Absent.is
     (came_of c.args.frames c.args.size h c.loop-came.count c.loop-came.reached c.in-Ok.came c.in-Ok.ensures) in
     found_none c.args.frames c.args.size h c.args.place c.loop-came.count c.loop-came.reached c.loop-came.links.items c.loop-came.invariant a
 
 pub returns-in-AtBoot : goal.returns-in-AtBoot
-returns-in-AtBoot c =
-    let h = c.args.history.now.entries in
+returns-in-AtBoot g c =
+    let h = (g.H.Replayable.entries c.args.history.now) in
     let a = subst (λ (x : Arrival). Came c.args.frames c.args.size h c.loop-came.count c.loop-came.reached x) c.in-AtBoot.is
     (came_of c.args.frames c.args.size h c.loop-came.count c.loop-came.reached c.in-Ok.came c.in-Ok.ensures) in
     subst (λ (l : List ChainLink). (boot : Machine) × IsBootWith c.args.frames c.args.size boot × IsProvenance boot h c.args.place l) (sym c.reverse.ensures.items)
     (found_all c.args.frames c.args.size h c.args.place c.loop-came.count c.loop-came.reached c.loop-came.links.items c.loop-came.invariant a)
 
 pub loop-came-preserved : goal.loop-came-preserved
-loop-came-preserved c =
-    let h = c.args.history.now.entries in
+loop-came-preserved g c =
+    let h = (g.H.Replayable.entries c.args.history.now) in
     let a = subst (λ (x : Arrival). Came c.args.frames c.args.size h c.loop-came.count c.loop-came.reached x) c.in-By.is
     (came_of c.args.frames c.args.size h c.loop-came.count c.loop-came.reached c.in-Ok.came c.in-Ok.ensures) in
     let next = back_next c.args.frames c.args.size h c.args.place c.loop-came.count c.loop-came.reached c.loop-came.links.items c.in-By.link c.loop-came.invariant a in
