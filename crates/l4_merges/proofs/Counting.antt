@@ -5,6 +5,7 @@ use Rattle.std.specs.List.{AllPairs}
 use Rattle.std.proofs.lemmas.Bool.{false≢true, cases_lt}
 use Rattle.std.proofs.lemmas.List.{length-append, length-map, get_or_default}
 use Rattle.std.proofs.lemmas.List.Elements.{Contains-append_left, Contains-append_right, Contains-append_cases}
+use Rattle.l4_merges.specs.declared.exploring.Reached.{Reached}
 use Rattle.l4_merges.specs.Orders.{IsRun, IsOver, IsOrder, LeavesOne, CountsOrders, most_orders}
 
 -- LISTS
@@ -197,6 +198,6 @@ module _ {S : Type 0} (enabled : S → ℕ → Bool) (Turns : S → ℕ → S �
     only_empty (first ∷ rest) t is = absurd (false≢true (sym (over first) ∙ is.run.0))
 
   -- the number that a function hands on
-  pub counted_as : {E : Type 0} (s : S) (count : ℕ) (r : Result ℕ E) → IfOk r (λ n. n ≡ count) → CountsOrders enabled Turns s count → IfOk r (CountsOrders enabled Turns s)
-  counted_as s count (Ok n) same counts = subst (λ (m : ℕ). CountsOrders enabled Turns s m) (sym same) counts
+  pub counted_as : {E : Type 0} (s : S) (count : ℕ) (r : Result Reached E) → IfOk r (λ k. k.orders ≡ count) → CountsOrders enabled Turns s count → IfOk r (λ k. CountsOrders enabled Turns s k.orders)
+  counted_as s count (Ok k) same counts = subst (λ (m : ℕ). CountsOrders enabled Turns s m) (sym same) counts
   counted_as s count (Err e) same counts = tt

@@ -2,11 +2,13 @@
 use Rattle.std.proofs.Common.{◌≡◌, ℕ, ◌+◌, ◌<◌, Bool, true, false, List, [], ◌∷◌, ◌++◌, refl, sym, ap, subst, ◌∙◌, arith, inl, inr, get_or}
 use Rattle.std.specs.Prelude.{Contains, Result, Ok, Err, OnOk, Option, Some, None, MatchOption, length}
 use Rattle.std.specs.Option.{option_to_list}
-use Rattle.std.proofs.lemmas.List.{same_from_push, length_push, get_or_default}
+use Rattle.std.proofs.lemmas.List.{append-nil, append_assoc, same_from_push, length_push, get_or_default}
+use Rattle.std.proofs.Math.Seq.{get_or-append_seam}
 use Rattle.std.proofs.lemmas.Bool.{false≢true, cases_lt}
 use Rattle.std.proofs.lemmas.List.Quantifiers.{all_pairs_push}
 use Rattle.std.proofs.lemmas.List.Elements.{Contains-append_left, Contains-push, Contains-push_cases}
 use Rattle.l4_merges.specs.declared.found.Found.{Found}
+use Rattle.l4_merges.specs.Graphs.{IsFoundAt, HasOutcomeAt}
 use Rattle.l4_merges.specs.Orders.{IsRun, IsOver, IsOrder, IsFound, FindsEnd, LeavesOne, IsComplete, IsWitnessed, KeepsFound, FindsOn}
 
 -- none of these outcomes is this one
@@ -87,11 +89,12 @@ module _ {S : Type 0} (enabled : S → ℕ → Bool) (Turns : S → ℕ → S �
   -- TELLING ON
 
   pub on_same : (path : List ℕ) (s : S) (found : List Found) → FindsOn enabled Turns HasOutcome path s found found
-  on_same path s found = record { still = λ o is. is; distinct = λ d. d; sound = λ root run sound. sound }
+  on_same path s found = record { still = λ o is. is; grows = ([], sym (append-nil found)); distinct = λ d. d; sound = λ root run sound. sound }
 
   pub on_then : (path : List ℕ) (s : S) (a b c : List Found) → FindsOn enabled Turns HasOutcome path s a b → FindsOn enabled Turns HasOutcome path s b c → FindsOn enabled Turns HasOutcome path s a c
   on_then path s a b c f g = record {
     still = λ o is. g.still o (f.still o is);
+    grows = (f.grows.0 ++ g.grows.0, g.grows.1 ∙ ap (λ (l : List Found). l ++ g.grows.0) f.grows.1 ∙ append_assoc a f.grows.0 g.grows.0);
     distinct = λ d. g.distinct (f.distinct d);
     sound = λ root run sound. g.sound root run (f.sound root run sound);
   }
@@ -101,6 +104,7 @@ module _ {S : Type 0} (enabled : S → ℕ → Bool) (Turns : S → ℕ → S �
       → FindsOn enabled Turns HasOutcome path s before after
   on_turn path s thread t before after able turns on = record {
     still = on.still;
+    grows = on.grows;
     distinct = on.distinct;
     sound = λ root run sound. on.sound root (run_more root path s thread t run able turns) sound;
   }
@@ -124,6 +128,7 @@ module _ {S : Type 0} (enabled : S → ℕ → Bool) (Turns : S → ℕ → S �
   on_found path s found one new over order is = record {
     distinct = λ d. all_pairs_push (λ (a b : Found). a.outcome.items ≡ b.outcome.items → ⊥) found one d new;
     still = λ o has. (has.0, Contains-append_left found (one ∷ []) has.0 has.1, has.2);
+    grows = (one ∷ [], refl);
     sound = λ root run sound x has. elim (Contains-push_cases found one x has) [
       | inl old ↦ sound x old
       | inr same ↦ subst (λ (v : Found). IsWitnessed enabled Turns HasOutcome root v) same
@@ -143,13 +148,22 @@ module _ {A E : Type 0} where
 
 module _ {S : Type 0} (HasOutcome : S → List ℕ → Type 0) where
   -- what is shown was found before
-  pub end_found : (s : S) (found shown : List Found) (outcome seen : List ℕ) → shown ≡ found → seen ≡ outcome → IsFound shown seen → HasOutcome s outcome → FindsEnd HasOutcome s found
-  end_found s found shown outcome seen e f has is = (outcome, (has.0, subst (λ (l : List Found). Contains l has.0) e has.1, has.2 ∙ f), is)
+  pub end_found : (s : S) (found shown : List Found) (outcome seen : List ℕ) (place : ℕ) → shown ≡ found → seen ≡ outcome → IsFoundAt shown seen place → HasOutcome s outcome → HasOutcomeAt HasOutcome s found place
+  end_found s found shown outcome seen place e f has is =
+      let here = subst (λ (l : List Found). IsFoundAt l seen place) e has in
+      (outcome, (here.0, here.1, here.2, here.3 ∙ f), is)
 
   -- or it is found now
-  pub end_one : (s : S) (found after : List Found) (one : Found) → after ≡ found ++ one ∷ [] → HasOutcome s one.outcome.items → FindsEnd HasOutcome s after
-  end_one s found after one e is =
-      (one.outcome.items, (one, subst (λ (l : List Found). Contains l one) (sym e) (Contains-push found one), refl), is)
+  pub end_one : (s : S) (room after : List Found) (one : Found) (place : ℕ) → after ≡ room ++ one ∷ [] → place ≡ length room → HasOutcome s one.outcome.items → HasOutcomeAt HasOutcome s after place
+  end_one s room after one place e at is =
+      subst (λ (n : ℕ). HasOutcomeAt HasOutcome s after n) (sym at) (subst (λ (l : List Found). HasOutcomeAt HasOutcome s l (length room)) (sym e)
+      (one.outcome.items, (one, omega (arith, length_push room one), get_or-append_seam room one [] one, refl), is))
+
+  -- either way it is found
+  pub end_of : (s : S) (found : List Found) (place : ℕ) → HasOutcomeAt HasOutcome s found place → FindsEnd HasOutcome s found
+  end_of s found place is =
+      let at = is.1 in
+      (is.0, (at.0, (place, at.1, at.2), at.3), is.2)
 
 module _ {S : Type 0} (enabled : S → ℕ → Bool) (Turns : S → ℕ → S → Type 0) (HasOutcome : S → List ℕ → Type 0) (path : List ℕ) (s : S) (found : List Found) where
   pub on_kept : (after : List Found) → after ≡ found → FindsOn enabled Turns HasOutcome path s found after

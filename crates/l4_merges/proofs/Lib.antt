@@ -1,3 +1,4 @@
 pub mod Covering
 pub mod Noted
 pub mod Counting
+pub mod Drawing

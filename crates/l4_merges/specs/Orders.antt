@@ -1,8 +1,7 @@
 -- The orders in which threads can take turns, and their outcomes (this profile's own).
-use Rattle.std.specs.Prelude.{◌≡◌, ℕ, Bool, true, false, List, [], ◌∷◌, length, min, Contains}
+use Rattle.std.specs.Prelude.{◌≡◌, ℕ, Bool, true, false, List, [], ◌∷◌, ◌++◌, length, min, Contains}
 use Rattle.std.specs.List.{AllPairs}
 use Rattle.l4_merges.specs.declared.found.Found.{Found}
-use Rattle.l4_merges.specs.declared.exploring.Seen.{Seen}
 
 -- the threads take turns in this order, each when it is enabled, which leads to this state
 abbrev pub IsRun : {S : Type 0} → (S → ℕ → Bool) → (S → ℕ → S → Type 0) → S → List ℕ → S → Type 0
@@ -65,19 +64,10 @@ CountsOrders enabled Turns s count =
 abbrev pub KeepsFound : List Found → List Found → Type 0
 KeepsFound before after = (outcome : List ℕ) → IsFound before outcome → IsFound after outcome
 
--- a state with this key and this number of orders is noted
-abbrev pub IsNoted : List Seen → List ℕ → ℕ → Type 0
-IsNoted seen key orders = (one : Seen) × Contains seen one × (one.key.items ≡ key) × (one.orders ≡ orders)
-
--- all outcomes of orders from such a state with a noted key were found, and its orders are counted
-abbrev pub AreExplored : {S : Type 0} → (S → ℕ → Bool) → (S → ℕ → S → Type 0) → (S → List ℕ → Type 0) → (S → List ℕ → Type 0) → (S → Type 0) → List Seen → List Found → Type 0
-AreExplored {S} enabled Turns HasOutcome HasKey Kin seen found =
-    (one : Seen) → Contains seen one → (s : S) → Kin s → HasKey s one.key.items
-    → IsComplete enabled Turns HasOutcome s found × CountsOrders enabled Turns s one.orders
-
--- More was found below the state s, which this path leads to: what was found before is kept. If it was sound for a state at which the path
+-- More was found below the state s, which this path leads to: what was found before is kept at its place. If it was sound for a state at which the path
 -- begins, all of it is. If no outcome had been found twice, none was.
 pub record FindsOn {S : Type 0} (enabled : S → ℕ → Bool) (Turns : S → ℕ → S → Type 0) (HasOutcome : S → List ℕ → Type 0) (path : List ℕ) (s : S) (before after : List Found) : Type 0 where
   pub still : KeepsFound before after
+  pub grows : (more : List Found) × (after ≡ before ++ more)
   pub distinct : AreDistinct before → AreDistinct after
   pub sound : (root : S) → IsRun enabled Turns root path s → IsSound enabled Turns HasOutcome root before → IsSound enabled Turns HasOutcome root after

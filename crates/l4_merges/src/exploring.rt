@@ -1,9 +1,12 @@
 //! The depth-first search through all orders.
-ghost use Rattle.std.specs.Prelude.{◌≡◌, ℕ, ◌<◌, length, ◌++◌, List, ◌∷◌, [], Contains, All, true, false, IsTrue, IfOk, IfSome, OnOk};
-ghost use Rattle.l4_merges.specs.Orders.{IsOver, IsFound, FindsEnd, IsComplete, IsSound, AreDistinct, CountsOrders, IsNoted, AreExplored, FindsOn};
+ghost use Rattle.std.specs.Prelude.{◌≡◌, ℕ, ◌<◌, length, ◌++◌, List, ◌∷◌, [], All, false, is_some, IfOk, IfSome, OnOk};
+ghost use Rattle.l4_merges.specs.Orders.{IsOver, IsComplete, IsSound, AreDistinct, CountsOrders, FindsOn};
+ghost use Rattle.l4_merges.specs.Graphs.{IsFoundAt, HasOutcomeAt, IsPlacedAt, IsNoted, Grows, AreExplored, IsGraph};
 
 use crate::found::Found;
+use crate::graph::{Edge, Seen};
 use crate::machine::{Failure, Machine};
+use crate::watching::Watch;
 use std::alloc::{AllocError, Global};
 
 /// Why a search ended before it had followed every order.
@@ -24,8 +27,12 @@ pub struct Explored {
     pub found: Vec<Found>,
     /// The number of states that were visited.
     pub states: u64,
-    /// The number of orders, if every order was followed. 2^64 - 1 stands for all greater numbers.
+    /// The number of orders, if every order was followed. If there are more than 2^64 - 1 orders, this is 2^64 - 1.
     pub orders: u64,
+    /// The graph of the states, if every order was followed. An edge leads to an earlier place.
+    pub seen: Vec<Seen>,
+    /// The place of the first state in the graph, if every order was followed.
+    pub start: usize,
     /// Whether every order was followed, and if not, why.
     pub ended: Result<(), GaveUp>,
 }
@@ -41,10 +48,10 @@ fn given_up(failure: Failure) -> GaveUp {
 /// The number of hints.
 const HINTS: u64 = 65_536;
 
-/// A state from which everything was searched: its key, and the number of orders from it.
-#[derive(Drop)]
-pub(crate) struct Seen {
-    key: Vec<u32>,
+/// A state that was searched: its place in `seen`, and the number of orders from it.
+#[derive(Clone, Copy)]
+pub(crate) struct Reached {
+    place: usize,
     orders: u64,
 }
 
@@ -72,34 +79,36 @@ fn slot_of(key: &[u32]) -> usize {
     (digest % HINTS) as usize
 }
 
-/// Returns whether this outcome was found.
-fn is_found(found: &[Found], outcome: &[u8]) -> bool
-    ensures yes { result ≡ true → IsFound found.now outcome.now }
-    ensures no { result ≡ false → All (λ one. one.outcome.items ≡ outcome.now → ⊥) found.now }
+/// Returns the place of this outcome, if it was found.
+fn found_at(found: &[Found], outcome: &[u8]) -> Option<usize>
+    ensures place { IfSome result (IsFoundAt found.now outcome.now) }
+    ensures new { is_some result ≡ false → All (λ one. one.outcome.items ≡ outcome.now → ⊥) found.now }
 {
-    for one in found {
-        if one.outcome.as_slice() == outcome {
-            return true;
+    for place in 0..found.len() {
+        if found[place].outcome.as_slice() == outcome {
+            return Some(place);
         }
     }
-    false
+    None
 }
 
-/// Returns the number of orders of the state at this place, if its key is this one.
-fn orders_at(seen: &[Seen], place: usize, key: &[u32]) -> Option<u64>
+/// Returns the state at this place, if its key is this one.
+fn reached_at(seen: &[Seen], place: usize, key: &[u32]) -> Option<Reached>
     requires { place < length seen.now }
     ensures { IfSome result (IsNoted seen.now key.now) }
 {
     let one = &seen[place];
     if one.key.as_slice() == key {
-        return Some(one.orders);
+        return Some(Reached {
+            place,
+            orders: one.orders,
+        });
     }
     None
 }
 
-/// Returns the number of orders of the state with this key, if it was searched. Follows the hints from this one on: a hint is a place plus 1,
-/// or 0 for none.
-fn orders_of(seen: &[Seen], earlier: &[usize], hint: usize, key: &[u32]) -> Option<u64>
+/// Returns the state with this key, if it was searched. Follows the hints from this one on: a hint is a place plus 1, or 0 for none.
+fn reached_by(seen: &[Seen], earlier: &[usize], hint: usize, key: &[u32]) -> Option<Reached>
     ensures { IfSome result (IsNoted seen.now key.now) }
 {
     let mut next = hint;
@@ -107,8 +116,8 @@ fn orders_of(seen: &[Seen], earlier: &[usize], hint: usize, key: &[u32]) -> Opti
         if next == 0 || next > seen.len() || next > earlier.len() {
             return None;
         }
-        if let Some(orders) = orders_at(seen, next - 1, key) {
-            return Some(orders);
+        if let Some(reached) = reached_at(seen, next - 1, key) {
+            return Some(reached);
         }
         next = earlier[next - 1];
     }
@@ -148,10 +157,10 @@ fn step_back(path: &mut Vec<usize>)
     let _ = path.pop();
 }
 
-/// Notes the outcome of a state in which no thread is enabled, unless it was found before.
-fn note_outcome<M: Machine>(alloc: Global, state: &M, search: &mut Search) -> Result<(), GaveUp>
+/// Notes the outcome of a state in which no thread is enabled, unless it was found before. Returns its place.
+fn note_outcome<M: Machine>(alloc: Global, state: &M, search: &mut Search) -> Result<usize, GaveUp>
     requires { IsOver M.enabled state.now }
-    ensures found { OnOk result (FindsEnd M.HasOutcome state.now search.new.found.items) }
+    ensures found { IfOk result (HasOutcomeAt M.HasOutcome state.now search.new.found.items) }
     ensures on { FindsOn M.enabled M.Turns M.HasOutcome search.old.path.items state.now search.old.found.items search.new.found.items }
     ensures seen { search.new.seen.items ≡ search.old.seen.items }
     ensures path { search.new.path.items ≡ search.old.path.items }
@@ -160,8 +169,8 @@ fn note_outcome<M: Machine>(alloc: Global, state: &M, search: &mut Search) -> Re
         Ok(outcome) => outcome,
         Err(failure) => return Err(given_up(failure)),
     };
-    if is_found(search.found.as_slice(), outcome.as_slice()) {
-        return Ok(());
+    if let Some(place) = found_at(search.found.as_slice(), outcome.as_slice()) {
+        return Ok(place);
     }
     let Ok(order) = copied(alloc, search.path.as_slice()) else {
         return Err(GaveUp::Memory);
@@ -169,32 +178,55 @@ fn note_outcome<M: Machine>(alloc: Global, state: &M, search: &mut Search) -> Re
     if search.found.reserve(1).is_err() {
         return Err(GaveUp::Memory);
     }
+    let place = search.found.len();
     search.found.push_reserved(Found { outcome, order });
-    Ok(())
+    Ok(place)
 }
 
-/// Notes a state from which everything was searched, and returns the number of its orders.
-fn keep(key: Vec<u32>, orders: u64, slot: usize, search: &mut Search) -> Result<u64, GaveUp>
-    ensures seen { OnOk result (search.new.seen.items ≡ search.old.seen.items ++ (record { key = key; orders = orders }) ∷ []) }
-    ensures orders { IfOk result (λ n. n ≡ orders) }
+/// Notes a state from which everything was searched. Returns its place, and the number of its orders.
+fn keep(one: Seen, slot: usize, search: &mut Search) -> Result<Reached, GaveUp>
+    ensures seen { OnOk result (search.new.seen.items ≡ search.old.seen.items ++ one ∷ []) }
+    ensures place { IfOk result (λ r. r.place ≡ length search.old.seen.items) }
+    ensures orders { IfOk result (λ r. r.orders ≡ one.orders) }
     ensures found { search.new.found.items ≡ search.old.found.items }
     ensures path { search.new.path.items ≡ search.old.path.items }
 {
     if search.seen.reserve(1).is_err() {
         return Err(GaveUp::Memory);
     }
-    search.seen.push_reserved(Seen { key, orders });
-    let count = search.seen.len();
-    note(&mut search.hints, &mut search.earlier, slot, count);
-    Ok(orders)
+    let place = search.seen.len();
+    let orders = one.orders;
+    search.seen.push_reserved(one);
+    note(
+        &mut search.hints,
+        &mut search.earlier,
+        slot,
+        search.seen.len(),
+    );
+    Ok(Reached { place, orders })
 }
 
-/// Searches all orders from a state. Returns their number.
-fn search_from<M: Machine>(alloc: Global, state: M, search: &mut Search) -> Result<u64, GaveUp>
-    requires { AreExplored M.enabled M.Turns M.HasOutcome M.HasKey (M.Akin state) search.old.seen.items search.old.found.items }
+/// Returns the state with this key, if it was searched. The key has its hint in this slot.
+fn known(search: &Search, slot: usize, key: &[u32]) -> Option<Reached>
+    ensures { IfSome result (IsNoted search.now.seen.items key.now) }
+{
+    let hint = hint_at(search.hints.as_slice(), slot);
+    reached_by(search.seen.as_slice(), search.earlier.as_slice(), hint, key)
+}
+
+/// Searches all orders from a state. Returns its place in the graph, and the number of its orders.
+fn search_from<M: Machine, W: Watch>(
+    alloc: Global,
+    state: M,
+    search: &mut Search,
+    watch: &mut W,
+) -> Result<Reached, GaveUp>
+    requires { AreExplored M.enabled M.Turns M.name M.HasOutcome M.HasKey (M.Akin state) search.old.seen.items search.old.found.items }
     ensures all { OnOk result (IsComplete M.enabled M.Turns M.HasOutcome state search.new.found.items) }
-    ensures orders { IfOk result (CountsOrders M.enabled M.Turns state) }
-    ensures explored { OnOk result (AreExplored M.enabled M.Turns M.HasOutcome M.HasKey (M.Akin state) search.new.seen.items search.new.found.items) }
+    ensures orders { IfOk result (λ r. CountsOrders M.enabled M.Turns state r.orders) }
+    ensures place { IfOk result (λ r. IsPlacedAt M.HasKey search.new.seen.items state r.place) }
+    ensures grows { OnOk result (Grows M.enabled M.Turns M.HasKey state search.old.seen.items search.new.seen.items) }
+    ensures explored { OnOk result (AreExplored M.enabled M.Turns M.name M.HasOutcome M.HasKey (M.Akin state) search.new.seen.items search.new.found.items) }
     ensures on { FindsOn M.enabled M.Turns M.HasOutcome search.old.path.items state search.old.found.items search.new.found.items }
     ensures path { OnOk result (search.new.path.items ≡ search.old.path.items) }
 {
@@ -203,22 +235,19 @@ fn search_from<M: Machine>(alloc: Global, state: M, search: &mut Search) -> Resu
         Err(failure) => return Err(given_up(failure)),
     };
     let slot = slot_of(key.as_slice());
-    let hint = hint_at(search.hints.as_slice(), slot);
-    let (seen, earlier) = (search.seen.as_slice(), search.earlier.as_slice());
-    if let Some(orders) = orders_of(seen, earlier, hint, key.as_slice()) {
-        return Ok(orders);
+    if let Some(reached) = known(search, slot, key.as_slice()) {
+        return Ok(reached);
     }
     if search.budget == 0 {
         return Err(GaveUp::Bound);
     }
     search.budget -= 1;
-    let mut over = true;
+    let mut edges = Vec::new(alloc);
     let mut orders = 0u64;
     for thread in 0..state.threads() {
         if !state.enabled(thread) {
             continue;
         }
-        over = false;
         let next = match state.after_turn(thread) {
             Ok(next) => next,
             Err(failure) => return Err(given_up(failure)),
@@ -227,21 +256,49 @@ fn search_from<M: Machine>(alloc: Global, state: M, search: &mut Search) -> Resu
             return Err(GaveUp::Memory);
         }
         search.path.push_reserved(thread);
-        let more = match search_from(alloc, next, search) {
-            Ok(more) => more,
+        let reached = match search_from(alloc, next, search, watch) {
+            Ok(reached) => reached,
             Err(why) => return Err(why),
         };
-        orders = orders.saturating_add(more);
         step_back(&mut search.path);
-    }
-    if over {
-        let found = note_outcome(alloc, &state, search);
-        if let Err(why) = found {
-            return Err(why);
+        orders = orders.saturating_add(reached.orders);
+        if edges.reserve(1).is_err() {
+            return Err(GaveUp::Memory);
         }
-        return keep(key, 1, slot, search);
+        edges.push_reserved(Edge {
+            thread,
+            name: state.name(thread),
+            to: reached.place,
+        });
     }
-    keep(key, orders, slot, search)
+    watch.report(search.seen.len(), search.found.len());
+    if edges.is_empty() {
+        let end = match note_outcome(alloc, &state, search) {
+            Ok(place) => Some(place),
+            Err(why) => return Err(why),
+        };
+        let orders = 1;
+        return keep(
+            Seen {
+                key,
+                orders,
+                edges,
+                end,
+            },
+            slot,
+            search,
+        );
+    }
+    keep(
+        Seen {
+            key,
+            orders,
+            edges,
+            end: None,
+        },
+        slot,
+        search,
+    )
 }
 
 /// Returns hints that lead nowhere.
@@ -250,18 +307,22 @@ fn no_hints(alloc: Global) -> Result<Vec<usize>, AllocError> {
 }
 
 /// Searches all orders from a state, and visits at most `most` states. Returns the outcomes that it found, each once and with an order that
-/// produces it. If the search ends by itself, no order has another outcome. If it ends early, the outcomes that it found are still sound.
-pub fn explore<M: Machine>(alloc: Global, state: M, most: u64) -> Explored
+/// produces it. If the search ends by itself, no order has another outcome, and the graph has all states that orders reach. If it ends early,
+/// the outcomes that it found are still sound.
+pub fn explore<M: Machine, W: Watch>(alloc: Global, state: M, most: u64, watch: &mut W) -> Explored
     ensures sound { IsSound M.enabled M.Turns M.HasOutcome state result.found.items }
     ensures distinct { AreDistinct result.found.items }
     ensures orders { OnOk result.ended (CountsOrders M.enabled M.Turns state result.orders) }
     ensures complete { OnOk result.ended (IsComplete M.enabled M.Turns M.HasOutcome state result.found.items) }
+    ensures graph { OnOk result.ended (IsGraph M.enabled M.Turns M.name M.HasOutcome state result.found.items result.seen.items result.start) }
 {
     let Ok(hints) = no_hints(alloc) else {
         return Explored {
             found: Vec::new(alloc),
             states: 0,
             orders: 0,
+            seen: Vec::new(alloc),
+            start: 0,
             ended: Err(GaveUp::Memory),
         };
     };
@@ -273,10 +334,10 @@ pub fn explore<M: Machine>(alloc: Global, state: M, most: u64) -> Explored
         path: Vec::new(alloc),
         budget: most,
     };
-    let searched = search_from(alloc, state, &mut search);
+    let searched = search_from(alloc, state, &mut search, watch);
     let Search {
         found,
-        seen: _,
+        seen,
         hints: _,
         earlier: _,
         path: _,
@@ -284,16 +345,20 @@ pub fn explore<M: Machine>(alloc: Global, state: M, most: u64) -> Explored
     } = search;
     let states = most.saturating_sub(budget);
     match searched {
-        Ok(orders) => Explored {
+        Ok(reached) => Explored {
             found,
             states,
-            orders,
+            orders: reached.orders,
+            seen,
+            start: reached.place,
             ended: Ok(()),
         },
         Err(why) => Explored {
             found,
             states,
             orders: 0,
+            seen,
+            start: 0,
             ended: Err(why),
         },
     }

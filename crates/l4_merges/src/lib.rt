@@ -3,8 +3,12 @@
 
 mod exploring;
 mod found;
+mod graph;
 mod machine;
+mod watching;
 
 pub use exploring::{Explored, GaveUp, explore};
 pub use found::Found;
+pub use graph::{Edge, Seen};
 pub use machine::{Failure, Machine};
+pub use watching::{Unwatched, Watch};

@@ -22,6 +22,9 @@ pub trait Machine: Drop {
     /// The number of threads.
     ghost threads: { Self → ℕ };
 
+    /// The name of the thread's turn: a number that says what the thread does.
+    ghost name: { Self → ℕ → ℕ };
+
     /// The number of things that are left to do.
     ghost left: { Self → ℕ };
 
@@ -46,6 +49,10 @@ pub trait Machine: Drop {
     fn after_turn(&self, thread: usize) -> Result<Self, Failure>
         requires { IsTrue (enabled self.now thread) }
         ensures { IfOk result (Turns self.now thread) };
+
+    /// Returns the name of the thread's turn.
+    fn name(&self, thread: usize) -> u64
+        ensures { result ≡ name self.now thread };
 
     /// Returns the outcome of the state, or why the machine has none.
     fn outcome(&self) -> Result<Vec<u8>, Failure>

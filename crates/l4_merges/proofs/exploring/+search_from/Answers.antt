@@ -1,9 +1,11 @@
-use Rattle.std.proofs.Common.{◌≡◌, ℕ, true, false, List, [], ◌∷◌, ◌++◌, sym, ap, ◌∙◌, arith, below_more}
-use Rattle.std.proofs.lemmas.Bool.{false≢true}
-use Rattle.l4_merges.proofs.Covering.{on_same, is_over, finds_from, finds_none, from_still, finds_all, finds_over, on_then, on_turned, on_same_found, on_same_path, on_ok, map_ok, all_at}
-use Rattle.l4_merges.proofs.Noted.{explored_push, explored_still, explored_at, explored_among, noted_is}
+use Rattle.std.proofs.Common.{◌≡◌, ℕ, true, false, List, [], ◌∷◌, ◌++◌, Some, None, refl, sym, ap, subst, ◌∙◌, arith, below_more, vec_len}
+use Rattle.l4_merges.specs.Graphs.{IsPlacedAt}
+use Rattle.l4_merges.proofs.Covering.{on_same, finds_from, finds_none, from_still, finds_all, finds_over, on_then, on_turned, on_same_found, on_same_path, on_ok, map_ok, all_at, end_of}
+use Rattle.l4_merges.proofs.Noted.{explored_push, explored_still, explored_at, explored_among, noted_is, noted_at}
 use Rattle.l4_merges.proofs.Counting.{none_below, disabled_more, below_turn, counts_all, counts_over, counted_as}
-use Rattle.l4_merges.specs.declared.exploring.Seen.{Seen}
+use Rattle.l4_merges.proofs.Drawing.{EdgesBelow, no_edges, no_edge, one_edge, all_edges, none_goes_on, some_goes_on, grows_not, grows_turn, grows_push, placed_kept, placed_on, when_empty, when_not}
+use Rattle.l4_merges.specs.declared.graph.Edge.{Edge}
+use Rattle.l4_merges.specs.declared.graph.Seen.{Seen}
 use Rattle.l4_merges.proofs.exploring.+search_from.Goals as goal
 
 pub loop-thread-preserved-then-not-enabled : goal.loop-thread-preserved-then-not-enabled
@@ -15,13 +17,33 @@ loop-thread-preserved-then-not-enabled g t c =
       on = inv.on;
       explored = inv.explored;
       from = below_more _ _ inv.from (finds_none g.M.Machine.enabled g.M.Machine.Turns g.M.Machine.HasOutcome c.args.state c.loop-thread.thread c.loop-thread.search.found.items not);
-      none = λ over. below_more _ _ (inv.none over) not;
-      some = inv.some;
       orders = disabled_more g.M.Machine.enabled g.M.Machine.Turns c.args.state c.loop-thread.thread c.loop-thread.orders not inv.orders;
+      edges = no_edge g.M.Machine.enabled g.M.Machine.Turns g.M.Machine.name (IsPlacedAt g.M.Machine.HasKey c.loop-thread.search.seen.items) c.args.state c.loop-thread.thread c.loop-thread.edges.items not inv.edges;
+      grows = inv.grows;
     }
+
+pub loop-thread-init : goal.loop-thread-init
+loop-thread-init g t c = record {
+  path = λ i. c.args.search.now.path.items;
+  on = on_same g.M.Machine.enabled g.M.Machine.Turns g.M.Machine.HasOutcome c.args.search.now.path.items c.args.state c.args.search.now.found.items;
+  explored = c.requires;
+  from = λ k lt. absurd (omega (arith, lt));
+  orders = none_below g.M.Machine.enabled g.M.Machine.Turns c.args.state;
+  edges = subst (λ (l : List Edge). EdgesBelow g.M.Machine.enabled g.M.Machine.Turns g.M.Machine.name (IsPlacedAt g.M.Machine.HasKey c.args.search.now.seen.items) c.args.state 0 l) (sym c.new-edges.ensures.items)
+      (no_edges g.M.Machine.enabled g.M.Machine.Turns g.M.Machine.name (IsPlacedAt g.M.Machine.HasKey c.args.search.now.seen.items) c.args.state);
+  grows = grows_not g.M.Machine.enabled g.M.Machine.Turns g.M.Machine.HasKey c.args.state c.args.search.now.seen.items;
+}
 
 pub returns-in-Err-search_from-clause-on : goal.returns-in-Err-search_from-clause-on
 returns-in-Err-search_from-clause-on g t c =
+    let inv = c.loop-thread.invariant in
+    let stepped : c.push_reserved.new.self.items ≡ c.args.search.now.path.items ++ c.loop-thread.thread ∷ [] =
+    c.push_reserved.ensures.items ∙ ap (λ (w : List ℕ). w ++ c.loop-thread.thread ∷ []) (c.reserve.ensures.items ∙ inv.path) in
+    on_turned g.M.Machine.enabled g.M.Machine.Turns g.M.Machine.HasOutcome c.args.search.now.path.items c.push_reserved.new.self.items c.args.state c.loop-thread.thread c.in-Ok-after_turn.next
+    c.args.search.now.found.items c.loop-thread.search.found.items c.search_from.new.search.found.items stepped (sym c.enabled.ensures ∙ c.if-not-enabled.false) c.in-Ok-after_turn.ensures inv.on c.search_from.ensures.on
+
+pub returns-then-is_err-2-clause-on : goal.returns-then-is_err-2-clause-on
+returns-then-is_err-2-clause-on g t c =
     let inv = c.loop-thread.invariant in
     let stepped : c.push_reserved.new.self.items ≡ c.args.search.now.path.items ++ c.loop-thread.thread ∷ [] =
     c.push_reserved.ensures.items ∙ ap (λ (w : List ℕ). w ++ c.loop-thread.thread ∷ []) (c.reserve.ensures.items ∙ inv.path) in
@@ -33,125 +55,175 @@ loop-thread-preserved g t c =
     let inv = c.loop-thread.invariant in
     let found = c.loop-thread.search.found.items in
     let later = c.search_from.new.search.found.items in
+    let edge : Edge = record { thread = c.loop-thread.thread; name = c.name.result; to = c.in-Ok-search_from.reached.place } in
     let stepped : c.push_reserved.new.self.items ≡ c.args.search.now.path.items ++ c.loop-thread.thread ∷ [] =
     c.push_reserved.ensures.items ∙ ap (λ (w : List ℕ). w ++ c.loop-thread.thread ∷ []) (c.reserve.ensures.items ∙ inv.path) in
     let able : g.M.Machine.enabled c.args.state c.loop-thread.thread ≡ true = sym c.enabled.ensures ∙ c.if-not-enabled.false in
     let on = c.search_from.ensures.on in
+    let turns = c.in-Ok-after_turn.ensures in
+    let grown = c.in-Ok-search_from.ensures.grows in
     record {
       path = c.step_back.ensures c.args.search.now.path.items c.loop-thread.thread (c.in-Ok-search_from.ensures.path ∙ stepped);
       on = on_turned g.M.Machine.enabled g.M.Machine.Turns g.M.Machine.HasOutcome c.args.search.now.path.items c.push_reserved.new.self.items c.args.state c.loop-thread.thread c.in-Ok-after_turn.next
-          c.args.search.now.found.items found later stepped able c.in-Ok-after_turn.ensures inv.on on;
-      explored = explored_among g.M.Machine.enabled g.M.Machine.Turns g.M.Machine.HasOutcome g.M.Machine.HasKey (g.M.Machine.Akin c.in-Ok-after_turn.next) (g.M.Machine.Akin c.args.state) c.search_from.new.search.seen.items later
-          (λ u. (g.met.M.Machine.stays c.args.state c.loop-thread.thread c.in-Ok-after_turn.next c.in-Ok-after_turn.ensures u).0) c.in-Ok-search_from.ensures.explored;
+          c.args.search.now.found.items found later stepped able turns inv.on on;
+      explored = explored_among g.M.Machine.enabled g.M.Machine.Turns g.M.Machine.name g.M.Machine.HasOutcome g.M.Machine.HasKey (g.M.Machine.Akin c.in-Ok-after_turn.next) (g.M.Machine.Akin c.args.state) c.search_from.new.search.seen.items later
+          (λ u. (g.met.M.Machine.stays c.args.state c.loop-thread.thread c.in-Ok-after_turn.next turns u).0) c.in-Ok-search_from.ensures.explored;
       from = below_more _ _ (λ k lt. from_still g.M.Machine.enabled g.M.Machine.Turns g.M.Machine.HasOutcome c.args.state k found later on.still (inv.from k lt))
-          (finds_from g.M.Machine.enabled g.M.Machine.Turns g.M.Machine.HasOutcome c.args.state c.loop-thread.thread c.in-Ok-after_turn.next later able c.in-Ok-after_turn.ensures c.in-Ok-search_from.ensures.all);
-      none = λ over. absurd (false≢true over);
-      some = λ not. (c.loop-thread.thread, able);
-      orders = below_turn g.M.Machine.enabled g.M.Machine.Turns c.args.state c.loop-thread.thread c.in-Ok-after_turn.next c.loop-thread.orders c.in-Ok-search_from.more c.saturating_add-orders.result able
-          c.in-Ok-after_turn.ensures c.in-Ok-search_from.ensures.orders c.saturating_add-orders.ensures inv.orders;
+          (finds_from g.M.Machine.enabled g.M.Machine.Turns g.M.Machine.HasOutcome c.args.state c.loop-thread.thread c.in-Ok-after_turn.next later able turns c.in-Ok-search_from.ensures.all);
+      orders = below_turn g.M.Machine.enabled g.M.Machine.Turns c.args.state c.loop-thread.thread c.in-Ok-after_turn.next c.loop-thread.orders c.in-Ok-search_from.reached.orders c.saturating_add-orders.result able
+          turns c.in-Ok-search_from.ensures.orders c.saturating_add-orders.ensures inv.orders;
+      edges = one_edge g.M.Machine.enabled g.M.Machine.Turns g.M.Machine.name (IsPlacedAt g.M.Machine.HasKey c.loop-thread.search.seen.items) (IsPlacedAt g.M.Machine.HasKey c.search_from.new.search.seen.items) c.args.state c.loop-thread.thread
+          c.loop-thread.edges.items c.push_reserved-in-loop-thread.new.self.items edge c.in-Ok-after_turn.next (λ u k. placed_on g.M.Machine.enabled g.M.Machine.Turns g.M.Machine.HasKey c.in-Ok-after_turn.next c.loop-thread.search.seen.items c.search_from.new.search.seen.items u k grown)
+          (c.push_reserved-in-loop-thread.ensures.items ∙ ap (λ (w : List Edge). w ++ edge ∷ []) c.reserve-in-loop-thread.ensures.items) refl c.name.ensures able turns c.in-Ok-search_from.ensures.place inv.edges;
+      grows = grows_turn g.M.Machine.enabled g.M.Machine.Turns g.M.Machine.HasKey c.args.state c.loop-thread.thread c.in-Ok-after_turn.next c.args.search.now.seen.items c.loop-thread.search.seen.items c.search_from.new.search.seen.items able turns inv.grows grown;
     }
-
-pub returns-in-Err-found-clause-on : goal.returns-in-Err-found-clause-on
-returns-in-Err-found-clause-on g t c =
-    let inv = c.loop-thread.invariant in
-    on_then g.M.Machine.enabled g.M.Machine.Turns g.M.Machine.HasOutcome c.args.search.now.path.items c.args.state c.args.search.now.found.items c.loop-thread.search.found.items c.note_outcome-found.new.search.found.items inv.on
-    (on_same_path g.M.Machine.enabled g.M.Machine.Turns g.M.Machine.HasOutcome c.args.search.now.path.items c.loop-thread.search.path.items c.args.state c.loop-thread.search.found.items c.note_outcome-found.new.search.found.items inv.path c.note_outcome-found.ensures.on)
-
-pub returns-then-over-clause-all : goal.returns-then-over-clause-all
-returns-then-over-clause-all g t c =
-    let inv = c.loop-thread.invariant in
-    on_ok _ c.keep.result
-    (all_at g.M.Machine.enabled g.M.Machine.Turns g.M.Machine.HasOutcome c.args.state c.note_outcome-found.new.search.found.items c.keep.new.search.found.items c.keep.ensures.found
-    (finds_over g.M.Machine.enabled g.M.Machine.Turns g.M.Machine.HasOutcome (g.M.Machine.threads c.args.state) c.args.state c.note_outcome-found.new.search.found.items (g.met.M.Machine.within c.args.state)
-    (λ k lt. inv.none c.if-over.true k (omega (arith, lt, c.loop-thread-test.false, c.threads-thread-end.ensures))) c.in_default-found.ensures.found))
-
-pub returns-then-over-clause-explored : goal.returns-then-over-clause-explored
-returns-then-over-clause-explored g t c =
-    let inv = c.loop-thread.invariant in
-    map_ok _ _ c.keep.result
-    (λ e. explored_at g.M.Machine.enabled g.M.Machine.Turns g.M.Machine.HasOutcome g.M.Machine.HasKey (g.M.Machine.Akin c.args.state) (c.loop-thread.search.seen.items ++ (record { key = c.in-Ok.key; orders = 1 }) ∷ []) c.keep.new.search.seen.items c.note_outcome-found.new.search.found.items c.keep.new.search.found.items
-    (e ∙ ap (λ (l : List Seen). l ++ (record { key = c.in-Ok.key; orders = 1 }) ∷ []) c.note_outcome-found.ensures.seen) c.keep.ensures.found
-    (explored_push g.M.Machine.enabled g.M.Machine.Turns g.M.Machine.HasOutcome g.M.Machine.HasKey g.M.Machine.Akin g.met.M.Machine.one_state c.loop-thread.search.seen.items c.args.state (record { key = c.in-Ok.key; orders = 1 }) c.note_outcome-found.new.search.found.items c.in-Ok.ensures
-    (explored_still g.M.Machine.enabled g.M.Machine.Turns g.M.Machine.HasOutcome g.M.Machine.HasKey (g.M.Machine.Akin c.args.state) c.loop-thread.search.seen.items c.loop-thread.search.found.items c.note_outcome-found.new.search.found.items c.note_outcome-found.ensures.on.still inv.explored)
-    (finds_over g.M.Machine.enabled g.M.Machine.Turns g.M.Machine.HasOutcome (g.M.Machine.threads c.args.state) c.args.state c.note_outcome-found.new.search.found.items (g.met.M.Machine.within c.args.state)
-    (λ k lt. inv.none c.if-over.true k (omega (arith, lt, c.loop-thread-test.false, c.threads-thread-end.ensures))) c.in_default-found.ensures.found)
-    (counts_over g.M.Machine.enabled g.M.Machine.Turns c.args.state (is_over g.M.Machine.enabled g.M.Machine.Turns g.M.Machine.HasOutcome (g.M.Machine.threads c.args.state) c.args.state (g.met.M.Machine.within c.args.state)
-    (λ k lt. inv.none c.if-over.true k (omega (arith, lt, c.loop-thread-test.false, c.threads-thread-end.ensures)))))))
-    c.keep.ensures.seen
-
-pub returns-then-over-clause-on : goal.returns-then-over-clause-on
-returns-then-over-clause-on g t c =
-    let inv = c.loop-thread.invariant in
-    on_same_found g.M.Machine.enabled g.M.Machine.Turns g.M.Machine.HasOutcome c.args.search.now.path.items c.args.state c.args.search.now.found.items c.note_outcome-found.new.search.found.items c.keep.new.search.found.items c.keep.ensures.found
-    (on_then g.M.Machine.enabled g.M.Machine.Turns g.M.Machine.HasOutcome c.args.search.now.path.items c.args.state c.args.search.now.found.items c.loop-thread.search.found.items c.note_outcome-found.new.search.found.items inv.on
-    (on_same_path g.M.Machine.enabled g.M.Machine.Turns g.M.Machine.HasOutcome c.args.search.now.path.items c.loop-thread.search.path.items c.args.state c.loop-thread.search.found.items c.note_outcome-found.new.search.found.items inv.path c.note_outcome-found.ensures.on))
-
-pub returns-clause-all : goal.returns-clause-all
-returns-clause-all g t c =
-    let inv = c.loop-thread.invariant in
-    on_ok _ c.keep-2.result
-    (all_at g.M.Machine.enabled g.M.Machine.Turns g.M.Machine.HasOutcome c.args.state c.loop-thread.search.found.items c.keep-2.new.search.found.items c.keep-2.ensures.found
-    (finds_all g.M.Machine.enabled g.M.Machine.Turns g.M.Machine.HasOutcome (g.M.Machine.threads c.args.state) c.args.state c.loop-thread.search.found.items (g.met.M.Machine.within c.args.state)
-    (λ k lt. inv.from k (omega (arith, lt, c.loop-thread-test.false, c.threads-thread-end.ensures))) (inv.some c.if-over.false)))
-
-pub returns-clause-explored : goal.returns-clause-explored
-returns-clause-explored g t c =
-    let inv = c.loop-thread.invariant in
-    map_ok _ _ c.keep-2.result
-    (λ e. explored_at g.M.Machine.enabled g.M.Machine.Turns g.M.Machine.HasOutcome g.M.Machine.HasKey (g.M.Machine.Akin c.args.state) (c.loop-thread.search.seen.items ++ (record { key = c.in-Ok.key; orders = c.loop-thread.orders }) ∷ []) c.keep-2.new.search.seen.items c.loop-thread.search.found.items c.keep-2.new.search.found.items
-    e c.keep-2.ensures.found
-    (explored_push g.M.Machine.enabled g.M.Machine.Turns g.M.Machine.HasOutcome g.M.Machine.HasKey g.M.Machine.Akin g.met.M.Machine.one_state c.loop-thread.search.seen.items c.args.state (record { key = c.in-Ok.key; orders = c.loop-thread.orders }) c.loop-thread.search.found.items c.in-Ok.ensures inv.explored
-    (finds_all g.M.Machine.enabled g.M.Machine.Turns g.M.Machine.HasOutcome (g.M.Machine.threads c.args.state) c.args.state c.loop-thread.search.found.items (g.met.M.Machine.within c.args.state)
-    (λ k lt. inv.from k (omega (arith, lt, c.loop-thread-test.false, c.threads-thread-end.ensures))) (inv.some c.if-over.false))
-    (counts_all g.M.Machine.enabled g.M.Machine.Turns (g.M.Machine.threads c.args.state) c.loop-thread.thread c.args.state c.loop-thread.orders (omega (arith, c.loop-thread-test.false, c.threads-thread-end.ensures))
-    (g.met.M.Machine.within c.args.state) (inv.some c.if-over.false) inv.orders)))
-    c.keep-2.ensures.seen
-
-pub returns-in-Some-clause-all : goal.returns-in-Some-clause-all
-returns-in-Some-clause-all g t c =
-    (noted_is g.M.Machine.enabled g.M.Machine.Turns g.M.Machine.HasOutcome g.M.Machine.HasKey (g.M.Machine.Akin c.args.state) c.args.search.now.seen.items c.as_slice-seen.result.now c.args.state
-    c.in-Ok.key.items c.as_slice-3.result.now c.in-Some.orders c.args.search.now.found.items c.as_slice-seen.ensures.value c.as_slice-3.ensures.value (g.met.M.Machine.own c.args.state) c.in-Ok.ensures
-    c.in-Some.ensures c.requires).0
-
-pub returns-in-Some-clause-orders : goal.returns-in-Some-clause-orders
-returns-in-Some-clause-orders g t c =
-    (noted_is g.M.Machine.enabled g.M.Machine.Turns g.M.Machine.HasOutcome g.M.Machine.HasKey (g.M.Machine.Akin c.args.state) c.args.search.now.seen.items c.as_slice-seen.result.now c.args.state
-    c.in-Ok.key.items c.as_slice-3.result.now c.in-Some.orders c.args.search.now.found.items c.as_slice-seen.ensures.value c.as_slice-3.ensures.value (g.met.M.Machine.own c.args.state) c.in-Ok.ensures
-    c.in-Some.ensures c.requires).1
 
 pub search_from-requires : goal.search_from-requires
 search_from-requires g t c κs within =
     let fewer = g.met.M.Machine.falls c.args.state c.loop-thread.thread c.in-Ok-after_turn.next c.in-Ok-after_turn.ensures in (
       omega (arith, fewer),
       (
-        within,
-        explored_among g.M.Machine.enabled g.M.Machine.Turns g.M.Machine.HasOutcome g.M.Machine.HasKey (g.M.Machine.Akin c.args.state) (g.M.Machine.Akin c.in-Ok-after_turn.next)
+        within.0,
+        (
+          within.1,
+          explored_among g.M.Machine.enabled g.M.Machine.Turns g.M.Machine.name g.M.Machine.HasOutcome g.M.Machine.HasKey (g.M.Machine.Akin c.args.state) (g.M.Machine.Akin c.in-Ok-after_turn.next)
             c.loop-thread.search.seen.items c.loop-thread.search.found.items
             (λ u. (g.met.M.Machine.stays c.args.state c.loop-thread.thread c.in-Ok-after_turn.next c.in-Ok-after_turn.ensures u).1) c.loop-thread.invariant.explored,
+        ),
       ),
     )
 
-pub returns-then-over-clause-orders : goal.returns-then-over-clause-orders
-returns-then-over-clause-orders g t c =
+pub returns-in-Some-clause-all : goal.returns-in-Some-clause-all
+returns-in-Some-clause-all g t c =
+    (noted_is g.M.Machine.enabled g.M.Machine.Turns g.M.Machine.name g.M.Machine.HasOutcome g.M.Machine.HasKey (g.M.Machine.Akin c.args.state) c.args.search.now.seen.items c.args.state
+    c.in-Ok.key.items c.as_slice-2.result.now c.in-Some.reached c.args.search.now.found.items c.as_slice-2.ensures.value (g.met.M.Machine.own c.args.state) c.in-Ok.ensures
+    c.in-Some.ensures c.requires).0
+
+pub returns-in-Some-clause-orders : goal.returns-in-Some-clause-orders
+returns-in-Some-clause-orders g t c =
+    (noted_is g.M.Machine.enabled g.M.Machine.Turns g.M.Machine.name g.M.Machine.HasOutcome g.M.Machine.HasKey (g.M.Machine.Akin c.args.state) c.args.search.now.seen.items c.args.state
+    c.in-Ok.key.items c.as_slice-2.result.now c.in-Some.reached c.args.search.now.found.items c.as_slice-2.ensures.value (g.met.M.Machine.own c.args.state) c.in-Ok.ensures
+    c.in-Some.ensures c.requires).1
+
+pub returns-in-Some-clause-place : goal.returns-in-Some-clause-place
+returns-in-Some-clause-place g t c =
+    noted_at g.M.Machine.enabled g.M.Machine.Turns g.M.Machine.name g.M.Machine.HasOutcome g.M.Machine.HasKey c.args.search.now.seen.items c.args.state c.in-Ok.key.items c.as_slice-2.result.now c.in-Some.reached c.as_slice-2.ensures.value c.in-Ok.ensures c.in-Some.ensures
+
+pub returns-in-Some-clause-grows : goal.returns-in-Some-clause-grows
+returns-in-Some-clause-grows g t c = grows_not g.M.Machine.enabled g.M.Machine.Turns g.M.Machine.HasKey c.args.state c.args.search.now.seen.items
+
+pub note_outcome-requires : goal.note_outcome-requires
+note_outcome-requires g t c =
     let inv = c.loop-thread.invariant in
-    counted_as g.M.Machine.enabled g.M.Machine.Turns c.args.state 1 c.keep.result c.keep.ensures.orders
-    (counts_over g.M.Machine.enabled g.M.Machine.Turns c.args.state (is_over g.M.Machine.enabled g.M.Machine.Turns g.M.Machine.HasOutcome (g.M.Machine.threads c.args.state) c.args.state (g.met.M.Machine.within c.args.state)
-    (λ k lt. inv.none c.if-over.true k (omega (arith, lt, c.loop-thread-test.false, c.threads-thread-end.ensures)))))
+    let edges = all_edges g.M.Machine.enabled g.M.Machine.Turns g.M.Machine.name (IsPlacedAt g.M.Machine.HasKey c.loop-thread.search.seen.items) (g.M.Machine.threads c.args.state) c.loop-thread.thread c.args.state c.loop-thread.edges.items (omega (arith, c.loop-thread-test.false, c.threads-thread-end.ensures)) (g.met.M.Machine.within c.args.state) inv.edges in
+    let over = none_goes_on g.M.Machine.enabled g.M.Machine.Turns g.M.Machine.name (IsPlacedAt g.M.Machine.HasKey c.loop-thread.search.seen.items) c.args.state c.loop-thread.edges.items (when_empty c.is_empty.result (vec_len c.loop-thread.edges) _ c.is_empty.ensures (omega (arith, c.loop-thread.edges.ok.0)) c.if-is_empty.true) edges in
+    over
+
+pub returns-in-Err-note_outcome-clause-on : goal.returns-in-Err-note_outcome-clause-on
+returns-in-Err-note_outcome-clause-on g t c =
+    let inv = c.loop-thread.invariant in
+    on_then g.M.Machine.enabled g.M.Machine.Turns g.M.Machine.HasOutcome c.args.search.now.path.items c.args.state c.args.search.now.found.items c.loop-thread.search.found.items c.note_outcome.new.search.found.items inv.on
+    (on_same_path g.M.Machine.enabled g.M.Machine.Turns g.M.Machine.HasOutcome c.args.search.now.path.items c.loop-thread.search.path.items c.args.state c.loop-thread.search.found.items c.note_outcome.new.search.found.items inv.path c.note_outcome.ensures.on)
+
+pub returns-then-is_empty-clause-all : goal.returns-then-is_empty-clause-all
+returns-then-is_empty-clause-all g t c =
+    let inv = c.loop-thread.invariant in
+    let edges = all_edges g.M.Machine.enabled g.M.Machine.Turns g.M.Machine.name (IsPlacedAt g.M.Machine.HasKey c.loop-thread.search.seen.items) (g.M.Machine.threads c.args.state) c.loop-thread.thread c.args.state c.loop-thread.edges.items (omega (arith, c.loop-thread-test.false, c.threads-thread-end.ensures)) (g.met.M.Machine.within c.args.state) inv.edges in
+    let over = none_goes_on g.M.Machine.enabled g.M.Machine.Turns g.M.Machine.name (IsPlacedAt g.M.Machine.HasKey c.loop-thread.search.seen.items) c.args.state c.loop-thread.edges.items (when_empty c.is_empty.result (vec_len c.loop-thread.edges) _ c.is_empty.ensures (omega (arith, c.loop-thread.edges.ok.0)) c.if-is_empty.true) edges in
+    on_ok _ c.keep.result
+    (all_at g.M.Machine.enabled g.M.Machine.Turns g.M.Machine.HasOutcome c.args.state c.note_outcome.new.search.found.items c.keep.new.search.found.items c.keep.ensures.found
+    (finds_over g.M.Machine.enabled g.M.Machine.Turns g.M.Machine.HasOutcome (g.M.Machine.threads c.args.state) c.args.state c.note_outcome.new.search.found.items (g.met.M.Machine.within c.args.state)
+    (λ k lt. over k) (end_of g.M.Machine.HasOutcome c.args.state c.note_outcome.new.search.found.items c.in-Ok-note_outcome.place c.in-Ok-note_outcome.ensures.found)))
+
+pub returns-then-is_empty-clause-orders : goal.returns-then-is_empty-clause-orders
+returns-then-is_empty-clause-orders g t c =
+    let inv = c.loop-thread.invariant in
+    let edges = all_edges g.M.Machine.enabled g.M.Machine.Turns g.M.Machine.name (IsPlacedAt g.M.Machine.HasKey c.loop-thread.search.seen.items) (g.M.Machine.threads c.args.state) c.loop-thread.thread c.args.state c.loop-thread.edges.items (omega (arith, c.loop-thread-test.false, c.threads-thread-end.ensures)) (g.met.M.Machine.within c.args.state) inv.edges in
+    let over = none_goes_on g.M.Machine.enabled g.M.Machine.Turns g.M.Machine.name (IsPlacedAt g.M.Machine.HasKey c.loop-thread.search.seen.items) c.args.state c.loop-thread.edges.items (when_empty c.is_empty.result (vec_len c.loop-thread.edges) _ c.is_empty.ensures (omega (arith, c.loop-thread.edges.ok.0)) c.if-is_empty.true) edges in
+    counted_as g.M.Machine.enabled g.M.Machine.Turns c.args.state 1 c.keep.result c.keep.ensures.orders (counts_over g.M.Machine.enabled g.M.Machine.Turns c.args.state over)
+
+pub returns-then-is_empty-clause-place : goal.returns-then-is_empty-clause-place
+returns-then-is_empty-clause-place g t c =
+    let one : Seen = record { key = c.in-Ok.key; orders = 1; edges = c.loop-thread.edges; end = Some c.in-Ok-note_outcome.place } in
+    placed_kept g.M.Machine.HasKey c.keep.result c.note_outcome.new.search.seen.items c.keep.new.search.seen.items one c.args.state c.keep.ensures.seen c.keep.ensures.place c.in-Ok.ensures
+
+pub returns-then-is_empty-clause-grows : goal.returns-then-is_empty-clause-grows
+returns-then-is_empty-clause-grows g t c =
+    let one : Seen = record { key = c.in-Ok.key; orders = 1; edges = c.loop-thread.edges; end = Some c.in-Ok-note_outcome.place } in
+    let inv = c.loop-thread.invariant in
+    map_ok _ _ c.keep.result (λ e. grows_push g.M.Machine.enabled g.M.Machine.Turns g.M.Machine.HasKey c.args.state c.args.search.now.seen.items c.loop-thread.search.seen.items c.keep.new.search.seen.items one (e ∙ ap (λ (l : List Seen). l ++ one ∷ []) c.note_outcome.ensures.seen) c.in-Ok.ensures inv.grows) c.keep.ensures.seen
+
+pub returns-then-is_empty-clause-explored : goal.returns-then-is_empty-clause-explored
+returns-then-is_empty-clause-explored g t c =
+    let inv = c.loop-thread.invariant in
+    let edges = all_edges g.M.Machine.enabled g.M.Machine.Turns g.M.Machine.name (IsPlacedAt g.M.Machine.HasKey c.loop-thread.search.seen.items) (g.M.Machine.threads c.args.state) c.loop-thread.thread c.args.state c.loop-thread.edges.items (omega (arith, c.loop-thread-test.false, c.threads-thread-end.ensures)) (g.met.M.Machine.within c.args.state) inv.edges in
+    let over = none_goes_on g.M.Machine.enabled g.M.Machine.Turns g.M.Machine.name (IsPlacedAt g.M.Machine.HasKey c.loop-thread.search.seen.items) c.args.state c.loop-thread.edges.items (when_empty c.is_empty.result (vec_len c.loop-thread.edges) _ c.is_empty.ensures (omega (arith, c.loop-thread.edges.ok.0)) c.if-is_empty.true) edges in
+    let one : Seen = record { key = c.in-Ok.key; orders = 1; edges = c.loop-thread.edges; end = Some c.in-Ok-note_outcome.place } in
+    map_ok _ _ c.keep.result
+    (λ e. explored_at g.M.Machine.enabled g.M.Machine.Turns g.M.Machine.name g.M.Machine.HasOutcome g.M.Machine.HasKey (g.M.Machine.Akin c.args.state) (c.loop-thread.search.seen.items ++ one ∷ []) c.keep.new.search.seen.items c.note_outcome.new.search.found.items c.keep.new.search.found.items
+    (e ∙ ap (λ (l : List Seen). l ++ one ∷ []) c.note_outcome.ensures.seen) c.keep.ensures.found
+    (explored_push g.M.Machine.enabled g.M.Machine.Turns g.M.Machine.name g.M.Machine.HasOutcome g.M.Machine.HasKey g.M.Machine.Akin g.met.M.Machine.one_state c.loop-thread.search.seen.items c.args.state one c.note_outcome.new.search.found.items c.in-Ok.ensures
+    (explored_still g.M.Machine.enabled g.M.Machine.Turns g.M.Machine.name g.M.Machine.HasOutcome g.M.Machine.HasKey (g.M.Machine.Akin c.args.state) c.loop-thread.search.seen.items c.loop-thread.search.found.items c.note_outcome.new.search.found.items c.note_outcome.ensures.on.still c.note_outcome.ensures.on.grows inv.explored)
+    (finds_over g.M.Machine.enabled g.M.Machine.Turns g.M.Machine.HasOutcome (g.M.Machine.threads c.args.state) c.args.state c.note_outcome.new.search.found.items (g.met.M.Machine.within c.args.state)
+    (λ k lt. over k) (end_of g.M.Machine.HasOutcome c.args.state c.note_outcome.new.search.found.items c.in-Ok-note_outcome.place c.in-Ok-note_outcome.ensures.found))
+    (counts_over g.M.Machine.enabled g.M.Machine.Turns c.args.state over) (record { edges = edges; end = (over, c.in-Ok-note_outcome.ensures.found) })))
+    c.keep.ensures.seen
+
+pub returns-then-is_empty-clause-on : goal.returns-then-is_empty-clause-on
+returns-then-is_empty-clause-on g t c =
+    let inv = c.loop-thread.invariant in
+    on_same_found g.M.Machine.enabled g.M.Machine.Turns g.M.Machine.HasOutcome c.args.search.now.path.items c.args.state c.args.search.now.found.items c.note_outcome.new.search.found.items c.keep.new.search.found.items c.keep.ensures.found
+    (on_then g.M.Machine.enabled g.M.Machine.Turns g.M.Machine.HasOutcome c.args.search.now.path.items c.args.state c.args.search.now.found.items c.loop-thread.search.found.items c.note_outcome.new.search.found.items inv.on
+    (on_same_path g.M.Machine.enabled g.M.Machine.Turns g.M.Machine.HasOutcome c.args.search.now.path.items c.loop-thread.search.path.items c.args.state c.loop-thread.search.found.items c.note_outcome.new.search.found.items inv.path c.note_outcome.ensures.on))
+
+pub returns-clause-all : goal.returns-clause-all
+returns-clause-all g t c =
+    let inv = c.loop-thread.invariant in
+    let edges = all_edges g.M.Machine.enabled g.M.Machine.Turns g.M.Machine.name (IsPlacedAt g.M.Machine.HasKey c.loop-thread.search.seen.items) (g.M.Machine.threads c.args.state) c.loop-thread.thread c.args.state c.loop-thread.edges.items (omega (arith, c.loop-thread-test.false, c.threads-thread-end.ensures)) (g.met.M.Machine.within c.args.state) inv.edges in
+    let some = some_goes_on g.M.Machine.enabled g.M.Machine.Turns g.M.Machine.name (IsPlacedAt g.M.Machine.HasKey c.loop-thread.search.seen.items) c.args.state c.loop-thread.edges.items (when_not c.is_empty.result (vec_len c.loop-thread.edges) _ c.is_empty.ensures (omega (arith, c.loop-thread.edges.ok.0)) c.if-is_empty.false) edges in
+    on_ok _ c.keep-2.result
+    (all_at g.M.Machine.enabled g.M.Machine.Turns g.M.Machine.HasOutcome c.args.state c.loop-thread.search.found.items c.keep-2.new.search.found.items c.keep-2.ensures.found
+    (finds_all g.M.Machine.enabled g.M.Machine.Turns g.M.Machine.HasOutcome (g.M.Machine.threads c.args.state) c.args.state c.loop-thread.search.found.items (g.met.M.Machine.within c.args.state)
+    (λ k lt. inv.from k (omega (arith, lt, c.loop-thread-test.false, c.threads-thread-end.ensures))) some))
 
 pub returns-clause-orders : goal.returns-clause-orders
 returns-clause-orders g t c =
     let inv = c.loop-thread.invariant in
+    let edges = all_edges g.M.Machine.enabled g.M.Machine.Turns g.M.Machine.name (IsPlacedAt g.M.Machine.HasKey c.loop-thread.search.seen.items) (g.M.Machine.threads c.args.state) c.loop-thread.thread c.args.state c.loop-thread.edges.items (omega (arith, c.loop-thread-test.false, c.threads-thread-end.ensures)) (g.met.M.Machine.within c.args.state) inv.edges in
+    let some = some_goes_on g.M.Machine.enabled g.M.Machine.Turns g.M.Machine.name (IsPlacedAt g.M.Machine.HasKey c.loop-thread.search.seen.items) c.args.state c.loop-thread.edges.items (when_not c.is_empty.result (vec_len c.loop-thread.edges) _ c.is_empty.ensures (omega (arith, c.loop-thread.edges.ok.0)) c.if-is_empty.false) edges in
     counted_as g.M.Machine.enabled g.M.Machine.Turns c.args.state c.loop-thread.orders c.keep-2.result c.keep-2.ensures.orders
     (counts_all g.M.Machine.enabled g.M.Machine.Turns (g.M.Machine.threads c.args.state) c.loop-thread.thread c.args.state c.loop-thread.orders (omega (arith, c.loop-thread-test.false, c.threads-thread-end.ensures))
-    (g.met.M.Machine.within c.args.state) (inv.some c.if-over.false) inv.orders)
+    (g.met.M.Machine.within c.args.state) some inv.orders)
 
-pub loop-thread-init : goal.loop-thread-init
-loop-thread-init g t c = record {
-  path = λ i. c.args.search.now.path.items;
-  on = on_same g.M.Machine.enabled g.M.Machine.Turns g.M.Machine.HasOutcome c.args.search.now.path.items c.args.state c.args.search.now.found.items;
-  explored = c.requires;
-  from = λ k lt. absurd (omega (arith, lt));
-  none = λ over k lt. absurd (omega (arith, lt));
-  some = λ not. absurd (false≢true (sym not));
-  orders = none_below g.M.Machine.enabled g.M.Machine.Turns c.args.state;
-}
+pub returns-clause-place : goal.returns-clause-place
+returns-clause-place g t c =
+    let one : Seen = record { key = c.in-Ok.key; orders = c.loop-thread.orders; edges = c.loop-thread.edges; end = None } in
+    placed_kept g.M.Machine.HasKey c.keep-2.result c.loop-thread.search.seen.items c.keep-2.new.search.seen.items one c.args.state c.keep-2.ensures.seen c.keep-2.ensures.place c.in-Ok.ensures
+
+pub returns-clause-grows : goal.returns-clause-grows
+returns-clause-grows g t c =
+    let one : Seen = record { key = c.in-Ok.key; orders = c.loop-thread.orders; edges = c.loop-thread.edges; end = None } in
+    let inv = c.loop-thread.invariant in
+    map_ok _ _ c.keep-2.result (λ e. grows_push g.M.Machine.enabled g.M.Machine.Turns g.M.Machine.HasKey c.args.state c.args.search.now.seen.items c.loop-thread.search.seen.items c.keep-2.new.search.seen.items one e c.in-Ok.ensures inv.grows) c.keep-2.ensures.seen
+
+pub returns-clause-explored : goal.returns-clause-explored
+returns-clause-explored g t c =
+    let inv = c.loop-thread.invariant in
+    let edges = all_edges g.M.Machine.enabled g.M.Machine.Turns g.M.Machine.name (IsPlacedAt g.M.Machine.HasKey c.loop-thread.search.seen.items) (g.M.Machine.threads c.args.state) c.loop-thread.thread c.args.state c.loop-thread.edges.items (omega (arith, c.loop-thread-test.false, c.threads-thread-end.ensures)) (g.met.M.Machine.within c.args.state) inv.edges in
+    let some = some_goes_on g.M.Machine.enabled g.M.Machine.Turns g.M.Machine.name (IsPlacedAt g.M.Machine.HasKey c.loop-thread.search.seen.items) c.args.state c.loop-thread.edges.items (when_not c.is_empty.result (vec_len c.loop-thread.edges) _ c.is_empty.ensures (omega (arith, c.loop-thread.edges.ok.0)) c.if-is_empty.false) edges in
+    let one : Seen = record { key = c.in-Ok.key; orders = c.loop-thread.orders; edges = c.loop-thread.edges; end = None } in
+    map_ok _ _ c.keep-2.result
+    (λ e. explored_at g.M.Machine.enabled g.M.Machine.Turns g.M.Machine.name g.M.Machine.HasOutcome g.M.Machine.HasKey (g.M.Machine.Akin c.args.state) (c.loop-thread.search.seen.items ++ one ∷ []) c.keep-2.new.search.seen.items c.loop-thread.search.found.items c.keep-2.new.search.found.items
+    e c.keep-2.ensures.found
+    (explored_push g.M.Machine.enabled g.M.Machine.Turns g.M.Machine.name g.M.Machine.HasOutcome g.M.Machine.HasKey g.M.Machine.Akin g.met.M.Machine.one_state c.loop-thread.search.seen.items c.args.state one c.loop-thread.search.found.items c.in-Ok.ensures inv.explored
+    (finds_all g.M.Machine.enabled g.M.Machine.Turns g.M.Machine.HasOutcome (g.M.Machine.threads c.args.state) c.args.state c.loop-thread.search.found.items (g.met.M.Machine.within c.args.state)
+    (λ k lt. inv.from k (omega (arith, lt, c.loop-thread-test.false, c.threads-thread-end.ensures))) some)
+    (counts_all g.M.Machine.enabled g.M.Machine.Turns (g.M.Machine.threads c.args.state) c.loop-thread.thread c.args.state c.loop-thread.orders (omega (arith, c.loop-thread-test.false, c.threads-thread-end.ensures))
+    (g.met.M.Machine.within c.args.state) some inv.orders) (record { edges = edges; end = some })))
+    c.keep-2.ensures.seen
+
+pub returns-in-Some-clause-on : goal.returns-in-Some-clause-on
+returns-in-Some-clause-on g t c = on_same g.M.Machine.enabled g.M.Machine.Turns g.M.Machine.HasOutcome c.args.search.now.path.items c.args.state c.args.search.now.found.items
+
+pub returns-then-search-eq0-clause-on : goal.returns-then-search-eq0-clause-on
+returns-then-search-eq0-clause-on g t c = on_same g.M.Machine.enabled g.M.Machine.Turns g.M.Machine.HasOutcome c.args.search.now.path.items c.args.state c.args.search.now.found.items

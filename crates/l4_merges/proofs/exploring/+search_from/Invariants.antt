@@ -1,7 +1,9 @@
-use Rattle.std.proofs.Common.{◌≡◌, ℕ, ◌<◌, true, false}
-use Rattle.l4_merges.specs.Orders.{AreExplored, FindsOn}
+use Rattle.std.proofs.Common.{◌≡◌, ℕ, ◌<◌}
+use Rattle.l4_merges.specs.Graphs.{AreExplored, Grows, IsPlacedAt}
+use Rattle.l4_merges.specs.Orders.{FindsOn}
 use Rattle.l4_merges.proofs.Covering.{FindsFrom}
 use Rattle.l4_merges.proofs.Counting.{CountsBelow}
+use Rattle.l4_merges.proofs.Drawing.{EdgesBelow}
 use Rattle.l4_merges.proofs.exploring.+search_from.Given as goal
 
 abbrev pub decreases-search_from : goal.decreases-search_from
@@ -17,8 +19,8 @@ invariant-loop-thread g l =
       orders : CountsBelow enabled g.M.Machine.Turns l.state l.thread l.orders;
       path : l.search.path.items ≡ l.fn.search.path.items;
       on : FindsOn enabled Turns HasOutcome l.fn.search.path.items l.state l.fn.search.found.items l.search.found.items;
-      explored : AreExplored enabled Turns HasOutcome HasKey (g.M.Machine.Akin l.state) l.search.seen.items l.search.found.items;
+      explored : AreExplored enabled Turns g.M.Machine.name HasOutcome HasKey (g.M.Machine.Akin l.state) l.search.seen.items l.search.found.items;
       from : (k : ℕ) → k < l.thread → FindsFrom enabled Turns HasOutcome l.state k l.search.found.items;
-      none : l.over ≡ true → (k : ℕ) → k < l.thread → enabled l.state k ≡ false;
-      some : l.over ≡ false → (k : ℕ) × (enabled l.state k ≡ true);
+      edges : EdgesBelow enabled Turns g.M.Machine.name (IsPlacedAt HasKey l.search.seen.items) l.state l.thread l.edges.items;
+      grows : Grows enabled Turns HasKey l.state l.fn.search.seen.items l.search.seen.items;
     }
