@@ -7,6 +7,8 @@
 #![tactic(auto)]
 
 mod ordered;
+mod plan_tests;
+mod progress;
 mod recorded;
 mod reports;
 mod segments;
@@ -36,13 +38,14 @@ use l4_sinks::{Ended, Outputs, Style, answer_script};
 use l4_step_lines::{Fault, JudgeFault, judge};
 use l4_symbols::write_words;
 use l4_text::{RunFault, ScriptReader};
-use ordered::{Wanted, print_orders};
+use ordered::{print_orders, wanted};
 use recorded::run_to;
 use reports::{report_no_plan, report_no_thread, report_refused, report_unproved};
 use segments::tell_segments;
 use std::io::{Read, Write};
 use std::process::ExitCode;
 use std::rt::Files;
+use std::time::Clock;
 use std::{fs, io};
 use tested::test;
 
@@ -380,7 +383,7 @@ fn print_words<R: Print + Eprint>(rt: &R, words: &[u32]) -> u8 {
 }
 
 /// Executes a command.
-fn execute<R: AllocGlobal + Files + Input + Print + Eprint>(rt: &R, asked: Options) -> u8
+fn execute<R: AllocGlobal + Files + Input + Print + Eprint + Clock>(rt: &R, asked: Options) -> u8
     requires { IsInRange asked }
 {
     match asked {
@@ -422,15 +425,15 @@ fn execute<R: AllocGlobal + Files + Input + Print + Eprint>(rt: &R, asked: Optio
             most,
             witness,
             brief,
-            dot: _,
-        } => print_orders(rt, &plan, most, Wanted { witness, brief }),
+            dot,
+        } => print_orders(rt, &plan, most, wanted(witness, brief, dot)),
         Options::Encode(words) => print_words(rt, words.as_slice()),
         Options::Show(text) => show(rt, text.as_str()),
     }
 }
 
 /// Executes the command that these words request.
-fn obey<R: AllocGlobal + Files + Input + Print + Eprint>(rt: &R, words: &[String]) -> u8 {
+fn obey<R: AllocGlobal + Files + Input + Print + Eprint + Clock>(rt: &R, words: &[String]) -> u8 {
     match options(rt.alloc(), words) {
         Ok(asked) => execute(rt, asked),
         Err(fault) => misread(rt, &fault),

@@ -5,17 +5,20 @@ ghost use Rattle.l4.specs.Statuses.{orders_status, ruled_status};
 ghost use Rattle.l4_options.specs.Ranges.{IsFrameCount};
 
 use crate::opened;
+use crate::progress::Progress;
 use l4_options::ScriptOptions;
 use l4_orders::{
-    Explored, GaveUp, LineFault, Plan, PlanFault, all_orders, breaks_any, orders_text, read_plan,
-    rules_text, witness_text,
+    Explored, GaveUp, LineFault, Plan, PlanFault, breaks_any, graph_text, orders_text, read_plan,
+    rules_text, watched_orders, witness_text,
 };
 use l4_programs::{NOT_UNDERSTOOD, WatchedReader, WatchedWriter, stopped};
+use l4_refusals::{number_of, text_of};
 use l4_text::RunFault;
 use std::alloc::{AllocError, Global};
-use std::io;
 use std::io::{Read, Write};
 use std::rt::Files;
+use std::time::Clock;
+use std::{io, str};
 
 /// The exit status if not every order was followed.
 const INCOMPLETE: u8 = 1;
@@ -23,34 +26,54 @@ const INCOMPLETE: u8 = 1;
 /// The exit status if an outcome breaks a rule of the plan.
 const BROKEN: u8 = 1;
 
-/// What is printed: the script of one outcome, or the outcomes, without their orders if `brief`.
+/// What is printed: the script of one outcome, the graph of the states if `dot`, or the outcomes, without their orders if `brief`.
 #[derive(Clone, Copy)]
 pub(crate) struct Wanted {
     pub(crate) witness: Option<u32>,
     pub(crate) brief: bool,
+    pub(crate) dot: bool,
+}
+
+/// Returns what is wanted, by these options.
+pub(crate) fn wanted(witness: Option<u32>, brief: bool, dot: bool) -> Wanted {
+    Wanted {
+        witness,
+        brief,
+        dot,
+    }
+}
+
+/// Returns the code of a line that cannot be part of a plan.
+pub(crate) fn code_of(fault: LineFault) -> &'static str {
+    match fault {
+        LineFault::Long => "S3",
+        LineFault::Cut => "S4",
+        LineFault::Unread => "S2",
+        LineFault::Repeated => "O1",
+        LineFault::OfNoThread => "O2",
+        LineFault::NoQuery => "O3",
+        LineFault::Steps => "O4",
+        LineFault::NoThread(_) => "O5",
+    }
+}
+
+/// Returns what a code means of a line of a plan.
+pub(crate) fn words_of(code: &str) -> &'static str {
+    if code == "S2" {
+        return "the line is not a command, or has too few tokens, too many, or an invalid one";
+    }
+    str::from_utf8(text_of(number_of(code.as_bytes())).line).unwrap_or("")
 }
 
 /// Reports that a line cannot be part of a plan.
 fn report_line(rt: &impl Eprint, number: u64, fault: LineFault) {
-    let words = match fault {
-        LineFault::Long => "S3: the line is longer than 4,096 bytes",
-        LineFault::Cut => "S4: the line does not end with a newline",
-        LineFault::Unread =>
-            "S2: the line is not a command, or has too few tokens, too many, or an invalid one",
-        LineFault::Repeated =>
-            "O1: a plan has one line 'unordered', and after it at most one line 'finally'",
-        LineFault::OfNoThread =>
-            "O2: a query or a rule is allowed only after 'finally', and a name only before 'unordered'",
-        LineFault::NoQuery =>
-            "O3: after 'finally', only show, parent, reply, never and always are allowed",
-        LineFault::Steps =>
-            "O4: 'steps' is not allowed, because its answer depends on the whole order",
-        LineFault::NoThread(thread) => {
-            let _ = eprintln!(rt; "error: line {number}: O5: no line creates thread {thread}");
-            return;
-        }
-    };
-    let _ = eprintln!(rt; "error: line {number}: {words}");
+    let code = code_of(fault);
+    if let LineFault::NoThread(thread) = fault {
+        let _ = eprintln!(rt; "error: line {number}: {code}: no line creates thread {thread}");
+        return;
+    }
+    let words = words_of(code);
+    let _ = eprintln!(rt; "error: line {number}: {code}: {words}");
 }
 
 /// Reports why a file is not a plan. Returns the exit status.
@@ -67,7 +90,8 @@ fn no_plan<Q: Read>(
             NOT_UNDERSTOOD
         }
         PlanFault::NoUnordered => {
-            let _ = eprintln!(rt; "error: O6: the plan has no line 'unordered'");
+            let words = words_of("O6");
+            let _ = eprintln!(rt; "error: O6: {words}");
             NOT_UNDERSTOOD
         }
     }
@@ -85,7 +109,7 @@ fn search_status(explored: &Explored) -> u8
 }
 
 /// Returns the exit status of a search, by whether an outcome breaks a rule of the plan.
-fn ruled_status(plan: &Plan, explored: &Explored) -> u8
+pub(crate) fn ruled_status(plan: &Plan, explored: &Explored) -> u8
     ensures { result
         ≡ ruled_status (breaks_any plan.now explored.now.found.items) explored.now.ended }
 {
@@ -116,6 +140,7 @@ fn print_found<R: AllocGlobal + Print + Eprint>(
     wanted: Wanted,
 ) -> u8 {
     let text = match wanted.witness {
+        None if wanted.dot => graph_text(rt.alloc(), explored),
         None => found_text(rt.alloc(), plan, explored, wanted.brief),
         Some(number) => {
             let index = number as usize;
@@ -139,7 +164,7 @@ fn print_found<R: AllocGlobal + Print + Eprint>(
 
 /// Searches all orders of a plan, and prints what is wanted. Returns the exit status.
 #[inline(never)]
-pub(crate) fn print_orders<R: AllocGlobal + Files + Input + Print + Eprint>(
+pub(crate) fn print_orders<R: AllocGlobal + Files + Input + Print + Eprint + Clock>(
     rt: &R,
     options: &ScriptOptions,
     most: u32,
@@ -156,12 +181,13 @@ pub(crate) fn print_orders<R: AllocGlobal + Files + Input + Print + Eprint>(
         Ok(plan) => plan,
         Err(fault) => return no_plan(rt, fault, file, &reader),
     };
-    let searched = all_orders(
+    let searched = watched_orders(
         rt.alloc(),
         options.frames,
         options.size,
         &plan,
         u64::from(most),
+        &mut Progress::new(rt),
     );
     match searched {
         Ok(explored) => print_found(rt, &plan, &explored, wanted),

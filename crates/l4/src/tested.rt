@@ -4,6 +4,7 @@ ghost use Rattle.l4.specs.Statuses.{test_status};
 ghost use Rattle.l4_options.specs.Ranges.{IsFrameCount};
 
 use crate::DIFFERS;
+use crate::plan_tests::{is_plan, report_not_copied, test_plan};
 use l4_expectations::{Copied, Difference, Failure, Fault, Passed, copy_script, test_script};
 use l4_options::{OptionFault, Options, ScriptOptions, options};
 use l4_programs::{NOT_UNDERSTOOD, WatchedReader, not_created, not_opened, stopped};
@@ -28,14 +29,14 @@ const WRONG_OPTIONS: &str = "after '#!', only --frames N and --page-size BYTES a
 
 /// Where a result is printed: the name of its file, and its number in TAP.
 #[derive(Drop)]
-struct Place<'a> {
-    file: &'a str,
-    tap: bool,
-    number: usize,
+pub(crate) struct Place<'a> {
+    pub(crate) file: &'a str,
+    pub(crate) tap: bool,
+    pub(crate) number: usize,
 }
 
 /// Returns the status, or that of a write that failed.
-fn printed(rt: &impl Eprint, written: io::Result<()>, status: u8) -> u8
+pub(crate) fn printed(rt: &impl Eprint, written: io::Result<()>, status: u8) -> u8
     ensures { (result ≡ status) ⊎ (result ≡ 3) }
 {
     match written {
@@ -118,7 +119,7 @@ fn report_malformed<R: Print + Eprint>(rt: &R, place: &Place<'_>, line: u64, rea
 }
 
 /// Prints in TAP that a script was not tested to its end, after the reason was reported. Returns the status, or that of a write that failed.
-fn report_untested<R: Print + Eprint>(rt: &R, place: &Place<'_>, status: u8) -> u8
+pub(crate) fn report_untested<R: Print + Eprint>(rt: &R, place: &Place<'_>, status: u8) -> u8
     ensures { (result ≡ status) ⊎ (result ≡ 3) }
 {
     if !place.tap {
@@ -256,6 +257,9 @@ fn test_reader<Q: Read, R: AllocGlobal + Print + Eprint>(
         Ok(parts) => parts,
         Err(status) => return status,
     };
+    if is_plan(place.file) {
+        return test_plan(rt, place, &script, front.as_slice(), reader);
+    }
     let mut whole = front.as_slice().chain(&mut *reader);
     let tested = test_script(rt.alloc(), script.frames, script.size, &mut whole);
     report(rt, place, tested, reader)
@@ -361,6 +365,9 @@ fn copy_reader<Q: Read, R: AllocGlobal + Files + Print + Eprint>(
 
 /// Writes a copy of the script in a file. Returns the exit status.
 fn copy_file<R: AllocGlobal + Files + Print + Eprint>(rt: &R, place: &Place<'_>) -> u8 {
+    if is_plan(place.file) {
+        return report_not_copied(rt, place.file);
+    }
     match fs::open(rt, place.file) {
         Ok(file) => copy_reader(rt, place, &mut WatchedReader::new(file)),
         Err(error) => not_opened(rt, place.file, error),

@@ -3,10 +3,11 @@ use Rattle.std.proofs.Common.{ℕ, Result, Ok, Err, OnOk}
 use Rattle.std.specs.List.{All}
 use Rattle.l4_fpage.specs.declared.sizes.PageSize.{PageSize}
 use Rattle.l4_merges.specs.declared.exploring.Explored.{Explored}
+use Rattle.l4_merges.specs.Graphs.{IsGraph}
 use Rattle.l4_merges.specs.Orders.{IsSound, AreDistinct, IsComplete, CountsOrders}
 use Rattle.l4_orders.specs.declared.plans.Plan.{Plan}
 use Rattle.l4_orders.specs.Orders.{IsStart, FindsOrders}
-use Rattle.l4_orders.specs.Turns.{PlanPoint, may_turn, Turns, HasOutcome}
+use Rattle.l4_orders.specs.Turns.{PlanPoint, may_turn, Turns, next_line, HasOutcome}
 use Rattle.l4_orders.specs.Witnesses.{IsWitness}
 use Rattle.l4_orders.proofs.Leaving.{turns_leave_one}
 
@@ -17,13 +18,14 @@ on_ok (Err e) f h = tt
 pub finds_orders : (frames : ℕ) (size : PageSize) (plan : Plan) (start : PlanPoint) (explored : Explored) → IsStart frames size plan start
     → All (IsWitness frames size plan) explored.found.items → IsSound may_turn Turns HasOutcome start explored.found.items → AreDistinct explored.found.items
     → OnOk explored.ended (CountsOrders may_turn Turns start explored.orders) → OnOk explored.ended (IsComplete may_turn Turns HasOutcome start explored.found.items)
-    → FindsOrders frames size plan explored
-finds_orders frames size plan start explored starts witnesses sound distinct counts complete = record {
+    → OnOk explored.ended (IsGraph may_turn Turns next_line HasOutcome start explored.found.items explored.seen.items explored.start) → FindsOrders frames size plan explored
+finds_orders frames size plan start explored starts witnesses sound distinct counts complete drawn = record {
   start = start;
   starts = starts;
   witnesses = witnesses;
   sound = sound;
   distinct = distinct;
+  drawn = drawn;
   complete = on_ok explored.ended (λ all. all (turns_leave_one frames size plan start starts)) complete;
   counted = on_ok explored.ended (λ all. all (turns_leave_one frames size plan start starts)) counts;
 }

@@ -10,3 +10,4 @@ pub mod Stepping
 pub mod Sticking
 pub mod Adding
 pub mod Ruling
+pub mod Placing

@@ -2,8 +2,10 @@ pub mod Plans
 pub mod Turns
 pub mod Orders
 pub mod Reading
+pub mod Drawing
 pub mod Files
 pub mod Telling
+pub mod Drawing
 pub mod Rules
 pub mod Witnesses
 pub mod Inside

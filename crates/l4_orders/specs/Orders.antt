@@ -7,11 +7,12 @@ use Rattle.l4_answers.specs.Reports.{Report}
 use Rattle.l4_shell.specs.Lacking.{LacksNothing}
 use Rattle.l4_shell.specs.Sessions.{State, first_state}
 use Rattle.l4_merges.specs.declared.exploring.Explored.{Explored}
+use Rattle.l4_merges.specs.Graphs.{IsGraph}
 use Rattle.l4_merges.specs.Orders.{IsOrder, IsSound, AreDistinct, AreOrders, FindsEnd, most_orders}
 use Rattle.l4_orders.specs.declared.plans.Plan.{Plan}
 use Rattle.l4_orders.specs.Plans.{none_gone}
 use Rattle.l4_orders.specs.Witnesses.{IsWitness}
-use Rattle.l4_orders.specs.Turns.{PlanPoint, point, AnswersInTurn, may_turn, Turns, HasOutcome}
+use Rattle.l4_orders.specs.Turns.{PlanPoint, point, AnswersInTurn, may_turn, Turns, next_line, HasOutcome}
 
 -- the lines before `unordered` were answered in their order over a machine at boot, and no thread has executed any of its lines
 pub record IsStart (frames : ℕ) (size : PageSize) (plan : Plan) (start : PlanPoint) : Type 0 where
@@ -33,8 +34,12 @@ abbrev pub CountsAll : PlanPoint → Explored → Type 0
 CountsAll start explored =
     (orders : List (List ℕ)) × AreOrders may_turn Turns start orders × (explored.orders ≡ min (length orders) most_orders)
 
+-- the graph has a state for each one that an order reaches, and its turns, each with the line that is executed
+abbrev pub DrawsAll : PlanPoint → Explored → Type 0
+DrawsAll start explored = IsGraph may_turn Turns next_line HasOutcome start explored.found.items explored.seen.items explored.start
+
 -- Each outcome has an order that produces it, whose script is a run with this outcome, and none was found twice. If the search ended by itself, the outcome of every order was found,
--- and the orders were counted.
+-- and the orders were counted. Then the graph of the states is complete.
 pub record FindsOrders (frames : ℕ) (size : PageSize) (plan : Plan) (explored : Explored) : Type 0 where
   pub start : PlanPoint
   pub starts : IsStart frames size plan start
@@ -43,3 +48,4 @@ pub record FindsOrders (frames : ℕ) (size : PageSize) (plan : Plan) (explored 
   pub distinct : AreDistinct explored.found.items
   pub complete : OnOk explored.ended (FindsAll start explored)
   pub counted : OnOk explored.ended (CountsAll start explored)
+  pub drawn : OnOk explored.ended (DrawsAll start explored)

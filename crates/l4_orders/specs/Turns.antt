@@ -18,7 +18,7 @@ use Rattle.l4_sinks.specs.Texts.{AreAnswerTexts}
 use Rattle.l4_orders.specs.declared.plans.Block.{Block}
 use Rattle.l4_orders.specs.declared.plans.Plan.{Plan}
 use Rattle.l4_orders.specs.declared.plans.PlanLine.{PlanLine}
-use Rattle.l4_orders.specs.Plans.{next_of, gone_with}
+use Rattle.l4_orders.specs.Plans.{line_at, next_of, gone_with}
 
 -- STATES
 
@@ -77,6 +77,10 @@ AnswersInTurn old number (line ∷ lines) told new =
 -- the thread at this place has a line left, and runs
 abbrev pub may_turn : PlanPoint → ℕ → Bool
 may_turn p place = option_map_or (λ next. runs p.machine.threads next.0) (next_of p.plan.blocks.items p.gone place) false
+
+-- the number of the next line of the thread at this place
+abbrev pub next_line : PlanPoint → ℕ → ℕ
+next_line p place = option_map_or (λ line. line.number) (line_at p.plan.blocks.items p.gone place) 0
 
 -- The thread at this place executes its next line: the line's call, all steps that come next, and the acts of served threads, as a script
 -- answers the line.

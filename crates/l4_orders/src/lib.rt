@@ -2,6 +2,7 @@
 #![tactic(auto)]
 
 mod executing;
+mod graphs;
 mod lacking;
 mod numbers;
 mod orders;
@@ -14,10 +15,11 @@ mod states;
 mod stuck;
 mod telling;
 
-pub use l4_merges::{Explored, Found, GaveUp};
-pub use orders::all_orders;
+pub use graphs::graph_text;
+pub use l4_merges::{Edge, Explored, Found, GaveUp, Seen, Unwatched, Watch};
+pub use orders::{all_orders, watched_orders};
 pub use parts::{LineFault, PlanFault};
 pub use plans::{Block, Plan, PlanLine};
 pub use reading::read_plan;
 pub use rules::{breaks_any, rules_text};
-pub use telling::{orders_text, witness_text};
+pub use telling::{orders_text, summary_text, witness_text};

@@ -8,8 +8,22 @@ use crate::plans::Plan;
 use crate::replaying::{booted, replay_all};
 use crate::states::PlanState;
 use l4_fpage::PageSize;
-use l4_merges::{Explored, Failure, explore};
+use l4_merges::{Explored, Failure, Unwatched, Watch, explore};
 use std::alloc::Global;
+
+/// Searches all orders of a plan as `watched_orders` does, without reports.
+pub fn all_orders(
+    alloc: Global,
+    frames: u32,
+    size: PageSize,
+    plan: &Plan,
+    most: u64,
+) -> Result<Explored, Failure>
+    requires { frames ≤ max_frames }
+    ensures { IfOk result (FindsOrders frames size plan.now) }
+{
+    watched_orders(alloc, frames, size, plan, most, &mut Unwatched)
+}
 
 /// Searches all orders of a plan on a new kernel with this many frames, 1 to 4,096, of this size, and visits at most `most` states.
 ///
@@ -18,14 +32,16 @@ use std::alloc::Global;
 /// the text of the answers to the queries, and a line `stuck N L` for each thread N that is left before its line L.
 ///
 /// Returns each outcome once, with an order that produces it, and whether every order was followed. The script of each of these orders is
-/// executed once more, from boot, and has this outcome. Returns the failure if a line before `unordered` or such a script could not be executed
+/// executed once more, from boot, and has this outcome. If every order was followed, returns the graph of the states too. `watch` gets a report
+/// after each state. Returns the failure if a line before `unordered` or such a script could not be executed
 /// for lack of memory, or because the history is full.
-pub fn all_orders(
+pub fn watched_orders<W: Watch>(
     alloc: Global,
     frames: u32,
     size: PageSize,
     plan: &Plan,
     most: u64,
+    watch: &mut W,
 ) -> Result<Explored, Failure>
     requires { frames ≤ max_frames }
     ensures { IfOk result (FindsOrders frames size plan.now) }
@@ -42,7 +58,7 @@ pub fn all_orders(
         gone,
         line,
     };
-    let explored = explore(alloc, state, most);
+    let explored = explore(alloc, state, most, watch);
     replay_all(alloc, frames, size, plan, explored.found.as_slice())?;
     Ok(explored)
 }

@@ -71,7 +71,7 @@ impl<'a> PlanState<'a> {
 }
 
 impl<'a> Machine for PlanState<'a> {
-    ghost use Rattle.l4_orders.specs.Turns.{may_turn, Turns, turns_left, HasOutcome};
+    ghost use Rattle.l4_orders.specs.Turns.{may_turn, Turns, next_line, turns_left, HasOutcome};
     ghost use Rattle.l4_orders.specs.Inside.Words.{HasWords, one_point};
     ghost use Rattle.std.specs.Prelude.{length};
     ghost use Rattle.l4_orders.specs.Inside.Laws.{AreAkin, turn_within, turn_falls, own_point, turn_stays};
@@ -81,6 +81,8 @@ impl<'a> Machine for PlanState<'a> {
     ghost Turns = { Turns };
 
     ghost threads = { λ s. length s.plan.blocks.items };
+
+    ghost name = { next_line };
 
     ghost left = { turns_left };
 
@@ -120,6 +122,13 @@ impl<'a> Machine for PlanState<'a> {
             gone,
             line: next_number(self.line)?,
         })
+    }
+
+    fn name(&self, thread: usize) -> u64 {
+        match self.plan.line_at(self.gone.as_slice(), thread) {
+            Some(line) => line.number,
+            None => 0,
+        }
     }
 
     fn outcome(&self) -> Result<Vec<u8>, Failure> {

@@ -139,11 +139,24 @@ fn put_ended(alloc: Global, explored: &Explored, out: &mut Vec<u8>) -> Result<()
 }
 
 /// Appends the last line: the numbers of outcomes, orders and states, or why the search ended early.
-fn put_summary(alloc: Global, explored: &Explored, out: &mut Vec<u8>) -> Result<(), AllocError>
+pub(crate) fn put_summary(
+    alloc: Global,
+    explored: &Explored,
+    out: &mut Vec<u8>,
+) -> Result<(), AllocError>
     ensures { OnOk result (out.new.items ≡ out.old.items ++ summary_text explored.now) }
 {
     put_count(alloc, explored.found.len() as u64, b" outcome", out)?;
     put_ended(alloc, explored, out)
+}
+
+/// Returns the text of the summary.
+pub fn summary_text(alloc: Global, explored: &Explored) -> Result<Vec<u8>, AllocError>
+    ensures { IfOk result (λ text. text.items ≡ summary_text explored.now) }
+{
+    let mut out = Vec::new(alloc);
+    put_summary(alloc, explored, &mut out)?;
+    Ok(out)
 }
 
 /// Returns the text of the outcomes, each with an order that produces it unless `brief`, and of the summary.
