@@ -34,6 +34,15 @@ pub(crate) struct Wanted {
     pub(crate) dot: bool,
 }
 
+/// Returns what is wanted, by these options.
+pub(crate) fn wanted(witness: Option<u32>, brief: bool, dot: bool) -> Wanted {
+    Wanted {
+        witness,
+        brief,
+        dot,
+    }
+}
+
 /// Returns the code of a line that cannot be part of a plan.
 pub(crate) fn code_of(fault: LineFault) -> &'static str {
     match fault {

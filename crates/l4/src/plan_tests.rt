@@ -52,7 +52,10 @@ fn print_rules<R: Print>(rt: &R, tap: bool, rules: &str) -> io::Result<()> {
         return rt.print(rules);
     }
     let mut rest = rules;
-    while let Some((line, later)) = rest.split_once("\n") {
+    for _ in 0..rules.len() {
+        let Some((line, later)) = rest.split_once("\n") else {
+            return Ok(());
+        };
         println!(rt; "# {line}")?;
         rest = later;
     }

@@ -198,6 +198,6 @@ module _ {S : Type 0} (enabled : S → ℕ → Bool) (Turns : S → ℕ → S �
     only_empty (first ∷ rest) t is = absurd (false≢true (sym (over first) ∙ is.run.0))
 
   -- the number that a function hands on
-  pub counted_as : {E : Type 0} (s : S) (count : ℕ) (r : Result Reached E) → IfOk r (λ k. k.orders ≡ count) → CountsOrders enabled Turns s count → IfOk r (λ k. CountsOrders enabled Turns s k.orders)
-  counted_as s count (Ok k) same counts = subst (λ (m : ℕ). CountsOrders enabled Turns s m) (sym same) counts
-  counted_as s count (Err e) same counts = tt
+  pub counted_as : {E : Type 0} (s : S) (count noted : ℕ) (r : Result Reached E) → noted ≡ count → IfOk r (λ k. k.orders ≡ noted) → CountsOrders enabled Turns s count → IfOk r (λ k. CountsOrders enabled Turns s k.orders)
+  counted_as s count noted (Ok k) is same counts = subst (λ (m : ℕ). CountsOrders enabled Turns s m) (sym (same ∙ is)) counts
+  counted_as s count noted (Err e) is same counts = tt

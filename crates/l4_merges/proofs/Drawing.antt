@@ -227,5 +227,5 @@ module _ {S : Type 0} (enabled : S → ℕ → Bool) (Turns : S → ℕ → S �
     leads k lt thread t to turns there = (
       there.1,
       sym (one_state t (states to) there.0.key.items ((stays (states k) thread t turns (states to)).0 (akin_on own stays start (at k lt).0 (states k) (states to) (at k lt).1 (akin to there.1)))
-      there.3 (subst (λ (e : Seen). HasKey (states to) e.key.items) (entry_is to there.0 there.1 there.2) (at to there.1).2)),
+          there.3 (subst (λ (e : Seen). HasKey (states to) e.key.items) (entry_is to there.0 there.1 there.2) (at to there.1).2)),
     )

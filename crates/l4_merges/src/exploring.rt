@@ -1,5 +1,5 @@
 //! The depth-first search through all orders.
-ghost use Rattle.std.specs.Prelude.{◌≡◌, ℕ, ◌<◌, length, ◌++◌, List, ◌∷◌, [], All, false, is_some, IfOk, IfSome, OnOk};
+ghost use Rattle.std.specs.Prelude.{◌≡◌, ℕ, ◌<◌, length, ◌++◌, List, ◌∷◌, [], All, true, false, is_some, IfOk, IfSome, OnOk};
 ghost use Rattle.l4_merges.specs.Orders.{IsOver, IsComplete, IsSound, AreDistinct, CountsOrders, FindsOn};
 ghost use Rattle.l4_merges.specs.Graphs.{IsFoundAt, HasOutcomeAt, IsPlacedAt, IsNoted, Grows, AreExplored, IsGraph};
 
@@ -214,6 +214,44 @@ fn known(search: &Search, slot: usize, key: &[u32]) -> Option<Reached>
     reached_by(search.seen.as_slice(), search.earlier.as_slice(), hint, key)
 }
 
+/// Adds a turn to the path. Returns false if there is not enough memory.
+fn push_turn(path: &mut Vec<usize>, thread: usize) -> bool
+    ensures { result ≡ true → path.new.items ≡ path.old.items ++ thread ∷ [] }
+{
+    if path.reserve(1).is_err() {
+        return false;
+    }
+    path.push_reserved(thread);
+    true
+}
+
+/// Adds an edge for the thread's turn in a state, which leads to the state at this place. Returns false if there is not enough memory.
+fn add_edge<M: Machine>(state: &M, thread: usize, to: usize, edges: &mut Vec<Edge>) -> bool
+    ensures { result ≡ true
+        → edges.new.items
+        ≡ edges.old.items
+        ++ (record { thread = thread; name = M.name state.now thread; to = to }) ∷ [] }
+{
+    if edges.reserve(1).is_err() {
+        return false;
+    }
+    let name = state.name(thread);
+    edges.push_reserved(Edge { thread, name, to });
+    true
+}
+
+/// Returns the entry of a state.
+fn entry(key: Vec<u32>, orders: u64, edges: Vec<Edge>, end: Option<usize>) -> Seen
+    ensures { result ≡ record { key = key; orders = orders; edges = edges; end = end } }
+{
+    Seen {
+        key,
+        orders,
+        edges,
+        end,
+    }
+}
+
 /// Searches all orders from a state. Returns its place in the graph, and the number of its orders.
 fn search_from<M: Machine, W: Watch>(
     alloc: Global,
@@ -252,24 +290,18 @@ fn search_from<M: Machine, W: Watch>(
             Ok(next) => next,
             Err(failure) => return Err(given_up(failure)),
         };
-        if search.path.reserve(1).is_err() {
+        if !push_turn(&mut search.path, thread) {
             return Err(GaveUp::Memory);
         }
-        search.path.push_reserved(thread);
         let reached = match search_from(alloc, next, search, watch) {
             Ok(reached) => reached,
             Err(why) => return Err(why),
         };
         step_back(&mut search.path);
         orders = orders.saturating_add(reached.orders);
-        if edges.reserve(1).is_err() {
+        if !add_edge(&state, thread, reached.place, &mut edges) {
             return Err(GaveUp::Memory);
         }
-        edges.push_reserved(Edge {
-            thread,
-            name: state.name(thread),
-            to: reached.place,
-        });
     }
     watch.report(search.seen.len(), search.found.len());
     if edges.is_empty() {
@@ -277,28 +309,9 @@ fn search_from<M: Machine, W: Watch>(
             Ok(place) => Some(place),
             Err(why) => return Err(why),
         };
-        let orders = 1;
-        return keep(
-            Seen {
-                key,
-                orders,
-                edges,
-                end,
-            },
-            slot,
-            search,
-        );
+        return keep(entry(key, 1, edges, end), slot, search);
     }
-    keep(
-        Seen {
-            key,
-            orders,
-            edges,
-            end: None,
-        },
-        slot,
-        search,
-    )
+    keep(entry(key, orders, edges, None), slot, search)
 }
 
 /// Returns hints that lead nowhere.
@@ -343,11 +356,10 @@ pub fn explore<M: Machine, W: Watch>(alloc: Global, state: M, most: u64, watch: 
         path: _,
         budget,
     } = search;
-    let states = most.saturating_sub(budget);
     match searched {
         Ok(reached) => Explored {
             found,
-            states,
+            states: most.saturating_sub(budget),
             orders: reached.orders,
             seen,
             start: reached.place,
@@ -355,7 +367,7 @@ pub fn explore<M: Machine, W: Watch>(alloc: Global, state: M, most: u64, watch: 
         },
         Err(why) => Explored {
             found,
-            states,
+            states: most.saturating_sub(budget),
             orders: 0,
             seen,
             start: 0,

@@ -37,17 +37,17 @@ loop-thread-init g t c = record {
 pub returns-in-Err-search_from-clause-on : goal.returns-in-Err-search_from-clause-on
 returns-in-Err-search_from-clause-on g t c =
     let inv = c.loop-thread.invariant in
-    let stepped : c.push_reserved.new.self.items ≡ c.args.search.now.path.items ++ c.loop-thread.thread ∷ [] =
-    c.push_reserved.ensures.items ∙ ap (λ (w : List ℕ). w ++ c.loop-thread.thread ∷ []) (c.reserve.ensures.items ∙ inv.path) in
-    on_turned g.M.Machine.enabled g.M.Machine.Turns g.M.Machine.HasOutcome c.args.search.now.path.items c.push_reserved.new.self.items c.args.state c.loop-thread.thread c.in-Ok-after_turn.next
+    let stepped : c.push_turn.new.path.items ≡ c.args.search.now.path.items ++ c.loop-thread.thread ∷ [] =
+    c.push_turn.ensures c.if-not-push_turn.false ∙ ap (λ (w : List ℕ). w ++ c.loop-thread.thread ∷ []) inv.path in
+    on_turned g.M.Machine.enabled g.M.Machine.Turns g.M.Machine.HasOutcome c.args.search.now.path.items c.push_turn.new.path.items c.args.state c.loop-thread.thread c.in-Ok-after_turn.next
     c.args.search.now.found.items c.loop-thread.search.found.items c.search_from.new.search.found.items stepped (sym c.enabled.ensures ∙ c.if-not-enabled.false) c.in-Ok-after_turn.ensures inv.on c.search_from.ensures.on
 
-pub returns-then-is_err-2-clause-on : goal.returns-then-is_err-2-clause-on
-returns-then-is_err-2-clause-on g t c =
+pub returns-then-not-add_edge-clause-on : goal.returns-then-not-add_edge-clause-on
+returns-then-not-add_edge-clause-on g t c =
     let inv = c.loop-thread.invariant in
-    let stepped : c.push_reserved.new.self.items ≡ c.args.search.now.path.items ++ c.loop-thread.thread ∷ [] =
-    c.push_reserved.ensures.items ∙ ap (λ (w : List ℕ). w ++ c.loop-thread.thread ∷ []) (c.reserve.ensures.items ∙ inv.path) in
-    on_turned g.M.Machine.enabled g.M.Machine.Turns g.M.Machine.HasOutcome c.args.search.now.path.items c.push_reserved.new.self.items c.args.state c.loop-thread.thread c.in-Ok-after_turn.next
+    let stepped : c.push_turn.new.path.items ≡ c.args.search.now.path.items ++ c.loop-thread.thread ∷ [] =
+    c.push_turn.ensures c.if-not-push_turn.false ∙ ap (λ (w : List ℕ). w ++ c.loop-thread.thread ∷ []) inv.path in
+    on_turned g.M.Machine.enabled g.M.Machine.Turns g.M.Machine.HasOutcome c.args.search.now.path.items c.push_turn.new.path.items c.args.state c.loop-thread.thread c.in-Ok-after_turn.next
     c.args.search.now.found.items c.loop-thread.search.found.items c.search_from.new.search.found.items stepped (sym c.enabled.ensures ∙ c.if-not-enabled.false) c.in-Ok-after_turn.ensures inv.on c.search_from.ensures.on
 
 pub loop-thread-preserved : goal.loop-thread-preserved
@@ -55,16 +55,16 @@ loop-thread-preserved g t c =
     let inv = c.loop-thread.invariant in
     let found = c.loop-thread.search.found.items in
     let later = c.search_from.new.search.found.items in
-    let edge : Edge = record { thread = c.loop-thread.thread; name = c.name.result; to = c.in-Ok-search_from.reached.place } in
-    let stepped : c.push_reserved.new.self.items ≡ c.args.search.now.path.items ++ c.loop-thread.thread ∷ [] =
-    c.push_reserved.ensures.items ∙ ap (λ (w : List ℕ). w ++ c.loop-thread.thread ∷ []) (c.reserve.ensures.items ∙ inv.path) in
+    let edge : Edge = record { thread = c.loop-thread.thread; name = g.M.Machine.name c.args.state c.loop-thread.thread; to = c.in-Ok-search_from.reached.place } in
+    let stepped : c.push_turn.new.path.items ≡ c.args.search.now.path.items ++ c.loop-thread.thread ∷ [] =
+    c.push_turn.ensures c.if-not-push_turn.false ∙ ap (λ (w : List ℕ). w ++ c.loop-thread.thread ∷ []) inv.path in
     let able : g.M.Machine.enabled c.args.state c.loop-thread.thread ≡ true = sym c.enabled.ensures ∙ c.if-not-enabled.false in
     let on = c.search_from.ensures.on in
     let turns = c.in-Ok-after_turn.ensures in
     let grown = c.in-Ok-search_from.ensures.grows in
     record {
       path = c.step_back.ensures c.args.search.now.path.items c.loop-thread.thread (c.in-Ok-search_from.ensures.path ∙ stepped);
-      on = on_turned g.M.Machine.enabled g.M.Machine.Turns g.M.Machine.HasOutcome c.args.search.now.path.items c.push_reserved.new.self.items c.args.state c.loop-thread.thread c.in-Ok-after_turn.next
+      on = on_turned g.M.Machine.enabled g.M.Machine.Turns g.M.Machine.HasOutcome c.args.search.now.path.items c.push_turn.new.path.items c.args.state c.loop-thread.thread c.in-Ok-after_turn.next
           c.args.search.now.found.items found later stepped able turns inv.on on;
       explored = explored_among g.M.Machine.enabled g.M.Machine.Turns g.M.Machine.name g.M.Machine.HasOutcome g.M.Machine.HasKey (g.M.Machine.Akin c.in-Ok-after_turn.next) (g.M.Machine.Akin c.args.state) c.search_from.new.search.seen.items later
           (λ u. (g.met.M.Machine.stays c.args.state c.loop-thread.thread c.in-Ok-after_turn.next turns u).0) c.in-Ok-search_from.ensures.explored;
@@ -73,8 +73,8 @@ loop-thread-preserved g t c =
       orders = below_turn g.M.Machine.enabled g.M.Machine.Turns c.args.state c.loop-thread.thread c.in-Ok-after_turn.next c.loop-thread.orders c.in-Ok-search_from.reached.orders c.saturating_add-orders.result able
           turns c.in-Ok-search_from.ensures.orders c.saturating_add-orders.ensures inv.orders;
       edges = one_edge g.M.Machine.enabled g.M.Machine.Turns g.M.Machine.name (IsPlacedAt g.M.Machine.HasKey c.loop-thread.search.seen.items) (IsPlacedAt g.M.Machine.HasKey c.search_from.new.search.seen.items) c.args.state c.loop-thread.thread
-          c.loop-thread.edges.items c.push_reserved-in-loop-thread.new.self.items edge c.in-Ok-after_turn.next (λ u k. placed_on g.M.Machine.enabled g.M.Machine.Turns g.M.Machine.HasKey c.in-Ok-after_turn.next c.loop-thread.search.seen.items c.search_from.new.search.seen.items u k grown)
-          (c.push_reserved-in-loop-thread.ensures.items ∙ ap (λ (w : List Edge). w ++ edge ∷ []) c.reserve-in-loop-thread.ensures.items) refl c.name.ensures able turns c.in-Ok-search_from.ensures.place inv.edges;
+          c.loop-thread.edges.items c.add_edge.new.edges.items edge c.in-Ok-after_turn.next (λ u k. placed_on g.M.Machine.enabled g.M.Machine.Turns g.M.Machine.HasKey c.in-Ok-after_turn.next c.loop-thread.search.seen.items c.search_from.new.search.seen.items u k grown)
+          (c.add_edge.ensures c.if-not-add_edge.false) refl refl able turns c.in-Ok-search_from.ensures.place inv.edges;
       grows = grows_turn g.M.Machine.enabled g.M.Machine.Turns g.M.Machine.HasKey c.args.state c.loop-thread.thread c.in-Ok-after_turn.next c.args.search.now.seen.items c.loop-thread.search.seen.items c.search_from.new.search.seen.items able turns inv.grows grown;
     }
 
@@ -87,8 +87,8 @@ search_from-requires g t c κs within =
         (
           within.1,
           explored_among g.M.Machine.enabled g.M.Machine.Turns g.M.Machine.name g.M.Machine.HasOutcome g.M.Machine.HasKey (g.M.Machine.Akin c.args.state) (g.M.Machine.Akin c.in-Ok-after_turn.next)
-            c.loop-thread.search.seen.items c.loop-thread.search.found.items
-            (λ u. (g.met.M.Machine.stays c.args.state c.loop-thread.thread c.in-Ok-after_turn.next c.in-Ok-after_turn.ensures u).1) c.loop-thread.invariant.explored,
+              c.loop-thread.search.seen.items c.loop-thread.search.found.items
+              (λ u. (g.met.M.Machine.stays c.args.state c.loop-thread.thread c.in-Ok-after_turn.next c.in-Ok-after_turn.ensures u).1) c.loop-thread.invariant.explored,
         ),
       ),
     )
@@ -140,18 +140,18 @@ returns-then-is_empty-clause-orders g t c =
     let inv = c.loop-thread.invariant in
     let edges = all_edges g.M.Machine.enabled g.M.Machine.Turns g.M.Machine.name (IsPlacedAt g.M.Machine.HasKey c.loop-thread.search.seen.items) (g.M.Machine.threads c.args.state) c.loop-thread.thread c.args.state c.loop-thread.edges.items (omega (arith, c.loop-thread-test.false, c.threads-thread-end.ensures)) (g.met.M.Machine.within c.args.state) inv.edges in
     let over = none_goes_on g.M.Machine.enabled g.M.Machine.Turns g.M.Machine.name (IsPlacedAt g.M.Machine.HasKey c.loop-thread.search.seen.items) c.args.state c.loop-thread.edges.items (when_empty c.is_empty.result (vec_len c.loop-thread.edges) _ c.is_empty.ensures (omega (arith, c.loop-thread.edges.ok.0)) c.if-is_empty.true) edges in
-    counted_as g.M.Machine.enabled g.M.Machine.Turns c.args.state 1 c.keep.result c.keep.ensures.orders (counts_over g.M.Machine.enabled g.M.Machine.Turns c.args.state over)
+    counted_as g.M.Machine.enabled g.M.Machine.Turns c.args.state 1 c.entry.result.orders c.keep.result (ap (λ (k : Seen). k.orders) c.entry.ensures) c.keep.ensures.orders (counts_over g.M.Machine.enabled g.M.Machine.Turns c.args.state over)
 
 pub returns-then-is_empty-clause-place : goal.returns-then-is_empty-clause-place
 returns-then-is_empty-clause-place g t c =
     let one : Seen = record { key = c.in-Ok.key; orders = 1; edges = c.loop-thread.edges; end = Some c.in-Ok-note_outcome.place } in
-    placed_kept g.M.Machine.HasKey c.keep.result c.note_outcome.new.search.seen.items c.keep.new.search.seen.items one c.args.state c.keep.ensures.seen c.keep.ensures.place c.in-Ok.ensures
+    placed_kept g.M.Machine.HasKey c.keep.result c.note_outcome.new.search.seen.items c.keep.new.search.seen.items one c.args.state (map_ok _ _ c.keep.result (λ e. e ∙ ap (λ (k : Seen). c.note_outcome.new.search.seen.items ++ k ∷ []) c.entry.ensures) c.keep.ensures.seen) c.keep.ensures.place c.in-Ok.ensures
 
 pub returns-then-is_empty-clause-grows : goal.returns-then-is_empty-clause-grows
 returns-then-is_empty-clause-grows g t c =
     let one : Seen = record { key = c.in-Ok.key; orders = 1; edges = c.loop-thread.edges; end = Some c.in-Ok-note_outcome.place } in
     let inv = c.loop-thread.invariant in
-    map_ok _ _ c.keep.result (λ e. grows_push g.M.Machine.enabled g.M.Machine.Turns g.M.Machine.HasKey c.args.state c.args.search.now.seen.items c.loop-thread.search.seen.items c.keep.new.search.seen.items one (e ∙ ap (λ (l : List Seen). l ++ one ∷ []) c.note_outcome.ensures.seen) c.in-Ok.ensures inv.grows) c.keep.ensures.seen
+    map_ok _ _ c.keep.result (λ e. grows_push g.M.Machine.enabled g.M.Machine.Turns g.M.Machine.HasKey c.args.state c.args.search.now.seen.items c.loop-thread.search.seen.items c.keep.new.search.seen.items one (e ∙ ap (λ (k : Seen). c.note_outcome.new.search.seen.items ++ k ∷ []) c.entry.ensures ∙ ap (λ (l : List Seen). l ++ one ∷ []) c.note_outcome.ensures.seen) c.in-Ok.ensures inv.grows) c.keep.ensures.seen
 
 pub returns-then-is_empty-clause-explored : goal.returns-then-is_empty-clause-explored
 returns-then-is_empty-clause-explored g t c =
@@ -161,7 +161,7 @@ returns-then-is_empty-clause-explored g t c =
     let one : Seen = record { key = c.in-Ok.key; orders = 1; edges = c.loop-thread.edges; end = Some c.in-Ok-note_outcome.place } in
     map_ok _ _ c.keep.result
     (λ e. explored_at g.M.Machine.enabled g.M.Machine.Turns g.M.Machine.name g.M.Machine.HasOutcome g.M.Machine.HasKey (g.M.Machine.Akin c.args.state) (c.loop-thread.search.seen.items ++ one ∷ []) c.keep.new.search.seen.items c.note_outcome.new.search.found.items c.keep.new.search.found.items
-    (e ∙ ap (λ (l : List Seen). l ++ one ∷ []) c.note_outcome.ensures.seen) c.keep.ensures.found
+    (e ∙ ap (λ (k : Seen). c.note_outcome.new.search.seen.items ++ k ∷ []) c.entry.ensures ∙ ap (λ (l : List Seen). l ++ one ∷ []) c.note_outcome.ensures.seen) c.keep.ensures.found
     (explored_push g.M.Machine.enabled g.M.Machine.Turns g.M.Machine.name g.M.Machine.HasOutcome g.M.Machine.HasKey g.M.Machine.Akin g.met.M.Machine.one_state c.loop-thread.search.seen.items c.args.state one c.note_outcome.new.search.found.items c.in-Ok.ensures
     (explored_still g.M.Machine.enabled g.M.Machine.Turns g.M.Machine.name g.M.Machine.HasOutcome g.M.Machine.HasKey (g.M.Machine.Akin c.args.state) c.loop-thread.search.seen.items c.loop-thread.search.found.items c.note_outcome.new.search.found.items c.note_outcome.ensures.on.still c.note_outcome.ensures.on.grows inv.explored)
     (finds_over g.M.Machine.enabled g.M.Machine.Turns g.M.Machine.HasOutcome (g.M.Machine.threads c.args.state) c.args.state c.note_outcome.new.search.found.items (g.met.M.Machine.within c.args.state)
@@ -191,20 +191,20 @@ returns-clause-orders g t c =
     let inv = c.loop-thread.invariant in
     let edges = all_edges g.M.Machine.enabled g.M.Machine.Turns g.M.Machine.name (IsPlacedAt g.M.Machine.HasKey c.loop-thread.search.seen.items) (g.M.Machine.threads c.args.state) c.loop-thread.thread c.args.state c.loop-thread.edges.items (omega (arith, c.loop-thread-test.false, c.threads-thread-end.ensures)) (g.met.M.Machine.within c.args.state) inv.edges in
     let some = some_goes_on g.M.Machine.enabled g.M.Machine.Turns g.M.Machine.name (IsPlacedAt g.M.Machine.HasKey c.loop-thread.search.seen.items) c.args.state c.loop-thread.edges.items (when_not c.is_empty.result (vec_len c.loop-thread.edges) _ c.is_empty.ensures (omega (arith, c.loop-thread.edges.ok.0)) c.if-is_empty.false) edges in
-    counted_as g.M.Machine.enabled g.M.Machine.Turns c.args.state c.loop-thread.orders c.keep-2.result c.keep-2.ensures.orders
+    counted_as g.M.Machine.enabled g.M.Machine.Turns c.args.state c.loop-thread.orders c.entry-2.result.orders c.keep-2.result (ap (λ (k : Seen). k.orders) c.entry-2.ensures) c.keep-2.ensures.orders
     (counts_all g.M.Machine.enabled g.M.Machine.Turns (g.M.Machine.threads c.args.state) c.loop-thread.thread c.args.state c.loop-thread.orders (omega (arith, c.loop-thread-test.false, c.threads-thread-end.ensures))
     (g.met.M.Machine.within c.args.state) some inv.orders)
 
 pub returns-clause-place : goal.returns-clause-place
 returns-clause-place g t c =
     let one : Seen = record { key = c.in-Ok.key; orders = c.loop-thread.orders; edges = c.loop-thread.edges; end = None } in
-    placed_kept g.M.Machine.HasKey c.keep-2.result c.loop-thread.search.seen.items c.keep-2.new.search.seen.items one c.args.state c.keep-2.ensures.seen c.keep-2.ensures.place c.in-Ok.ensures
+    placed_kept g.M.Machine.HasKey c.keep-2.result c.loop-thread.search.seen.items c.keep-2.new.search.seen.items one c.args.state (map_ok _ _ c.keep-2.result (λ e. e ∙ ap (λ (k : Seen). c.loop-thread.search.seen.items ++ k ∷ []) c.entry-2.ensures) c.keep-2.ensures.seen) c.keep-2.ensures.place c.in-Ok.ensures
 
 pub returns-clause-grows : goal.returns-clause-grows
 returns-clause-grows g t c =
     let one : Seen = record { key = c.in-Ok.key; orders = c.loop-thread.orders; edges = c.loop-thread.edges; end = None } in
     let inv = c.loop-thread.invariant in
-    map_ok _ _ c.keep-2.result (λ e. grows_push g.M.Machine.enabled g.M.Machine.Turns g.M.Machine.HasKey c.args.state c.args.search.now.seen.items c.loop-thread.search.seen.items c.keep-2.new.search.seen.items one e c.in-Ok.ensures inv.grows) c.keep-2.ensures.seen
+    map_ok _ _ c.keep-2.result (λ e. grows_push g.M.Machine.enabled g.M.Machine.Turns g.M.Machine.HasKey c.args.state c.args.search.now.seen.items c.loop-thread.search.seen.items c.keep-2.new.search.seen.items one (e ∙ ap (λ (k : Seen). c.loop-thread.search.seen.items ++ k ∷ []) c.entry-2.ensures) c.in-Ok.ensures inv.grows) c.keep-2.ensures.seen
 
 pub returns-clause-explored : goal.returns-clause-explored
 returns-clause-explored g t c =
@@ -214,7 +214,7 @@ returns-clause-explored g t c =
     let one : Seen = record { key = c.in-Ok.key; orders = c.loop-thread.orders; edges = c.loop-thread.edges; end = None } in
     map_ok _ _ c.keep-2.result
     (λ e. explored_at g.M.Machine.enabled g.M.Machine.Turns g.M.Machine.name g.M.Machine.HasOutcome g.M.Machine.HasKey (g.M.Machine.Akin c.args.state) (c.loop-thread.search.seen.items ++ one ∷ []) c.keep-2.new.search.seen.items c.loop-thread.search.found.items c.keep-2.new.search.found.items
-    e c.keep-2.ensures.found
+    (e ∙ ap (λ (k : Seen). c.loop-thread.search.seen.items ++ k ∷ []) c.entry-2.ensures) c.keep-2.ensures.found
     (explored_push g.M.Machine.enabled g.M.Machine.Turns g.M.Machine.name g.M.Machine.HasOutcome g.M.Machine.HasKey g.M.Machine.Akin g.met.M.Machine.one_state c.loop-thread.search.seen.items c.args.state one c.loop-thread.search.found.items c.in-Ok.ensures inv.explored
     (finds_all g.M.Machine.enabled g.M.Machine.Turns g.M.Machine.HasOutcome (g.M.Machine.threads c.args.state) c.args.state c.loop-thread.search.found.items (g.met.M.Machine.within c.args.state)
     (λ k lt. inv.from k (omega (arith, lt, c.loop-thread-test.false, c.threads-thread-end.ensures))) some)
