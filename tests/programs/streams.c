@@ -7,6 +7,7 @@
  *   FILE_READ_BYTES=N, FILE_WRITE_BYTES=N    the same for files that the program opened
  *   FILE_READ_FAILS=K, FILE_WRITE_FAILS=K    read or write K of these files fails, and no other
  *   FILE_WRITE_NONE=K    write K to these files writes 0 bytes, and no other
+ *   FILE_SYNC_FAILS=K    synchronization K of these files fails, and no other
  *   MEMORY_FAILS=K  allocation K fails, and no other
  *   MEMORY_ENDS=K   from read K on every allocation fails
  */
@@ -78,6 +79,15 @@ ssize_t write(int file, const void *bytes, size_t count) {
         count = at_most(count, setting("WRITE_BYTES"));
     }
     return syscall(SYS_write, file, bytes, count);
+}
+
+int fsync(int file) {
+    static long calls;
+    if (++calls == setting("FILE_SYNC_FAILS")) {
+        errno = EIO;
+        return -1;
+    }
+    return syscall(SYS_fsync, file);
 }
 
 extern void *__libc_malloc(size_t);

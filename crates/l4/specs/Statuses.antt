@@ -16,8 +16,9 @@ use Rattle.l4_text.specs.declared.faults.RunFault.{RunFault}
 use Rattle.l4_saved.specs.declared.following.HistoryFault.{HistoryFault}
 use Rattle.l4_saved.specs.declared.following.HistoryFault.TheVariants.{Memory, Write, NotNext, OtherAnswer}
 use Rattle.l4_history.specs.declared.asking.WhyResult.{WhyResult}
-use Rattle.l4_history.specs.declared.asking.WhyResult.TheVariants.{Told}
-use Rattle.l4_history.specs.declared.asking.Presence.TheVariants.{Present}
+use Rattle.l4_history.specs.declared.asking.WhyResult.TheVariants.{Told, Refused}
+use Rattle.l4_history.specs.declared.asking.Presence.{Presence}
+use Rattle.l4_history.specs.declared.asking.Presence.TheVariants.{Present, Absent, NoThread}
 
 -- run and history: 1 where a refused line ended a strict script
 abbrev pub script_status : Result Ended RunFault → ℕ
@@ -57,11 +58,22 @@ judged_status (Ok agrees) = if agrees then 0 else 1
 judged_status (Err (OfList (Stopped fault))) = run_status fault
 judged_status (Err fault) = 2
 
--- why: 1 where the page is not present, where there is no such thread, or where a refused line ended a strict script
+-- 1 where the page is not present, or where there is no such thread
+abbrev pub page_status : Presence → ℕ
+page_status Present = 0
+page_status Absent = 1
+page_status NoThread = 1
+
+-- why: the same, and 1 where a refused line ended a strict script
 abbrev pub why_status : Result WhyResult RunFault → ℕ
-why_status (Ok (Told Present)) = 0
-why_status (Ok _) = 1
+why_status (Ok (Told found)) = page_status found
+why_status (Ok (Refused reason)) = 1
 why_status (Err fault) = run_status fault
+
+-- why --from: the same, and 2 where the entries are not a legal history
+abbrev pub saved_why_status : Result Presence HistoryFault → ℕ
+saved_why_status (Ok found) = page_status found
+saved_why_status (Err fault) = history_status (Err fault)
 
 -- plan: 1 where there is no plan
 abbrev pub plan_status : Result Bool RunFault → ℕ

@@ -13,9 +13,10 @@ mod recorded;
 mod reports;
 mod segments;
 mod tested;
+mod whys;
 
 ghost use Rattle.std.specs.Prelude.{◌≡◌, IfErr};
-ghost use Rattle.l4.specs.Statuses.{script_status, judged_status, why_status, plan_status, check_status, text_status};
+ghost use Rattle.l4.specs.Statuses.{script_status, judged_status, page_status, why_status, plan_status, check_status, text_status};
 ghost use Rattle.l4_options.specs.Ranges.{IsFrameCount, IsInRange};
 
 use l4_decode::{Reading, decode};
@@ -48,6 +49,7 @@ use std::rt::Files;
 use std::time::Clock;
 use std::{fs, io};
 use tested::test;
+use whys::why_in;
 
 const NOT_FOUND: u8 = 1;
 
@@ -126,6 +128,20 @@ fn judged<R: Read, W: Write>(
     }
 }
 
+/// Reports that there is no thread with a page. Returns the exit status.
+pub(crate) fn page_told(rt: &impl Eprint, found: Presence) -> u8
+    ensures { result ≡ page_status found }
+{
+    match found {
+        Presence::Present => 0,
+        Presence::Absent => NOT_FOUND,
+        Presence::NoThread => {
+            report_no_thread(rt);
+            NOT_FOUND
+        }
+    }
+}
+
 /// Reports why a page is not present, or why a line was refused. Returns the exit status.
 fn why_ended<R: Read, W: Write>(
     rt: &impl Eprint,
@@ -142,14 +158,7 @@ fn why_ended<R: Read, W: Write>(
         Err(fault) => return stopped(rt, fault, file, cause(fault, reader, writer)),
     };
     warn_of_cut_line(rt, reader, file);
-    match found {
-        Presence::Present => 0,
-        Presence::Absent => NOT_FOUND,
-        Presence::NoThread => {
-            report_no_thread(rt);
-            NOT_FOUND
-        }
-    }
+    page_told(rt, found)
 }
 
 /// Reports why a region has no plan. Returns the exit status.
@@ -258,6 +267,21 @@ fn run<R: AllocGlobal + Files + Input + Print + Eprint>(
         answered
     };
     script_ended(rt, answered, file, &reader, &output)
+}
+
+/// Answers a script. If a file is named, writes its history to it.
+fn run_script<R: AllocGlobal + Files + Input + Print + Eprint>(
+    rt: &R,
+    script: &ScriptOptions,
+    notes: Annotations,
+    history_to: Option<String>,
+) -> u8
+    requires { IsFrameCount script.now.frames }
+{
+    match history_to {
+        None => run(rt, script, notes),
+        Some(name) => run_to(rt, script, notes.style, name.as_str()),
+    }
 }
 
 /// Writes the history of a script.
@@ -393,11 +417,8 @@ fn execute<R: AllocGlobal + Files + Input + Print + Eprint + Clock>(rt: &R, aske
             explain,
             number,
             moves,
-            history_to,
-        } => match history_to {
-            None => run(rt, &script, annotations(strict, explain, number, moves)),
-            Some(name) => run_to(rt, &script, Style { strict, explain }, name.as_str()),
-        },
+            history_to: to,
+        } => run_script(rt, &script, annotations(strict, explain, number, moves), to),
         Options::History {
             script,
             strict,
@@ -411,7 +432,11 @@ fn execute<R: AllocGlobal + Files + Input + Print + Eprint + Clock>(rt: &R, aske
             thread,
             page,
         } => tell_why(rt, &script, strict, ThreadPage { thread, page }),
-        Options::WhySegments { .. } => NOT_UNDERSTOOD,
+        Options::WhySegments {
+            files,
+            thread,
+            page,
+        } => why_in(rt, files.as_slice(), thread, page),
         Options::Plan { region, size } => write_plan(rt, &region, size),
         Options::Check { region, size } => check(rt, &region, size),
         Options::Decode {

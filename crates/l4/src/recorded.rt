@@ -7,13 +7,33 @@ use l4_programs::{WatchedWriter, not_created, stopped};
 use l4_segments::{KeepFault, SegmentWriter};
 use l4_sinks::{Outputs, Style, answer_script};
 use l4_text::RunFault;
-use std::fs::File;
+use std::fs::{File, OpenFile};
 use std::io;
 use std::io::ErrorKind;
 use std::rt::Files;
 
-/// Answers a script, and writes its history to a new file, as segments. If a segment cannot be written, reports this. Returns the exit
-/// status.
+/// If the history is not in its file as a whole, reports why, and returns the exit status. `error` is what the system has reported.
+fn kept(
+    rt: &impl Eprint,
+    name: &str,
+    fault: Option<KeepFault>,
+    error: Option<io::Error>,
+) -> Result<(), u8> {
+    match fault {
+        Some(KeepFault::Memory) => Err(stopped(rt, RunFault::Memory, None, None)),
+        Some(KeepFault::Write) => {
+            let error = error.unwrap_or(io::Error::from(ErrorKind::WriteZero));
+            Err(not_created(rt, name, error))
+        }
+        None => match error {
+            Some(error) => Err(not_created(rt, name, error)),
+            None => Ok(()),
+        },
+    }
+}
+
+/// Answers a script, and writes its history to a new file, as segments. At the end, waits until the system has stored the file, which it may
+/// keep in memory at first. If a segment cannot be written, or the file cannot be stored, reports this. Returns the exit status.
 #[inline(never)]
 pub(crate) fn run_to<R: AllocGlobal + Files + Input + Print + Eprint>(
     rt: &R,
@@ -28,12 +48,12 @@ pub(crate) fn run_to<R: AllocGlobal + Files + Input + Print + Eprint>(
         Ok(reader) => reader,
         Err(status) => return status,
     };
-    let target = match File::create_new(rt, name) {
+    let mut target = match File::create_new(rt, name) {
         Ok(target) => target,
         Err(error) => return not_created(rt, name, error),
     };
     let mut output = WatchedWriter::new(io::writer(rt));
-    let mut history = WatchedWriter::new(target);
+    let mut history = WatchedWriter::new(&mut target);
     let outputs = Outputs {
         answers: &mut output,
         segments: SegmentWriter::new(rt.alloc(), script.frames, script.size, &mut history),
@@ -46,14 +66,10 @@ pub(crate) fn run_to<R: AllocGlobal + Files + Input + Print + Eprint>(
         &mut reader,
         outputs,
     );
-    match outputs.segments.fault() {
-        Some(KeepFault::Memory) => stopped(rt, RunFault::Memory, None, None),
-        Some(KeepFault::Write) => {
-            let error = history
-                .error()
-                .unwrap_or(io::Error::from(ErrorKind::WriteZero));
-            not_created(rt, name, error)
-        }
-        None => script_ended(rt, answered, file, &reader, &output),
+    let fault = outputs.segments.fault();
+    let error = history.error().or(target.sync_all().err());
+    if let Err(status) = kept(rt, name, fault, error) {
+        return status;
     }
+    script_ended(rt, answered, file, &reader, &output)
 }

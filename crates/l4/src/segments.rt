@@ -1,5 +1,5 @@
 //! `l4 history --from`: the history in files of segments.
-ghost use Rattle.std.specs.Prelude.{◌≡◌};
+ghost use Rattle.std.specs.Prelude.{◌≡◌, Err};
 ghost use Rattle.l4.specs.Statuses.{history_status};
 
 use crate::reports::{report_file, report_history, report_misfit};
@@ -13,7 +13,7 @@ use std::{fs, io};
 
 /// The segments in files, in order. For each file, `ends` has the number of segments in it and in the files before it.
 #[derive(Drop)]
-struct Found {
+pub(crate) struct Found {
     segments: Vec<SavedSegment>,
     ends: Vec<usize>,
 }
@@ -56,7 +56,10 @@ fn segments_of<R: AllocGlobal + Files + Eprint>(
 }
 
 /// Reads the segments in these files. Reports why one cannot be read, and returns the exit status.
-fn found_in<R: AllocGlobal + Files + Eprint>(rt: &R, files: &[String]) -> Result<Found, u8> {
+pub(crate) fn found_in<R: AllocGlobal + Files + Eprint>(
+    rt: &R,
+    files: &[String],
+) -> Result<Found, u8> {
     let mut segments = Vec::new(rt.alloc());
     let mut ends = Vec::new(rt.alloc());
     for index in 0..files.len() {
@@ -93,7 +96,11 @@ fn report_place(rt: &impl Eprint, files: &[String], ends: &[usize], misfit: Misf
 }
 
 /// Joins segments that begin at boot. Reports the first that does not fit, and returns the exit status.
-fn joined<'a, R: Eprint>(rt: &R, files: &[String], found: &'a Found) -> Result<Joined<'a>, u8> {
+pub(crate) fn joined<'a, R: Eprint>(
+    rt: &R,
+    files: &[String],
+    found: &'a Found,
+) -> Result<Joined<'a>, u8> {
     let segments = found.segments.as_slice();
     if segments.is_empty() {
         return Err(NOT_UNDERSTOOD);
@@ -108,18 +115,27 @@ fn joined<'a, R: Eprint>(rt: &R, files: &[String], found: &'a Found) -> Result<J
     }
 }
 
+/// Reports why the history in segments was not written, or is none. Returns the exit status.
+pub(crate) fn history_stopped(rt: &impl Eprint, fault: HistoryFault, cause: Option<io::Error>) -> u8
+    ensures { result ≡ history_status (Err fault) }
+{
+    match fault {
+        HistoryFault::Memory => stopped(rt, RunFault::Memory, None, None),
+        HistoryFault::Write => stopped(rt, RunFault::Write, None, cause),
+        HistoryFault::NotNext(_) | HistoryFault::OtherAnswer(_) => {
+            report_history(rt, fault);
+            NOT_UNDERSTOOD
+        }
+    }
+}
+
 /// Reports why the history in segments was not written. Returns the exit status.
 fn told(rt: &impl Eprint, told: Result<(), HistoryFault>, cause: Option<io::Error>) -> u8
     ensures { result ≡ history_status told }
 {
     match told {
         Ok(()) => 0,
-        Err(HistoryFault::Memory) => stopped(rt, RunFault::Memory, None, None),
-        Err(HistoryFault::Write) => stopped(rt, RunFault::Write, None, cause),
-        Err(fault) => {
-            report_history(rt, fault);
-            NOT_UNDERSTOOD
-        }
+        Err(fault) => history_stopped(rt, fault, cause),
     }
 }
 

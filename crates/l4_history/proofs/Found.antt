@@ -22,7 +22,7 @@ use Rattle.l4_sinks.specs.declared.scripts.Ended.{Ended}
 use Rattle.l4_text.specs.Streams.{WentOut}
 use Rattle.l4_text.specs.declared.faults.RunFault.{RunFault}
 use Rattle.l4_text.specs.declared.faults.RunFault.TheVariants.{Read, Write, Memory}
-use Rattle.l4_history.specs.Telling.{IsWhy, HasWhy, TellsWhy, IsThreadText, IsPlaceText}
+use Rattle.l4_history.specs.Telling.{IsWhy, HasWhy, TellsPage, TellsWhy, IsThreadText, IsPlaceText}
 use Rattle.l4_history.specs.Inside.Finding.{presence, answer_text, Holds, IsAnswer, IsOfThread}
 use Rattle.l4_history.specs.declared.asking.ThreadPage.{ThreadPage}
 use Rattle.l4_history.specs.declared.asking.Question.{Question}
@@ -88,6 +88,16 @@ module _ (frames : ℕ) (size : PageSize) (history : List Entry) (now : Machine)
 
 -- WHAT GOES OUT
 
+module _ (frames : ℕ) (size : PageSize) (history : List Entry) (asked : ThreadPage) (written now : Option (List ℕ)) (answer : Answer) (holds : IsAnswer frames size history asked answer) where
+  -- all that is told of an answer
+  pub page_told : (found : Presence) → found ≡ presence answer → Appends written now (answer_text history answer) → TellsPage frames size history asked written now (Ok found)
+  page_told found is out =
+      subst (λ (p : Presence). TellsPage frames size history asked written now (Ok p)) (sym is) (answer_text history answer, why_of frames size history asked answer holds, out)
+
+  -- a beginning of it
+  pub page_begun : WentOut written now (answer_text history answer) → TellsPage frames size history asked written now (Err Write)
+  page_begun out = (presence answer, answer_text history answer, why_of frames size history asked answer holds, out)
+
 module _ (frames : ℕ) (size : PageSize) (question : Question) (old new written now : Option (List ℕ)) (read : Result Ended RunFault) (history : List Entry)
     (records : RecordsScript frames size question.strict old new history read) where
   -- what a result of the run says of its history
@@ -96,25 +106,19 @@ module _ (frames : ℕ) (size : PageSize) (question : Question) (old new written
 
   -- the script was read to its end
   module _ (ended : Ended) (whole : read ≡ Ok ended) where
-    module _ (to_end : ended.refused ≡ None) (answer : Answer) (holds : IsAnswer frames size history question.page answer) where
-      has_why : HasWhy frames size question old new (presence answer) (answer_text history answer)
-      has_why = record {
-        history = history;
-        ended = ended;
-        records = recorded (Ok ended) whole;
-        to_end = to_end;
-        is_why = why_of frames size history question.page answer holds;
-      }
+    module _ (to_end : ended.refused ≡ None) where
+      has_why : (found : Presence) (text : List ℕ) → IsWhy frames size history question.page found text → HasWhy frames size question old new found text
+      has_why found text is = record { history = history; ended = ended; records = recorded (Ok ended) whole; to_end = to_end; is_why = is }
 
-      -- all that is told of an answer
-      pub all_told : (found : Presence) → found ≡ presence answer → Appends written now (answer_text history answer)
-          → TellsWhy frames size question old new written now (Ok (Told found))
-      all_told found is out =
-          subst (λ (p : Presence). TellsWhy frames size question old new written now (Ok (Told p))) (sym is) (answer_text history answer, has_why, out)
+      -- the text about the page was written
+      pub all_told : (found : Presence) → TellsPage frames size history question.page written now (Ok found) → TellsWhy frames size question old new written now (Ok (Told found))
+      all_told found told = (told.0, has_why found told.0 told.1, told.2)
 
-      -- a beginning of it
-      pub some_told : WentOut written now (answer_text history answer) → TellsWhy frames size question old new written now (Err Write)
-      some_told out = record { found = presence answer; text = answer_text history answer; has_why = has_why; out = out }
+      -- it was not, or only a beginning of it
+      pub some_told : (fault : RunFault) → TellsPage frames size history question.page written now (Err fault) → TellsWhy frames size question old new written now (Err fault)
+      some_told Read told = absurd told
+      some_told Write told = record { found = told.0; text = told.1; has_why = has_why told.0 told.1 told.2; out = told.3 }
+      some_told Memory told = told
 
     -- a refused line ended it
     pub refused_told : (reason : List ℕ) → ended.refused ≡ Some reason → now ≡ written → TellsWhy frames size question old new written now (Ok (Refused reason))

@@ -63,6 +63,14 @@ pub record IsWhy (frames : ℕ) (size : PageSize) (history : List Entry) (asked 
   pub run : Run boot (steps_of history) (answers_of history) now
   pub is_text : IsThreadText boot now history (thread_at now.threads asked.thread) asked.page found text
 
+-- The text about the page was written, or a prefix of it if a write failed. Nothing was written if memory ran out.
+abbrev pub TellsPage : ℕ → PageSize → List Entry → ThreadPage → Option (List ℕ) → Option (List ℕ) → Result Presence RunFault → Type 0
+TellsPage frames size history asked written now (Ok found) = (text : List ℕ) × IsWhy frames size history asked found text × Appends written now text
+TellsPage frames size history asked written now (Err Write) =
+    (found : Presence) × (text : List ℕ) × IsWhy frames size history asked found text × WentOut written now text
+TellsPage frames size history asked written now (Err Memory) = now ≡ written
+TellsPage frames size history asked written now (Err Read) = ⊥
+
 -- a script was executed to its end, and this is the text about the page
 pub record HasWhy (frames : ℕ) (size : PageSize) (question : Question) (old new : Option (List ℕ)) (found : Presence) (text : List ℕ) : Type 0 where
   pub history : List Entry

@@ -3,13 +3,12 @@ ghost use Rattle.std.specs.Prelude.{◌≡◌, ◌≤◌, IfSome};
 ghost use Rattle.l4_fpage.specs.Pages.{max_frames};
 ghost use Rattle.l4_text.specs.Streams.{Tells};
 ghost use Rattle.l4_history.specs.Inside.Finding.{IsAnswer, presence, answer_text};
-ghost use Rattle.l4_history.specs.Telling.{unknown_text, absent_text, TellsWhy};
+ghost use Rattle.l4_history.specs.Telling.{unknown_text, absent_text, TellsPage, TellsWhy};
 
 use crate::lines::put_chain;
 use l4_ipc::{Kernel, Mapping, PageSize, Place};
-use l4_provenance::{ChainLink, provenance, replay};
+use l4_provenance::{ChainLink, Replayable, provenance, replay};
 use l4_reasons::Reason;
-use l4_record::History;
 use l4_sinks::record_script;
 use l4_text::{Output, RunFault, Text};
 use std::alloc::Global;
@@ -83,16 +82,16 @@ pub(crate) enum Answer {
 }
 
 /// Executes the history again, and returns the answer about a page. Returns None if there is no memory for it.
-fn look(
+fn look<H: Replayable>(
     alloc: Global,
     frames: u32,
     size: PageSize,
-    history: &History,
+    history: &H,
     asked: ThreadPage,
 ) -> Option<Answer>
     requires some { 1 ≤ frames }
     requires fit { frames ≤ max_frames }
-    ensures { IfSome result (IsAnswer frames size history.now.entries asked) }
+    ensures { IfSome result (IsAnswer frames size (H.entries history.now) asked) }
 {
     let Ok(mut kernel) = Kernel::boot(alloc, frames, size) else {
         return None;
@@ -118,15 +117,15 @@ fn look(
 }
 
 /// Writes the answer, and returns whether the page is present.
-fn put_answer<W: Write>(
-    history: &History,
+fn put_answer<H: Replayable, W: Write>(
+    history: &H,
     answer: &Answer,
     out: &mut Output,
     writer: &mut W,
 ) -> Presence
     ensures found { result ≡ presence answer.now }
     ensures told { Tells (W.contents writer.old) (W.contents writer.new) out.old out.new
-        (answer_text history.now.entries answer.now) }
+        (answer_text (H.entries history.now) answer.now) }
 {
     match answer {
         Answer::Unknown => {
@@ -144,9 +143,40 @@ fn put_answer<W: Write>(
     }
 }
 
-/// Executes the script of the reader as `run` of `l4_shell` does. Instead of its answers, writes how a page of a thread's space got there:
-/// sigma0's page, the transfers of the chain, and the page at the end. Returns whether the page is present. If it is not, or if there is no
-/// such thread, that is what it writes. A strict script ends at its first refused line; then nothing is written, and the reason is returned.
+/// Executes a history again, and writes how a page of a thread's space got there: sigma0's page, the transfers of the chain, and the page at
+/// the end. Returns whether the page is present. If it is not, or if there is no such thread, that is what it writes.
+///
+/// The caller must pass 1 to 4,096 frames.
+///
+/// Returns `Write` if a write failed; a prefix of the text was then written, or nothing. Returns `Memory` if there was no memory for a
+/// kernel, for replaying the history or for the chain, or if a step of the replay got another answer than in the history, because memory ran
+/// out in one of the two; nothing was written.
+pub fn why_page<H: Replayable, W: Write>(
+    alloc: Global,
+    frames: u32,
+    size: PageSize,
+    history: &H,
+    asked: ThreadPage,
+    writer: &mut W,
+) -> Result<Presence, RunFault>
+    requires some { 1 ≤ frames }
+    requires fit { frames ≤ max_frames }
+    ensures { TellsPage frames size (H.entries history.now) asked
+        (W.contents writer.old) (W.contents writer.new) result }
+{
+    let Some(answer) = look(alloc, frames, size, history, asked) else {
+        return Err(RunFault::Memory);
+    };
+    let mut out = Output::new();
+    let found = put_answer(history, &answer, &mut out, writer);
+    match out.finish(writer) {
+        Ok(()) => Ok(found),
+        Err(_) => Err(RunFault::Write),
+    }
+}
+
+/// Executes the script of the reader as `run` of `l4_shell` does. Instead of its answers, writes how a page of a thread's space got there, as
+/// `why_page` does. A strict script ends at its first refused line; then nothing is written, and the reason is returned.
 ///
 /// The caller must pass 1 to 4,096 frames.
 ///
@@ -176,13 +206,8 @@ pub fn why<R: Read, W: Write>(
     if let Some(reason) = refused {
         return Ok(WhyResult::Refused(reason));
     }
-    let Some(answer) = look(alloc, frames, size, &history, question.page) else {
-        return Err(RunFault::Memory);
-    };
-    let mut out = Output::new();
-    let found = put_answer(&history, &answer, &mut out, writer);
-    match out.finish(writer) {
-        Ok(()) => Ok(WhyResult::Told(found)),
-        Err(_) => Err(RunFault::Write),
+    match why_page(alloc, frames, size, &history, question.page, writer) {
+        Ok(found) => Ok(WhyResult::Told(found)),
+        Err(fault) => Err(fault),
     }
 }

@@ -1,4 +1,5 @@
-//! Answers to scripts with annotations, the history of a script as a step list, and how a page of it got to its place.
+//! Answers to scripts with annotations, the history of a script as a step list, and how a page of a
+//! history got to its place.
 #![tactic(auto)]
 
 mod annotating;
@@ -8,5 +9,5 @@ mod moves;
 mod telling;
 
 pub use annotating::{Annotations, annotated_script};
-pub use asking::{Presence, Question, ThreadPage, WhyResult, why};
+pub use asking::{Presence, Question, ThreadPage, WhyResult, why, why_page};
 pub use telling::{answered_history, history};

@@ -7,8 +7,8 @@ ghost use Rattle.l4_history.specs.Chains.{sigma0_line, step_parties, entry_parti
 
 use l4_answers::{add_rights, put_page};
 use l4_ipc::{Mapping, Place, Step};
-use l4_provenance::ChainLink;
-use l4_record::{Entry, History};
+use l4_provenance::{ChainLink, Replayable};
+use l4_record::Entry;
 use l4_text::{Output, Text};
 use std::io::Write;
 
@@ -99,8 +99,8 @@ fn add_moved(text: &mut Text, link: &ChainLink)
 
 /// `entry E transfer S R map SOURCE TARGET RIGHTS RIGHTS`, or `grant` in the place of `map`
 #[tactic(auto, unfolding(crate::specs::Chains::link_line))]
-fn link_text(history: &History, link: &ChainLink) -> Text
-    ensures { result ≡ link_line history.now.entries link.now }
+fn link_text<H: Replayable>(history: &H, link: &ChainLink) -> Text
+    ensures { result ≡ link_line (H.entries history.now) link.now }
 {
     let mut text = Text::new();
     text.add(b"entry ");
@@ -111,9 +111,14 @@ fn link_text(history: &History, link: &ChainLink) -> Text
 }
 
 /// Writes the links in their order.
-fn put_links<W: Write>(history: &History, links: &[ChainLink], out: &mut Output, writer: &mut W)
+fn put_links<H: Replayable, W: Write>(
+    history: &H,
+    links: &[ChainLink],
+    out: &mut Output,
+    writer: &mut W,
+)
     ensures { Tells (W.contents writer.old) (W.contents writer.new) out.old out.new
-        (link_lines history.now.entries links.now) }
+        (link_lines (H.entries history.now) links.now) }
 {
     for link in links {
         out.put(writer, &link_text(history, link));
@@ -121,8 +126,8 @@ fn put_links<W: Write>(history: &History, links: &[ChainLink], out: &mut Output,
 }
 
 /// Writes the chain of links to a place, and the mapping of the place.
-pub(crate) fn put_chain<W: Write>(
-    history: &History,
+pub(crate) fn put_chain<H: Replayable, W: Write>(
+    history: &H,
     links: &[ChainLink],
     place: Place,
     shows: &Mapping,
@@ -130,7 +135,7 @@ pub(crate) fn put_chain<W: Write>(
     writer: &mut W,
 )
     ensures { Tells (W.contents writer.old) (W.contents writer.new) out.old out.new
-        (chain_text history.now.entries links.now place shows.now) }
+        (chain_text (H.entries history.now) links.now place shows.now) }
 {
     out.put(writer, &sigma0_text(links, place));
     put_links(history, links, out, writer);

@@ -1,2 +1,4 @@
+pub mod Numbers
+pub mod Paged
 pub mod Told
 pub mod Written

@@ -1,2 +1,3 @@
+pub mod Paging
 pub mod Replaying
 pub mod Telling

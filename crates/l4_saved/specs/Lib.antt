@@ -1,3 +1,4 @@
 pub mod Inside
+pub mod Pages
 pub mod Stopping
 pub mod Telling

@@ -5,10 +5,12 @@ ghost use Rattle.l4_saved.specs.Inside.Telling.{entry_text};
 ghost use Rattle.l4_saved.specs.Inside.Replaying.{HasTold, HasStopped};
 ghost use Rattle.l4_saved.specs.Telling.{TellsSegments};
 
+use crate::entries::SavedEntries;
 use crate::following::{HistoryFault, continue_with};
 use l4_ipc::Kernel;
+use l4_provenance::Replayable;
 use l4_record::Entry;
-use l4_segments::{Joined, SavedSegment};
+use l4_segments::Joined;
 use l4_step_lines::{put_answer, put_step};
 use l4_text::Output;
 use std::alloc::Global;
@@ -41,60 +43,34 @@ fn put_entry<W: Write>(
     }
 }
 
-/// Executes and writes the entries of a segment, up to the first that does not continue a legal history.
-fn tell_segment<W: Write>(
+/// Executes and writes the entries, up to the first that does not continue a legal history.
+fn tell_entries<W: Write>(
     replay: &mut Replay,
-    segment: &SavedSegment,
+    entries: &SavedEntries<'_>,
     answers: bool,
     out: &mut Output,
     writer: &mut W,
 ) -> Result<(), HistoryFault>
     ensures ok { IfOk result
         (λ _. (text : List ℕ)
-        × HasTold answers replay.old replay.new segment.now.entries text
+        × HasTold answers replay.old replay.new entries.now.joined.now.entries text
         × Tells (W.contents writer.old) (W.contents writer.new) out.old out.new text) }
     ensures err { IfErr result
         (λ fault. (text : List ℕ)
-        × HasStopped answers replay.old segment.now.heading.first segment.now.entries fault text
+        × HasStopped answers replay.old entries.now.joined.now.first
+        entries.now.joined.now.entries fault text
         × Tells (W.contents writer.old) (W.contents writer.new) out.old out.new text) }
 {
-    let first = segment.heading().first;
-    segment.law_segment();
-    for place in 0..segment.len() {
-        let Some(entry) = segment.get(place) else {
+    let first = entries.joined.first();
+    for number in 0..entries.count() {
+        let Some(entry) = entries.get(number) else {
             unreachable!()
         };
-        if let Err(fault) = continue_with(&mut replay.kernel, replay.last, first + place, &entry) {
+        if let Err(fault) = continue_with(&mut replay.kernel, replay.last, first + number, &entry) {
             return Err(fault);
         }
         replay.last = Some(entry.seat);
         put_entry(&replay.kernel, &entry, answers, out, writer);
-    }
-    Ok(())
-}
-
-/// Executes and writes the entries of all segments, up to the first that does not continue a legal history.
-fn tell_segments<W: Write>(
-    replay: &mut Replay,
-    joined: &Joined<'_>,
-    answers: bool,
-    out: &mut Output,
-    writer: &mut W,
-) -> Result<(), HistoryFault>
-    ensures ok { IfOk result
-        (λ _. (text : List ℕ)
-        × HasTold answers replay.old replay.new joined.now.entries text
-        × Tells (W.contents writer.old) (W.contents writer.new) out.old out.new text) }
-    ensures err { IfErr result
-        (λ fault. (text : List ℕ)
-        × HasStopped answers replay.old joined.now.first joined.now.entries fault text
-        × Tells (W.contents writer.old) (W.contents writer.new) out.old out.new text) }
-{
-    let segments = joined.segments();
-    for index in 0..segments.len() {
-        if let Err(fault) = tell_segment(replay, &segments[index], answers, out, writer) {
-            return Err(fault);
-        }
     }
     Ok(())
 }
@@ -119,7 +95,8 @@ pub fn segments_history<W: Write>(
     };
     let mut replay = Replay { kernel, last: None };
     let mut out = Output::new();
-    let told = tell_segments(&mut replay, joined, answers, &mut out, writer);
+    let entries = SavedEntries { joined };
+    let told = tell_entries(&mut replay, &entries, answers, &mut out, writer);
     match out.finish(writer) {
         Ok(()) => told,
         Err(_) => Err(HistoryFault::Write),

@@ -5,4 +5,4 @@ use Rattle.l4_history.proofs.lines.put_links.Given as goal
 
 abbrev pub invariant-loop-link : goal.invariant-loop-link
 invariant-loop-link g l =
-    Tells (g.W.Write.contents l.initial.writer) (g.W.Write.contents l.writer) l.initial.out l.out (link_lines l.history.entries (take l.link-index l.links))
+    Tells (g.W.Write.contents l.initial.writer) (g.W.Write.contents l.writer) l.initial.out l.out (link_lines (g.H.Replayable.entries l.history) (take l.link-index l.links))

@@ -5,16 +5,16 @@ use Rattle.l4_saved.proofs.telling.segments_history.Goals as goal
 
 pub returns-in-Ok-finish : goal.returns-in-Ok-finish
 returns-in-Ok-finish g c =
-    let told = c.tell_segments-told.ensures in
+    let told = c.tell_entries-told.ensures in
     goes_out c.args.answers c.args.joined.now (g.W.Write.contents c.args.writer.now) (g.W.Write.contents c.finish.new.writer) c.in-Ok.kernel
-    (boots_with c.in-Ok.kernel _ _ _ _ c.frames.ensures c.size.ensures c.in-Ok.ensures.0 c.in-Ok.ensures.1) c.tell_segments-told.result
-    (IfOk-weaker c.tell_segments-told.result _ _ (λ x p. (c.tell_segments-told.new.replay.kernel, p.0, p.1.0, all_out _ _ _ _ _ _ c.new-out.ensures p.2 c.in-Ok-finish.ensures.ok)) told.ok)
-    (IfErr-weaker c.tell_segments-told.result _ _ (λ fault p. (p.0, p.1, all_out _ _ _ _ _ _ c.new-out.ensures p.2 c.in-Ok-finish.ensures.ok)) told.err)
+    (boots_with c.in-Ok.kernel _ _ _ _ c.frames.ensures c.size.ensures c.in-Ok.ensures.0 c.in-Ok.ensures.1) c.tell_entries-told.result
+    (IfOk-weaker c.tell_entries-told.result _ _ (λ x p. (c.tell_entries-told.new.replay.kernel, p.0, p.1.0, all_out _ _ _ _ _ _ c.new-out.ensures p.2 c.in-Ok-finish.ensures.ok)) told.ok)
+    (IfErr-weaker c.tell_entries-told.result _ _ (λ fault p. (p.0, p.1, all_out _ _ _ _ _ _ c.new-out.ensures p.2 c.in-Ok-finish.ensures.ok)) told.err)
 
 pub returns : goal.returns
 returns g c =
-    let told = c.tell_segments-told.ensures in
+    let told = c.tell_entries-told.ensures in
     begins c.args.answers c.args.joined.now (g.W.Write.contents c.args.writer.now) (g.W.Write.contents c.finish.new.writer) c.in-Ok.kernel
-    (boots_with c.in-Ok.kernel _ _ _ _ c.frames.ensures c.size.ensures c.in-Ok.ensures.0 c.in-Ok.ensures.1) c.tell_segments-told.result
-    (IfOk-weaker c.tell_segments-told.result _ _ (λ x p. (c.tell_segments-told.new.replay.kernel, p.0, p.1.0, some_out _ _ _ _ _ _ c.new-out.ensures p.2 c.in-Err.ensures.err.1)) told.ok)
-    (IfErr-weaker c.tell_segments-told.result _ _ (λ fault p. (p.0, p.1, some_out _ _ _ _ _ _ c.new-out.ensures p.2 c.in-Err.ensures.err.1)) told.err)
+    (boots_with c.in-Ok.kernel _ _ _ _ c.frames.ensures c.size.ensures c.in-Ok.ensures.0 c.in-Ok.ensures.1) c.tell_entries-told.result
+    (IfOk-weaker c.tell_entries-told.result _ _ (λ x p. (c.tell_entries-told.new.replay.kernel, p.0, p.1.0, some_out _ _ _ _ _ _ c.new-out.ensures p.2 c.in-Err.ensures.err.1)) told.ok)
+    (IfErr-weaker c.tell_entries-told.result _ _ (λ fault p. (p.0, p.1, some_out _ _ _ _ _ _ c.new-out.ensures p.2 c.in-Err.ensures.err.1)) told.err)
