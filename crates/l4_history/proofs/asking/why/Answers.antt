@@ -17,7 +17,7 @@ returns-in-Ok-why_page g c =
     all_told c.args.frames c.args.size c.args.question (g.R.Read.remaining c.args.reader.now) (g.R.Read.remaining c.record_script.new.reader) (g.W.Write.contents c.args.writer.now)
     (g.W.Write.contents c.why_page.new.writer) c.in-Some.read c.in-Some.history.entries c.in-Some.ensures c.in-Ok.ended c.in-Ok.is c.in_default-refused.is c.in-Ok-why_page.found c.in-Ok-why_page.ensures
 
-pub returns-in-Err-why_page : goal.returns-in-Err-why_page
-returns-in-Err-why_page g c =
+pub returns : goal.returns
+returns g c =
     some_told c.args.frames c.args.size c.args.question (g.R.Read.remaining c.args.reader.now) (g.R.Read.remaining c.record_script.new.reader) (g.W.Write.contents c.args.writer.now)
     (g.W.Write.contents c.why_page.new.writer) c.in-Some.read c.in-Some.history.entries c.in-Some.ensures c.in-Ok.ended c.in-Ok.is c.in_default-refused.is c.in-Err-why_page.fault c.in-Err-why_page.ensures
