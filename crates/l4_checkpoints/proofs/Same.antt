@@ -39,7 +39,7 @@ heading_fits frames size entries count few numbers short =
     (All-cons word bytes (first ++ last) (bytes_word size) places)))
 
 -- the file in its parts
-parts : (frames : ℕ) (size : PageSize) (entries : ℕ) (words : List ℕ) → file_of frames size entries words ≡ bytes_of (heading_words frames size entries (length words)) ++ (bytes_of words ++ sha256 (body_of frames size entries words))
+pub parts : (frames : ℕ) (size : PageSize) (entries : ℕ) (words : List ℕ) → file_of frames size entries words ≡ bytes_of (heading_words frames size entries (length words)) ++ (bytes_of words ++ sha256 (body_of frames size entries words))
 parts frames size entries words = append_assoc (bytes_of (heading_words frames size entries (length words))) (bytes_of words) (sha256 (body_of frames size entries words))
 
 pub same_checkpoint : (frames entries others more : ℕ) (m n : Machine) (bytes : List ℕ) → IsCheckpoint frames entries m bytes → IsCheckpoint others more n bytes → (frames ≡ others) × (entries ≡ more) × (m ≡ n)

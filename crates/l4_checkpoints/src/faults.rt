@@ -1,4 +1,5 @@
 //! Why bytes are not a checkpoint.
+ghost use Rattle.std.specs.Prelude.{◌≡◌};
 
 /// What is wrong with the bytes at a position.
 #[derive(Clone, Copy, Debug, PartialEq, Eq)]
@@ -32,4 +33,11 @@ pub struct CheckpointFault {
     pub position: usize,
     /// What is wrong there.
     pub kind: CheckpointFaultKind,
+}
+
+/// Returns a fault at a position.
+pub(crate) fn fault(position: usize, kind: CheckpointFaultKind) -> CheckpointFault
+    ensures { (result.position ≡ position) × (result.kind ≡ kind) }
+{
+    CheckpointFault { position, kind }
 }

@@ -4,6 +4,7 @@
 mod building;
 mod faults;
 mod files;
+mod headings;
 mod laws;
 mod pages;
 mod reading;

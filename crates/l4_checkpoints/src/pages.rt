@@ -1,5 +1,6 @@
 //! Builds mappings from words.
-ghost use Rattle.std.specs.Prelude.{◌≤◌};
+ghost use Rattle.std.specs.Prelude.{◌≡◌, ◌≤◌, OnOk};
+ghost use Rattle.std.specs.FinSet as set;
 ghost use Rattle.l4_fpage.specs.Pages.{max_frames};
 
 use crate::building::{Stop, left_of, words_with};
@@ -248,7 +249,10 @@ fn is_before(place: Place, other: Place) -> bool {
 }
 
 /// Adds a space, unless it exists.
-fn add_space(forest: &mut Forest, space: u64) -> Result<(), Cause> {
+fn add_space(forest: &mut Forest, space: u64) -> Result<(), Cause>
+    ensures { OnOk result
+        (forest.new ≡ record forest.old { spaces = set.insert forest.old.spaces space }) }
+{
     match forest.new_space(space) {
         Ok(()) => Ok(()),
         Err(_) => Err(Cause::NoMemory),

@@ -21,5 +21,5 @@ pub use l4_record::{Entry, History, Segment};
 pub use laws::{files_determine_segments, written_entries_read_back};
 pub use reading::{read_segment, read_segments};
 pub use saved::SavedSegment;
-pub use words::{are_at, word_at};
+pub use words::{are_at, read_words, word_at};
 pub use writing::{KeepFault, SegmentWriter};

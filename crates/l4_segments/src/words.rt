@@ -15,7 +15,7 @@ pub fn word_at(bytes: &[u8], at: usize) -> u32
 }
 
 /// Overwrites the record with the words at a position.
-pub(crate) fn read_words(out: &mut Record, bytes: &[u8], at: usize, count: usize)
+pub fn read_words(out: &mut Record, bytes: &[u8], at: usize, count: usize)
     requires few { count ≤ RECORD_WORDS }
     requires within { at + 4 * count ≤ length bytes.now }
     ensures items { drop at bytes.now ≡ bytes_of out.new.items ++ drop (at + 4 * count) bytes.now }
