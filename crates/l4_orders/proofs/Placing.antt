@@ -1,6 +1,6 @@
 -- The states of a graph as text, one more each.
 use Rattle.std.proofs.Common.{◌≡◌, ℕ, zero, suc, ◌+◌, ◌-◌, ◌<◌, ◌≤◌, get_or, length, arith, List, [], ◌++◌, sym, ap, ◌∙◌, append_assoc, append-nil}
-use Rattle.std.specs.Prelude.{slice_get, Some, Option}
+use Rattle.std.specs.Prelude.{slice_get, Some, Option, Result, Ok, Err, OnOk}
 use Rattle.std.specs.Option.{option_map_or}
 use Rattle.std.proofs.lemmas.Option.{slice_get_read}
 use Rattle.l4_merges.specs.declared.graph.Seen.{Seen}
@@ -34,3 +34,11 @@ pub all_written : (seen : List Seen) (done : ℕ) (before out : List ℕ) → le
 all_written seen done before out past so_far =
     let none : length seen - done ≡ 0 = omega (arith, past) in
     sym (append-nil out) ∙ ap (λ (n : ℕ). out ++ nodes_below (length seen) seen n) (sym none) ∙ so_far
+
+-- an arrow, and then the states
+pub started : {T E : Type 0} (r : Result T E) (out first state last nodes a b d after : List ℕ) → a ≡ out ++ first → b ≡ a ++ state → d ≡ b ++ last → OnOk r (after ≡ d ++ nodes)
+    → OnOk r (after ≡ out ++ (first ++ state ++ last ++ nodes))
+started (Ok x) out first state last nodes a b d after ea eb ed e =
+    e ∙ ap (λ (l : List ℕ). l ++ nodes) (ed ∙ ap (λ (l : List ℕ). l ++ last) (eb ∙ ap (λ (l : List ℕ). l ++ state) ea ∙ append_assoc out first state) ∙ append_assoc out (first ++ state) last)
+    ∙ append_assoc out (first ++ state ++ last) nodes
+started (Err why) out first state last nodes a b d after ea eb ed e = tt

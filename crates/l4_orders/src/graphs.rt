@@ -100,15 +100,19 @@ fn put_nodes(alloc: Global, seen: &[Seen], out: &mut Vec<u8>) -> Result<(), Allo
     Ok(())
 }
 
-/// Appends the states of a search, with an arrow to the first one.
-fn put_states(alloc: Global, explored: &Explored, out: &mut Vec<u8>) -> Result<(), AllocError>
-    ensures { OnOk result (out.new.items
-        ≡ out.old.items ++ states_text explored.now.start explored.now.seen.items) }
+/// Appends the states of a search, with an arrow to the one at this place.
+fn put_states(
+    alloc: Global,
+    start: usize,
+    seen: &[Seen],
+    out: &mut Vec<u8>,
+) -> Result<(), AllocError>
+    ensures { OnOk result (out.new.items ≡ out.old.items ++ states_text start seen.now) }
 {
     out.extend_from_slice(b"start [shape=point];\nstart -> ")?;
-    put_state(alloc, explored.seen.len(), explored.start, out)?;
+    put_state(alloc, seen.len(), start, out)?;
     out.extend_from_slice(b";\n")?;
-    put_nodes(alloc, explored.seen.as_slice(), out)
+    put_nodes(alloc, seen, out)
 }
 
 /// Returns the graph of the states in the DOT language, with the summary as a comment. If not every order was followed, it has no states.
@@ -119,7 +123,7 @@ pub fn graph_text(alloc: Global, explored: &Explored) -> Result<Vec<u8>, AllocEr
     out.extend_from_slice(b"digraph states {\n// ")?;
     put_summary(alloc, explored, &mut out)?;
     if explored.ended.is_ok() {
-        put_states(alloc, explored, &mut out)?;
+        put_states(alloc, explored.start, explored.seen.as_slice(), &mut out)?;
     }
     out.extend_from_slice(b"}\n")?;
     Ok(out)

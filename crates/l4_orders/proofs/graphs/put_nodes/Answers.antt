@@ -1,4 +1,4 @@
-use Rattle.std.proofs.Common.{arith}
+use Rattle.std.proofs.Common.{◌-◌, length, arith}
 use Rattle.l4_orders.proofs.Placing.{none_written, node_written, all_written}
 use Rattle.l4_orders.proofs.graphs.put_nodes.Goals as goal
 
@@ -7,7 +7,8 @@ loop-done-init c = none_written c.args.seen.now c.args.out.now.items
 
 pub loop-done-preserved : goal.loop-done-preserved
 loop-done-preserved c =
-    node_written c.args.seen.now c.loop-done.done c.place c.len-count.result c.index-seen-place.result c.args.out.now.items c.loop-done.out.items _ c.len-count.ensures c.loop-done-test.true (omega (arith, c.loop-done-test.true)) c.index-seen-place.is c.loop-done.invariant c.in_ok-put_node.ensures
+    node_written c.args.seen.now c.loop-done.done (length c.args.seen.now - c.loop-done.done - 1) (length c.args.seen.now) c.index-seen-place.result c.args.out.now.items c.loop-done.out.items _
+    (λ i. length c.args.seen.now) c.loop-done-test.true (omega (arith, c.loop-done-test.true)) c.index-seen-place.is c.loop-done.invariant c.in_ok-put_node.ensures
 
 pub returns : goal.returns
-returns c = all_written c.args.seen.now c.loop-done.done c.args.out.now.items c.loop-done.out.items (omega (arith, c.loop-done-test.false, c.len-count.ensures)) c.loop-done.invariant
+returns c = all_written c.args.seen.now c.loop-done.done c.args.out.now.items c.loop-done.out.items (omega (arith, c.loop-done-test.false)) c.loop-done.invariant
