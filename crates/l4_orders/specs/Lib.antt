@@ -5,7 +5,6 @@ pub mod Reading
 pub mod Drawing
 pub mod Files
 pub mod Telling
-pub mod Drawing
 pub mod Rules
 pub mod Witnesses
 pub mod Inside
