@@ -39,7 +39,7 @@ use l4_sinks::{Ended, Outputs, Style, answer_script};
 use l4_step_lines::{Fault, JudgeFault, judge};
 use l4_symbols::write_words;
 use l4_text::{RunFault, ScriptReader};
-use ordered::{print_orders, wanted};
+use ordered::{print_orders, wanted_by};
 use recorded::run_to;
 use reports::{report_no_plan, report_no_thread, report_refused, report_unproved};
 use segments::tell_segments;
@@ -451,7 +451,7 @@ fn execute<R: AllocGlobal + Files + Input + Print + Eprint + Clock>(rt: &R, aske
             witness,
             brief,
             dot,
-        } => print_orders(rt, &plan, most, wanted(witness, brief, dot)),
+        } => print_orders(rt, &plan, most, wanted_by(witness, brief, dot)),
         Options::Encode(words) => print_words(rt, words.as_slice()),
         Options::Show(text) => show(rt, text.as_str()),
     }

@@ -35,7 +35,7 @@ pub(crate) struct Wanted {
 }
 
 /// Returns what is wanted, by these options.
-pub(crate) fn wanted(witness: Option<u32>, brief: bool, dot: bool) -> Wanted {
+pub(crate) fn wanted_by(witness: Option<u32>, brief: bool, dot: bool) -> Wanted {
     Wanted {
         witness,
         brief,
