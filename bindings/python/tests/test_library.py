@@ -21,6 +21,8 @@ TYPES = {
     "const char *": ctypes.c_char_p,
     "uint32_t *": ctypes.POINTER(ctypes.c_uint32),
     "const uint32_t *": ctypes.POINTER(ctypes.c_uint32),
+    "uint64_t *": ctypes.POINTER(ctypes.c_uint64),
+    "uint8_t *": ctypes.c_char_p,
     **{struct.__name__: struct for struct in _library.STRUCTS},
 }
 

@@ -1236,6 +1236,7 @@ mod tests {
             };
         }
         match kind {
+            "u8" => "uint8_t",
             "u32" => "uint32_t",
             "u64" => "uint64_t",
             "usize" => "size_t",
