@@ -15,8 +15,6 @@ const MOST: usize = 64;
 pub struct Readings {
     /// The number of altered files.
     pub count: u64,
-    /// The number of those that were read.
-    pub read: u64,
     /// The number of those that were read as another file.
     pub wrong: u64,
 }
@@ -42,7 +40,6 @@ fn read(alloc: Global, file: &[u8], readings: &mut Readings) -> Result<(), Alloc
     readings.count = readings.count.saturating_add(1);
     match read_checkpoint(alloc, file) {
         Ok(read) => {
-            readings.read = readings.read.saturating_add(1);
             let again = write_checkpoint(alloc, read.frames, read.entries, &read.kernel)?;
             if again.as_slice() != file {
                 readings.wrong = readings.wrong.saturating_add(1);
@@ -58,11 +55,7 @@ fn read(alloc: Global, file: &[u8], readings: &mut Readings) -> Result<(), Alloc
 
 /// Alters bytes of a file in two ways, up to 64 of them and none of its checksum, and reads what comes of it. Returns None if memory runs out.
 pub fn read_altered(alloc: Global, file: &[u8]) -> Option<Readings> {
-    let mut readings = Readings {
-        count: 0,
-        read: 0,
-        wrong: 0,
-    };
+    let mut readings = Readings { count: 0, wrong: 0 };
     let end = file.len().saturating_sub(DIGEST_BYTES);
     let stride = end / MOST + 1;
     for turn in 0..MOST {

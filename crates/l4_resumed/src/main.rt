@@ -30,10 +30,7 @@ fn tell<R: Print>(rt: &R, resumed: &Resumed, readings: Readings) -> io::Result<(
     println!(rt; "{} checkpoints, {} wrong", resumed.count, resumed.wrong)?;
     let [a, b, c, d, e, f, g, h] = resumed.sum();
     println!(rt; "sum {} {} {} {} {} {} {} {}", a, b, c, d, e, f, g, h)?;
-    println!(rt;
-        "{} altered, {} read, {} wrong",
-        readings.count, readings.read, readings.wrong
-    )
+    println!(rt; "{} altered, {} wrong", readings.count, readings.wrong)
 }
 
 /// Executes the script on standard input, from checkpoints.
