@@ -917,7 +917,7 @@ l4_searched l4_orders_search_sized(l4_orders *orders, uint32_t frames, const cha
 #define L4_LACKED_HISTORY UINT32_C(4)
 
 /* How a search ended (L4_ALL_ORDERS ..), the number of outcomes, the number of orders, and the number of states that were visited. If the
- * search ended early, orders is 0, and the plan may have more outcomes. 2^64 - 1 stands for every greater number of orders. */
+ * search ended early, orders is 0, and the plan may have more outcomes. If there are more than 2^64 - 1 orders, orders is 2^64 - 1. */
 typedef struct l4_found {
     uint32_t refusal;
     uint32_t ended;

@@ -46,7 +46,7 @@ class PlanOutcome:
 @dataclass(frozen=True)
 class Orders:
     """What a search found: each outcome once, how the search ended, and the number of states that it visited. `order_count` is the number of
-    orders, or None if the search ended early; 2^64 - 1 stands for every greater number."""
+    orders, or None if the search ended early. If there are more than 2^64 - 1 orders, it is 2^64 - 1."""
 
     outcomes: Tuple[PlanOutcome, ...]
     end: SearchEnd

@@ -49,7 +49,7 @@ pub struct Orders {
     pub outcomes: Vec<PlanOutcome>,
     /// How the search ended.
     pub end: SearchEnd,
-    /// The number of orders, if every order was followed. 2^64 - 1 stands for every greater number.
+    /// The number of orders, if every order was followed. If there are more than 2^64 - 1 orders, this is 2^64 - 1.
     pub order_count: Option<u64>,
     /// The number of states that were visited.
     pub state_count: u64,
