@@ -15,7 +15,7 @@ VERSION = 0.1.0
 # The archive calls three of the toolchain's functions for memory, which are in this archive.
 HEAP = $(dir $(firstword $(shell rt doc)))c/liblibc_c.a
 OUT = crates/l4_c/out
-PARTS = $(OUT)/libl4_c.a crates/l4_c_orders/out/libl4_c_orders.a
+PARTS = $(OUT)/libl4_c.a crates/l4_c_orders/out/libl4_c_orders.a crates/l4_c_checkpoints/out/libl4_c_checkpoints.a
 PART = $(patsubst lib%.a,%,$(@F))
 SONAME = libl4.so.0
 MODULE = crates/l4_page/out/l4_page.wasm

@@ -141,6 +141,7 @@ uint32_t l4_version(void);
 #define L4_B3 UINT32_C(0x4233) /* the kind of call is unknown */
 #define L4_B4 UINT32_C(0x4234) /* the page size must be 4,096 or 1,024 bytes */
 #define L4_B5 UINT32_C(0x4235) /* the line is not a step or query of a step list */
+#define L4_B6 UINT32_C(0x4236) /* the bytes are not a checkpoint */
 #define L4_K1 UINT32_C(0x4B31) /* the step is not enabled: this transfer or expiry cannot happen now */
 #define L4_K2 UINT32_C(0x4B32) /* there is no thread with this number */
 #define L4_K3 UINT32_C(0x4B33) /* the thread's previous call has not ended yet */
@@ -947,6 +948,44 @@ l4_count l4_orders_lines(l4_orders *orders, size_t outcome, uint64_t *lines, siz
 
 /* Frees a search with its plan, and leaves the handle empty. */
 void l4_orders_free(l4_orders *orders);
+
+/* CHECKPOINTS
+ *
+ * A checkpoint is the state of a kernel as bytes: its threads with what each is doing, the queue of senders, the spaces and the mappings. You
+ * keep it as a file, to continue a run later or to share a fault. It has no history. */
+
+/* Writes the checkpoint of a kernel that was booted with this number of frames. `entries` is the number of steps in its history since boot, or
+ * 0 if you keep none. The bytes are written to the array, up to its length, and count is how many there are; with a room of 0, the call only
+ * counts them. The kernel is unchanged. Refusals in this order: B1; NoMemory. Nothing is written then. */
+l4_count l4_checkpoint_write(l4_kernel *kernel, uint32_t frames, size_t entries, uint8_t *out, size_t room);
+
+/* What is wrong with bytes that are not a checkpoint, and what the position is, in bytes from 0: another first word; an unknown version; a
+ * number of frames that no kernel has; a page size that no kernel has; a number of steps above 2^63; the bytes end too early; the checksum
+ * is wrong; bytes follow the checksum; or the words are not those of a kernel. The position is where the bytes depart from a checkpoint. */
+#define L4_OTHER_MAGIC UINT32_C(1)
+#define L4_OTHER_VERSION UINT32_C(2)
+#define L4_NO_FRAMES UINT32_C(3)
+#define L4_NO_PAGE_SIZE UINT32_C(4)
+#define L4_TOO_MANY_ENTRIES UINT32_C(5)
+#define L4_CUT UINT32_C(6)
+#define L4_OTHER_CHECKSUM UINT32_C(7)
+#define L4_EXTRA UINT32_C(8)
+#define L4_NO_STATE UINT32_C(9)
+
+/* The number of frames and the number of steps that were passed to l4_checkpoint_write; after B6, what is wrong (L4_OTHER_MAGIC ..) and the
+ * position. */
+typedef struct l4_checkpoint {
+    uint32_t refusal;
+    uint32_t fault;
+    uint64_t position;
+    uint64_t entries;
+    uint32_t frames;
+    uint32_t reserved;
+} l4_checkpoint;
+
+/* Reads a checkpoint of `length` bytes into an empty handle, which then owns exactly the kernel that was written; you free it with l4_free.
+ * After a refusal the handle is unchanged. Refusals in this order: B2; B6 or NoMemory. */
+l4_checkpoint l4_checkpoint_read(l4_kernel *kernel, const uint8_t *bytes, size_t length);
 
 /* CONSTRUCTORS AND READERS. These functions are inline, and do not call the library unless they take a handle. */
 

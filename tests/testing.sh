@@ -75,7 +75,7 @@ needs() {
     local name=$1 tool part
     shift
     for tool; do there "$tool" || { skip "$name" "no $tool"; finish; }; done
-    for part in l4_c l4_c_orders; do
+    for part in l4_c l4_c_orders l4_c_checkpoints; do
         [ -f crates/$part/out/lib$part.a ] || { skip "$name" "crates/$part/out/lib$part.a is not there; \`make\` builds it"; finish; }
     done
 }

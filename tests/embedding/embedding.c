@@ -848,6 +848,63 @@ static void orders_of_plans(void) {
     bad_plans();
 }
 
+/* The bytes are refused with this fault at this position, and the handle stays empty. */
+static int is_no_checkpoint(const uint8_t *bytes, size_t length, uint32_t fault, uint64_t position) {
+    l4_kernel kernel = L4_EMPTY;
+    l4_checkpoint read = l4_checkpoint_read(&kernel, bytes, length);
+    return read.refusal == L4_B6 && read.fault == fault && read.position == position && read.frames == 0 && l4_next(&kernel).refusal == L4_B1;
+}
+
+/* A checkpoint of a kernel in which root waits for a message and sigma0 sends one: 122 words after the heading, and a checksum. */
+static void bad_checkpoints(uint8_t *bytes) {
+    EXPECT(is_no_checkpoint(bytes, 551, L4_CUT, 520) && is_no_checkpoint(bytes, 31, L4_CUT, 0) && is_no_checkpoint(NULL, 0, L4_CUT, 0));
+    EXPECT(is_no_checkpoint(bytes, 553, L4_EXTRA, 552));
+    bytes[551] ^= 1;
+    EXPECT(is_no_checkpoint(bytes, 552, L4_OTHER_CHECKSUM, 520));
+    bytes[551] ^= 1;
+    bytes[0] ^= 1;
+    EXPECT(is_no_checkpoint(bytes, 552, L4_OTHER_MAGIC, 0));
+    bytes[0] ^= 1;
+    bytes[4] ^= 3;
+    EXPECT(is_no_checkpoint(bytes, 552, L4_OTHER_VERSION, 4));
+    bytes[4] ^= 3;
+    bytes[8] = 0;
+    EXPECT(is_no_checkpoint(bytes, 552, L4_NO_FRAMES, 8));
+    bytes[8] = 16;
+    bytes[13] ^= 1;
+    EXPECT(is_no_checkpoint(bytes, 552, L4_NO_PAGE_SIZE, 12));
+    bytes[13] ^= 1;
+    bytes[23] = 0x81;
+    EXPECT(is_no_checkpoint(bytes, 552, L4_TOO_MANY_ENTRIES, 16));
+    bytes[23] = 0;
+}
+
+static void checkpoints(void) {
+    static const uint32_t words[2] = {1, 0x1234};
+    static uint8_t bytes[600], again[600];
+    l4_kernel kernel = L4_EMPTY, other = L4_EMPTY;
+    l4_call call = receive(0);
+    l4_checkpoint read;
+    EXPECT(l4_checkpoint_write(&kernel, 16, 0, bytes, sizeof bytes).refusal == L4_B1 && bytes[0] == 0);
+    EXPECT(l4_boot(&kernel, 16) == L4_OK);
+    call.from = L4_SIGMA0_ID;
+    EXPECT(l4_start(&kernel, 2, &call, words, 0).refusal == L4_OK);
+    call = kind(L4_IPC);
+    call.to = L4_ROOT_ID;
+    EXPECT(l4_start(&kernel, 1, &call, words, 2).refusal == L4_OK);
+    EXPECT(l4_checkpoint_write(&kernel, 16, 2, NULL, 0).count == 552);
+    EXPECT(l4_checkpoint_write(&kernel, 16, 2, bytes, 4).count == 552 && memcmp(bytes, "LCP4", 4) == 0 && bytes[12] == 0);
+    EXPECT(l4_checkpoint_write(&kernel, 16, 2, bytes, sizeof bytes).refusal == L4_OK && memcmp(bytes, "LCP4", 4) == 0 && bytes[552] == 0);
+    read = l4_checkpoint_read(&other, bytes, 552);
+    EXPECT(read.refusal == L4_OK && read.frames == 16 && read.entries == 2 && read.fault == 0 && read.position == 0);
+    EXPECT(l4_checkpoint_read(&other, bytes, 552).refusal == L4_B2);
+    EXPECT(l4_checkpoint_write(&other, 16, 2, again, sizeof again).count == 552 && memcmp(bytes, again, sizeof bytes) == 0);
+    EXPECT(l4_next(&other).outcome == L4_DELIVERED && l4_reply_of(&other, 2).words[0] == 0x1234 && l4_reply_of(&kernel, 2).kind == L4_NONE);
+    l4_free(&other);
+    l4_free(&kernel);
+    bad_checkpoints(bytes);
+}
+
 /* NULL with a count or room of 0, wherever a pointer and its count are passed. */
 static void nulls(void) {
     static const uint32_t fault[3] = {0xffe40002, 0x21123, 0x1000};
@@ -1027,7 +1084,7 @@ static void texts(int shows) {
             }
         }
     }
-    EXPECT(found == 60);
+    EXPECT(found == 61);
     EXPECT(l4_refusal_code(L4_OK, code, sizeof code) == 0 && code[0] == 0);
     EXPECT(l4_refusal_code(0x10000 | L4_K1, code, sizeof code) == 0);
     EXPECT(l4_refusal_code(L4_K1, cut, 2) == 2 && cut[0] == 'K' && cut[1] == 0 && cut[2] == 'x');
@@ -1063,6 +1120,7 @@ int main(int count, char **words) {
     provenance();
     segments();
     orders_of_plans();
+    checkpoints();
     nulls();
     nulls_of_locks();
     reserved();

@@ -46,6 +46,7 @@ L4_B2 = 0x4232
 L4_B3 = 0x4233
 L4_B4 = 0x4234
 L4_B5 = 0x4235
+L4_B6 = 0x4236
 L4_K1 = 0x4B31
 L4_K2 = 0x4B32
 L4_K3 = 0x4B33
@@ -144,6 +145,15 @@ L4_ALL_ORDERS = 1
 L4_MOST_STATES = 2
 L4_LACKED_MEMORY = 3
 L4_LACKED_HISTORY = 4
+L4_OTHER_MAGIC = 1
+L4_OTHER_VERSION = 2
+L4_NO_FRAMES = 3
+L4_NO_PAGE_SIZE = 4
+L4_TOO_MANY_ENTRIES = 5
+L4_CUT = 6
+L4_OTHER_CHECKSUM = 7
+L4_EXTRA = 8
+L4_NO_STATE = 9
 
 L4_SIGMA0_ID = 0x4001
 L4_ROOT_ID = 0x8001
@@ -317,6 +327,10 @@ class l4_found(Structure):
     _fields_ = numbers("refusal ended") + [("outcomes", c_uint64), ("orders", c_uint64), ("states", c_uint64)]
 
 
+class l4_checkpoint(Structure):
+    _fields_ = numbers("refusal fault") + [("position", c_uint64), ("entries", c_uint64)] + numbers("frames reserved")
+
+
 STRUCTS = [
     l4_kernel,
     l4_call,
@@ -353,6 +367,7 @@ STRUCTS = [
     l4_orders,
     l4_searched,
     l4_found,
+    l4_checkpoint,
 ]
 
 KERNEL = POINTER(l4_kernel)
@@ -453,6 +468,8 @@ FUNCTIONS: Dict[str, Tuple[Any, List[Any]]] = {
     "l4_orders_witness": (l4_count, [ORDERS, c_size_t, c_char_p, c_size_t]),
     "l4_orders_lines": (l4_count, [ORDERS, c_size_t, LINES, c_size_t]),
     "l4_orders_free": (None, [ORDERS]),
+    "l4_checkpoint_write": (l4_count, [KERNEL, c_uint32, c_size_t, c_char_p, c_size_t]),
+    "l4_checkpoint_read": (l4_checkpoint, [KERNEL, c_char_p, c_size_t]),
 }
 
 

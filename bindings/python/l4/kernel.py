@@ -171,6 +171,41 @@ class Kernel(Handle, Queries):
         """
         return Kernel._copied(lambda made: self._ask(library.l4_copy, made), self, self._frames)
 
+    def checkpoint(self, entries: int = 0) -> bytes:
+        """Returns the state of the kernel as bytes. You keep them as a file, to continue a run later or to share a fault.
+
+        `entries` is the number of steps in its history since boot, or 0 if you keep none. Raises Refused with NoMemory if an allocation
+        fails.
+
+        >>> from l4 import Call, Message, ThreadId
+        >>> kernel = Kernel(1)
+        >>> _ = kernel.start(1, Call.send(ThreadId.ROOT, Message.of(untyped=[5])))
+        >>> again = Kernel.from_checkpoint(kernel.checkpoint())
+        >>> again.enter(2, Call.receive()).steps[0].step
+        Transfer(sender=1, receiver=2)
+        """
+        given = self._frames, number(entries, "the number of entries", 64)
+        with self._turn:
+            room = self._told(self._ask(library.l4_checkpoint_write, *given, None, 0)).count
+            out = create_string_buffer(room)
+            self._told(self._ask(library.l4_checkpoint_write, *given, out, room))
+        return out.raw
+
+    @classmethod
+    def from_checkpoint(cls, data: bytes) -> Kernel:
+        """Returns exactly the kernel that `checkpoint` wrote. Raises Refused with B6 if the bytes are not a checkpoint, and with NoMemory if
+        an allocation fails."""
+        given, told = of_type(data, bytes, "a checkpoint"), []
+
+        def read(handle: Any) -> int:
+            told.append(library.l4_checkpoint_read(handle, given, len(given)))
+            return told[0].refusal
+
+        made = cls.__new__(cls)
+        Handle.__init__(made, _library.l4_kernel(), read, library.l4_free)
+        made._frames = told[0].frames
+        return made
+
     @classmethod
     def _copied(cls, copy: Callable[[Any], int], source: Handle, frames: int) -> Kernel:
         """Returns the kernel that a function of the library copies from the source. Raises ValueError if the source is closed."""

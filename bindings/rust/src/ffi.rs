@@ -93,6 +93,7 @@ constants! {
     L4_B3 = 0x4233;
     L4_B4 = 0x4234;
     L4_B5 = 0x4235;
+    L4_B6 = 0x4236;
     L4_K1 = 0x4B31;
     L4_K2 = 0x4B32;
     L4_K3 = 0x4B33;
@@ -183,6 +184,15 @@ constants! {
     L4_MOST_STATES = 2;
     L4_LACKED_MEMORY = 3;
     L4_LACKED_HISTORY = 4;
+    L4_OTHER_MAGIC = 1;
+    L4_OTHER_VERSION = 2;
+    L4_NO_FRAMES = 3;
+    L4_NO_PAGE_SIZE = 4;
+    L4_TOO_MANY_ENTRIES = 5;
+    L4_CUT = 6;
+    L4_OTHER_CHECKSUM = 7;
+    L4_EXTRA = 8;
+    L4_NO_STATE = 9;
     L4_SIGMA0_ID = 0x4001;
     L4_ROOT_ID = 0x8001;
     L4_NIL_FPAGE = 0;
@@ -455,6 +465,15 @@ structs! {
         orders: u64,
         states: u64,
     }
+
+    struct l4_checkpoint {
+        refusal: u32,
+        fault: u32,
+        position: u64,
+        entries: u64,
+        frames: u32,
+        reserved: u32,
+    }
 }
 
 functions! {
@@ -542,6 +561,8 @@ functions! {
     fn l4_orders_witness(orders: *mut l4_orders, outcome: usize, out: *mut c_char, room: usize) -> l4_count;
     fn l4_orders_lines(orders: *mut l4_orders, outcome: usize, lines: *mut u64, room: usize) -> l4_count;
     fn l4_orders_free(orders: *mut l4_orders) -> ();
+    fn l4_checkpoint_write(kernel: *mut l4_kernel, frames: u32, entries: usize, out: *mut u8, room: usize) -> l4_count;
+    fn l4_checkpoint_read(kernel: *mut l4_kernel, bytes: *const u8, length: usize) -> l4_checkpoint;
 }
 
 /// No step.

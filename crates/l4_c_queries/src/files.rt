@@ -10,7 +10,7 @@ use l4_segments::write_segment;
 use std::alloc::Global;
 
 /// Writes the bytes to the array, up to its length, and leaves the elements after them as they are.
-fn write_bytes(bytes: &[u8], out: &mut [u8])
+pub fn write_bytes(bytes: &[u8], out: &mut [u8])
     ensures { out.new ≡ placed bytes.now out.old }
 {
     for at in 0..bytes.len() {

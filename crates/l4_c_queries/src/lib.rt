@@ -14,6 +14,6 @@ pub use asking::{
 };
 pub use descending::{CountResult, PlaceResult, counted, list_descendants};
 pub use entries::{entry_of, receipt_of, segment_entry};
-pub use files::write_file;
+pub use files::{write_bytes, write_file};
 pub use states::{StateResult, no_state, state_of};
 pub use tracing::{Verdict, judge_links, trace, verdict_of};
