@@ -13,7 +13,7 @@ use Rattle.l4_record.specs.Sizes.{max_handed_out}
 use Rattle.l4_segments.specs.Entries.{AreWords}
 use Rattle.l4_segments.specs.Files.{bytes_of}
 use Rattle.l4_segments.proofs.Same.{words_same}
-use Rattle.l4_checkpoints.specs.Checkpoints.{heading_words, body_of, file_of, IsWritten, IsCheckpoint}
+use Rattle.l4_checkpoints.specs.Checkpoints.{heading_words, body_of, file_of, IsCheckpoint}
 
 bytes_word : (size : PageSize) → page_bytes size < 2 ^ 32
 bytes_word Kib4 = omega arith
