@@ -19,7 +19,7 @@ fn meaning(code: &'static [u8], line: &'static [u8]) -> Text
 }
 
 /// Returns the refusals of the library and of the kernel, and a failed allocation.
-fn kernel_texts() -> [Text; 11]
+fn kernel_texts() -> [Text; 12]
     ensures { map bytes_of result ≡ kernel_texts }
 {
     [
