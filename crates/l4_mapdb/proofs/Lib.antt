@@ -44,7 +44,6 @@ pub mod Held
 pub mod Rooming
 pub mod SameRights
 pub mod Sourced
-pub mod Spacing
 pub mod Tangling
 pub mod Tidying
 pub mod Unchanged

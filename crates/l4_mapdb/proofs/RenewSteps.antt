@@ -11,7 +11,7 @@ use Rattle.l4_mapdb.specs.declared.sources.UsedMove.{UsedMove}
 use Rattle.l4_mapdb.specs.Inside.Messages.{plain, IsMoved, turn, turn_of, IsNextMove}
 use Rattle.l4_mapdb.specs.Inside.Tangles.{AreApart}
 use Rattle.l4_mapdb.specs.Inside.Growing.{child_at, child_of, IsGround, Earlier, Mapped}
-use Rattle.l4_mapdb.specs.Inside.Renewing.{blank_at, CanRenew, RenewsAt, Spaced, Renewed}
+use Rattle.l4_mapdb.specs.Inside.Renewing.{CanRenew, RenewsAt, AreOverLeaves, Renewed}
 use Rattle.l4_mapdb.proofs.Unique.{same_value}
 use Rattle.l4_mapdb.proofs.Moves.{stand_of, found_of, is_at, entry_of, one_by, move_at}
 use Rattle.l4_mapdb.proofs.Leading.{leads_none}
@@ -19,13 +19,12 @@ use Rattle.l4_mapdb.proofs.Marking.{by_key, stand_in}
 use Rattle.l4_mapdb.proofs.View.{some_parent}
 use Rattle.l4_mapdb.proofs.Apart.{targets_differ, none_tangled}
 use Rattle.l4_mapdb.proofs.GrowthSteps.{passed_or_this, source_entry, child_as}
-use Rattle.l4_mapdb.proofs.Spacing.{blank_new}
 
 -- an entry is of one page
 one_place : (s : Entries) (key : ℕ) (p q : LinkPlace) → IsAt s p key → IsAt s q key → p ≡ q
 one_place s key p q a b = same_value (sym a ∙ b)
 
-module _ (start : Linked) (from to : ℕ) (items : List ItemMove) (ground : IsGround start from to) (apart : AreApart items (length items)) where
+module _ (start : Linked) (from to : ℕ) (items : List ItemMove) (ground : IsGround start from to) (apart : AreApart items (length items)) (over : AreOverLeaves start from to items) where
   abbrev Used : UsedMove → Type 0
   Used = IsMoved start.entries from to items
 
@@ -36,18 +35,13 @@ module _ (start : Linked) (from to : ℕ) (items : List ItemMove) (ground : IsGr
   source_place : (m : UsedMove) → Used m → (page : ℕ) → m.target ≢ record { space = from; page = page }
   source_place m used page same = ground.apart (ap (λ (p : LinkPlace). p.space) (sym same) ∙ used.to_space)
 
-  -- where all targets have keys none is replaced yet
-  pub none_renewed : (now : Linked) → Spaced start from to items Used now → Renewed start from to items (Earlier 0) now
-  none_renewed now spaced = record {
-    spaces = spaced.spaces;
-    kept = λ key e at _. spaced.kept key e at;
+  -- none is replaced at the start
+  pub none_renewed : Renewed start from to items (Earlier 0) start
+  none_renewed = record {
+    spaces = refl;
+    kept = λ key e at _. at;
     child = λ m used lt. absurd (omega (arith, lt));
-    only = λ key e at. elim (spaced.only key e at) [
-      | inl was ↦ inl (was, λ f. let lt = f.2 in absurd (omega (arith, lt)))
-      | inr n ↦ inr (inr (n.0, n.1, n.2, blank_new start from to items ground Used now spaced key e n.0 at n.2))
-    ];
-    there = λ m used. spaced.there m used used;
-    leaf = λ m used. spaced.leaf m used used;
+    only = λ key e at. inl (at, λ f. let lt = f.2 in absurd (omega (arith, lt)));
   }
 
   module _ (Done : UsedMove → Type 0) (now : Linked) (renewed : Renewed start from to items Done now) where
@@ -67,10 +61,7 @@ module _ (start : Linked) (from to : ℕ) (items : List ItemMove) (ground : IsGr
         let o = stand_of now.entries m.source (record { space = from; page = m.page }) used.standing used.stands in
         let at_start : entry_at start.entries m.source ≡ Some o.entry = elim (renewed.only m.source o.entry o.at) [
           | inl was ↦ was.0
-          | inr new ↦ elim new [
-            | inl n ↦ absurd (source_place n.0 n.1 m.page (ap (λ (e : Entry). e.place) (sym n.3) ∙ o.place_is))
-            | inr b ↦ absurd (let k : ◌≡◌ {A = Option Standing} None (Some o.standing) = ap (λ (e : Entry). e.stands) (sym b.2) ∙ o.stands in cc)
-          ]
+          | inr n ↦ absurd (source_place n.0 n.1 m.page (ap (λ (e : Entry). e.place) (sym n.3) ∙ o.place_is))
         ] in
         record { by = used.by; item = used.item; grant = used.grant; to_space = used.to_space; pages = used.pages; standing = used.standing; stands = ap stand_in (at_start ∙ sym o.at) ∙ used.stands; some_right = used.some_right }
 
@@ -92,12 +83,9 @@ module _ (start : Linked) (from to : ℕ) (items : List ItemMove) (ground : IsGr
               let p = ground.clean key f.entry was.0 in
               let same : p.standing ≡ t = same_value (sym p.stands ∙ f.stands) in
               p.some_right (ap (λ (x : Standing). x.rights) same ∙ none)
-          | inr new ↦ elim new [
-            | inl n ↦
-                let same : record { frame = n.1.standing.frame; rights = common n.1.standing.rights n.1.by.rights; source = false; granted = None; parent = Some n.0.source } ≡ t = same_value (ap (λ (e : Entry). e.stands) (sym n.3) ∙ f.stands) in
-                n.1.some_right (ap (λ (x : Standing). x.rights) same ∙ none)
-            | inr b ↦ (let k : ◌≡◌ {A = Option Standing} None (Some t) = ap (λ (e : Entry). e.stands) (sym b.2) ∙ f.stands in cc)
-          ]
+          | inr n ↦
+              let same : record { frame = n.1.standing.frame; rights = common n.1.standing.rights n.1.by.rights; source = false; granted = None; parent = Some n.0.source } ≡ t = same_value (ap (λ (e : Entry). e.stands) (sym n.3) ∙ f.stands) in
+              n.1.some_right (ap (λ (x : Standing). x.rights) same ∙ none)
         ]
 
     -- nothing that stands is marked
@@ -109,44 +97,31 @@ module _ (start : Linked) (from to : ℕ) (items : List ItemMove) (ground : IsGr
               let p = ground.clean key f.entry was.0 in
               let same : t ≡ p.standing = same_value (sym f.stands ∙ p.stands) in
               (ap (λ (x : Standing). x.source) same ∙ p.no_source, ap (λ (x : Standing). x.granted) same ∙ p.not_granted)
-          | inr new ↦ elim new [
-            | inl n ↦
-                let same : t ≡ record { frame = n.1.standing.frame; rights = common n.1.standing.rights n.1.by.rights; source = false; granted = None; parent = Some n.0.source } = same_value (sym f.stands ∙ ap (λ (e : Entry). e.stands) n.3) in
-                (ap (λ (x : Standing). x.source) same, ap (λ (x : Standing). x.granted) same)
-            | inr b ↦ absurd (let k : ◌≡◌ {A = Option Standing} None (Some t) = ap (λ (e : Entry). e.stands) (sym b.2) ∙ f.stands in cc)
-          ]
+          | inr n ↦
+              let same : t ≡ record { frame = n.1.standing.frame; rights = common n.1.standing.rights n.1.by.rights; source = false; granted = None; parent = Some n.0.source } = same_value (sym f.stands ∙ ap (λ (e : Entry). e.stands) n.3) in
+              (ap (λ (x : Standing). x.source) same, ap (λ (x : Standing). x.granted) same)
         ]
 
-    module _ (u : UsedMove) (here : Used u) (later : ¬ (Done u)) (others_done : (m : UsedMove) → Used m → Done m → turn_of m ≡ turn_of u → ⊥) (key : ℕ) (at : IsAt now.entries u.target key) where
-      -- what stood under the key of a target was at the target
-      stood_there : (e : Entry) → entry_at start.entries key ≡ Some e → IsAt start.entries u.target key
-      stood_there e was =
-          let o = entry_of now.entries key u.target at in
-          elim (renewed.only key o.0 o.1) [
-            | inl kept ↦ is_at start.entries key o.0 u.target kept.0 o.2
-            | inr new ↦ elim new [
-              | inl n ↦ absurd (others_done n.0 n.1 n.2 (targets_differ start.entries from to items apart n.0 u n.1 here (ap (λ (x : Entry). x.place) (sym n.3) ∙ o.2)))
-              | inr b ↦ absurd (let k : ◌≡◌ {A = Option Entry} None (Some e) = sym b.3 ∙ was in cc)
-            ]
-          ]
+    module _ (u : UsedMove) (here : Used u) (others_done : (m : UsedMove) → Used m → Done m → turn_of m ≡ turn_of u → ⊥) where
+      abbrev key : ℕ
+      key = (over u here).0
+
+      -- what is at the target is there as it was
+      at : IsAt now.entries u.target key
+      at =
+          let o = entry_of start.entries key u.target (over u here).1 in
+          is_at now.entries key o.0 u.target (renewed.kept key o.0 o.1 (λ f. others_done f.0 f.1 f.2 (targets_differ start.entries from to items apart f.0 u f.1 here (f.3 ∙ o.2)))) o.2
 
       none_under : (low : ℕ) → parent_of now.entries low ≡ Some key → ⊥
       none_under low up =
           let t = some_parent now.entries low key up in
           let f = found_of now.entries low t.0 t.1 in
           elim (renewed.only low f.entry f.at) [
-            | inl was ↦
-                let stands : standing_at start.entries low ≡ Some t.0 = ap (option_and_then (λ (e : Entry). e.stands)) was.0 ∙ f.stands in
-                let p = ground.trees.parents low t.0 key stands t.2 in
-                let g = found_of start.entries key p.above p.at in
-                renewed.leaf u here key (stood_there g.entry g.at) low (step (ap (option_and_then (λ (x : Standing). x.parent)) stands ∙ t.2))
-            | inr new ↦ elim new [
-              | inl n ↦
-                  let same : record { frame = n.1.standing.frame; rights = common n.1.standing.rights n.1.by.rights; source = false; granted = None; parent = Some n.0.source } ≡ t.0 = same_value (ap (λ (e : Entry). e.stands) (sym n.3) ∙ f.stands) in
-                  let source : n.0.source ≡ key = same_value (ap (λ (x : Standing). x.parent) same ∙ t.2) in
-                  source_place u here n.0.page (one_place now.entries key u.target (record { space = from; page = n.0.page }) at (subst (λ (k : ℕ). IsAt now.entries (record { space = from; page = n.0.page }) k) source (source_at n.0 n.1)))
-              | inr b ↦ (let k : ◌≡◌ {A = Option Standing} None (Some t.0) = ap (λ (e : Entry). e.stands) (sym b.2) ∙ f.stands in cc)
-            ]
+            | inl was ↦ (over u here).2 low (step (ap (option_and_then (λ (x : Standing). x.parent)) (ap (option_and_then (λ (e : Entry). e.stands)) was.0 ∙ f.stands) ∙ t.2))
+            | inr n ↦
+                let same : record { frame = n.1.standing.frame; rights = common n.1.standing.rights n.1.by.rights; source = false; granted = None; parent = Some n.0.source } ≡ t.0 = same_value (ap (λ (e : Entry). e.stands) (sym n.3) ∙ f.stands) in
+                let source : n.0.source ≡ key = same_value (ap (λ (x : Standing). x.parent) same ∙ t.2) in
+                source_place u here n.0.page (one_place now.entries key u.target (record { space = from; page = n.0.page }) at (subst (λ (k : ℕ). IsAt now.entries (record { space = from; page = n.0.page }) k) source (source_at n.0 n.1)))
           ]
 
       none_below : (low : ℕ) → Leads (parent_of now.entries) low key → ⊥
@@ -155,10 +130,7 @@ module _ (start : Linked) (from to : ℕ) (items : List ItemMove) (ground : IsGr
       unwanted : (e : Entry) → entry_at now.entries key ≡ Some e → e.wanted ≡ false
       unwanted e is = elim (renewed.only key e is) [
         | inl was ↦ (ground.clean key e was.0).unwanted
-        | inr new ↦ elim new [
-          | inl n ↦ ap (λ (x : Entry). x.wanted) n.3
-          | inr b ↦ ap (λ (x : Entry). x.wanted) b.2
-        ]
+        | inr n ↦ ap (λ (x : Entry). x.wanted) n.3
       ]
 
       -- a child can take the place
@@ -190,9 +162,7 @@ module _ (start : Linked) (from to : ℕ) (items : List ItemMove) (ground : IsGr
     not_yet m used lt same = let after = is.after in omega (arith, after, lt, same)
 
     pub ready_at : CanRenew u.source u.target by.rights now.entries
-    ready_at =
-        let t = renewed.there u here in
-        can_renew (Earlier next) now renewed u here (λ lt. not_yet u here lt refl) not_yet t.0 t.1 by item
+    ready_at = can_renew (Earlier next) now renewed u here not_yet by item
 
     which : (m : UsedMove) → Used m → turn_of m < turn u.item (u.page + 1) → (turn_of m < next) ⊎ (u ≡ m)
     which = passed_or_this start ground.places from to items now.entries next u is here (renewed_on (Earlier next) now renewed)
@@ -228,7 +198,7 @@ module _ (start : Linked) (from to : ℕ) (items : List ItemMove) (ground : IsGr
           | inr e ↦ (renews.key, child_is m used e)
         ];
         only = λ key e at. by_key key renews.key
-            (λ same. inr (inl (u, here, this_done, same_value (sym at ∙ ap (entry_at new.entries) same ∙ child_is u here refl))))
+            (λ same. inr (u, here, this_done, same_value (sym at ∙ ap (entry_at new.entries) same ∙ child_is u here refl)))
             (λ ne.
             let was = sym (renews.others key ne) ∙ at in
             elim (renewed.only key e was) [
@@ -239,20 +209,8 @@ module _ (start : Linked) (from to : ℕ) (items : List ItemMove) (ground : IsGr
                   | inr e_is ↦ ne (have.once u.target key renews.key (is_at now.entries key e u.target was (sym f.3 ∙ ap (λ (v : UsedMove). v.target) (sym e_is))) renews.at)
                 ],
               )
-              | inr later ↦ elim later [
-                | inl n ↦ inr (inl (n.0, n.1, weaker n.0 n.2, n.3))
-                | inr b ↦ inr (inr b)
-              ]
+              | inr n ↦ inr (n.0, n.1, weaker n.0 n.2, n.3)
             ]);
-        there = λ m used.
-            let t = renewed.there m used in
-            by_key t.0 renews.key
-            (λ same.
-            let o = entry_of now.entries t.0 m.target t.1 in
-            let place : u.target ≡ m.target = sym (at_key t.0 o.0 o.1 same) ∙ o.2 in
-            (renews.key, is_at new.entries renews.key (child_at u.target u.source renews.above by.rights) m.target renews.child place))
-            (λ ne. (t.0, ap (option_map {T = Entry} (λ x. x.place)) (renews.others t.0 ne) ∙ t.1));
-        leaf = renewed.leaf;
       }
 
   -- all used moves were passed
@@ -265,33 +223,28 @@ module _ (start : Linked) (from to : ℕ) (items : List ItemMove) (ground : IsGr
         child = λ m used _. renewed.child m used (passed m used);
         only = λ key e at. elim (renewed.only key e at) [
           | inl was ↦ inl (was.0, λ f. was.1 (f.0, f.1, passed f.0 f.1, f.3))
-          | inr new ↦ elim new [ inl n ↦ inr (inl (n.0, n.1, n.1, n.3)) | inr b ↦ inr (inr b) ]
+          | inr n ↦ inr (n.0, n.1, n.1, n.3)
         ];
-        there = renewed.there;
-        leaf = renewed.leaf;
       }
 
+  -- nothing descends from what is at a target
+  over_leaf : (m : UsedMove) → Used m → (key : ℕ) → IsAt start.entries m.target key → (low : ℕ) → ¬ (Leads (parent_of start.entries) low key)
+  over_leaf m used key at = let o = over m used in subst (λ (k : ℕ). (low : ℕ) → ¬ (Leads (parent_of start.entries) low k)) (ground.places.once m.target o.0 key o.1 at) o.2
+
   -- where all have their children the message is carried out
-  pub renewed_mapped : (now : Linked) → HavePlaces now → Renewed start from to items Used now → Mapped start from to items now
-  renewed_mapped now have renewed = record {
+  pub renewed_mapped : (now : Linked) → Renewed start from to items Used now → Mapped start from to items now
+  renewed_mapped now renewed = record {
     spaces = renewed.spaces;
     kept = λ key e at out. renewed.kept key e at (λ f. out (f.0, f.1, f.3));
     child = λ m used. renewed.child m used used;
     only = λ key e at. elim (renewed.only key e at) [
       | inl was ↦ inl (was.0, λ t. was.1 (t.0, t.1, t.1, t.2))
-      | inr new ↦ elim new [
-        | inl n ↦ inr (n.0, n.1, n.3)
-        | inr b ↦
-            let c = renewed.child b.0 b.1 b.1 in
-            let same : key ≡ c.0 = have.once b.0.target key c.0 (is_at now.entries key e b.0.target at (ap (λ (x : Entry). x.place) b.2)) (is_at now.entries c.0 (own_child b.0 b.1) b.0.target c.1 refl) in
-            let entries : blank_at b.0.target ≡ own_child b.0 b.1 = sym b.2 ∙ same_value (sym at ∙ ap (entry_at now.entries) same ∙ c.1) in
-            absurd (let k : ◌≡◌ {A = Option Standing} None (Some (record { frame = b.1.standing.frame; rights = common b.1.standing.rights b.1.by.rights; source = false; granted = None; parent = Some b.0.source })) = ap (λ (x : Entry). x.stands) entries in cc)
-      ]
+      | inr n ↦ inr (n.0, n.1, n.3)
     ];
-    leaf = λ m used key at. renewed.leaf m used key at;
+    leaf = over_leaf;
     free = none_tangled start.entries from to items apart (λ m used r. elim r.above [
       | inl same ↦ source_place m used r.other.page
           (one_place start.entries r.key m.target (record { space = from; page = r.other.page }) r.at (subst (λ (k : ℕ). IsAt start.entries (record { space = from; page = r.other.page }) k) same (move_at start.entries from to items r.other r.used)))
-      | inr d ↦ renewed.leaf m used r.key r.at r.other.source d
+      | inr d ↦ over_leaf m used r.key r.at r.other.source d
     ]);
   }

@@ -34,7 +34,7 @@ pub(crate) fn only_of_kind(from: u64, to: u64, items: &[ItemMove], grants: bool)
 }
 
 /// Delivers a message that only maps, from one space to another, if the targets of its used moves are absent, or if its items fill no page
-/// twice and nothing descends from these targets. Returns whether it was delivered; if not, nothing has changed.
+/// twice, all of these targets are present, and nothing descends from them. Returns whether it was delivered; if not, nothing has changed.
 ///
 /// Returns `NoMemory` if an allocation fails, or `Entangled` if one fails for a message that is entangled.
 pub(crate) fn deliver_maps(
@@ -73,12 +73,7 @@ pub(crate) fn deliver_maps(
     }
     links.law_places();
     links.law_trees();
-    let Err(stop) = take_places(links, from, to, items) else {
-        links.law_places();
-        return Ok(true);
-    };
-    if stop.refused {
-        return Err(refusal(links, from, to, items));
-    }
-    Ok(false)
+    let taken = take_places(links, from, to, items);
+    links.law_places();
+    Ok(taken)
 }

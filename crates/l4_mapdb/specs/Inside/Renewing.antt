@@ -1,29 +1,22 @@
--- Children that take the places of what nothing descends from, and of blanks, one after another. (this profile's own)
-use Rattle.std.specs.Prelude.{◌≡◌, ◌≢◌, ◌⊎◌, ◌<◌, ◌+◌, ◌^◌, ℕ, slice_get, List, Some, None, false, true}
+-- Children that take the places of what nothing descends from, one after another. (this profile's own)
+use Rattle.std.specs.Prelude.{◌≡◌, ◌≢◌, ◌⊎◌, ◌<◌, ◌+◌, ◌^◌, ℕ, slice_get, List, Some, None, false}
 use Rattle.l4_fpage.specs.Rights.{RightsSet, common, no_rights}
 use Rattle.l4_nodes.specs.declared.Place.{Place as LinkPlace}
 use Rattle.l4_links.specs.declared.Standing.{Standing}
 use Rattle.l4_links.specs.declared.Entry.{Entry}
-use Rattle.l4_links.specs.Entries.{Entries, Linked, entry_at, standing_at, IsAt, Descends, AddsBlank, HoldsChildren}
+use Rattle.l4_links.specs.Entries.{Entries, Linked, entry_at, standing_at, IsAt, Descends, HoldsChildren}
 use Rattle.l4_mapdb.specs.declared.ItemMove.{ItemMove}
 use Rattle.l4_mapdb.specs.declared.sources.UsedMove.{UsedMove}
-use Rattle.l4_mapdb.specs.declared.growing.Stop.{Stop}
 use Rattle.l4_mapdb.specs.Inside.Messages.{IsMoved}
 use Rattle.l4_mapdb.specs.Inside.Growing.{child_at, child_of}
-
--- a blank for the place
-abbrev pub blank_at : LinkPlace → Entry
-blank_at place = record { place = place; wanted = false; stands = None }
 
 -- nothing descends from the key
 abbrev pub IsLeaf : Entries → ℕ → Type 0
 IsLeaf s key = (low : ℕ) → ¬ (Descends s low key)
 
--- nothing descends from what is at the place, or a blank has come to it
-abbrev pub IsMade : LinkPlace → Linked → Linked → Type 0
-IsMade place old new =
-    ((key : ℕ) × IsAt old.entries place key × IsLeaf old.entries key × (new ≡ old))
-    ⊎ (((key : ℕ) → ¬ (IsAt old.entries place key)) × ((key : ℕ) × AddsBlank place old.entries new.entries key))
+-- something is at the move's target, and nothing descends from it
+abbrev pub IsOverLeaf : Entries → UsedMove → Type 0
+IsOverLeaf s move = (key : ℕ) × IsAt s move.target key × IsLeaf s key
 
 -- each shared page of the item has its child at its place already, and nothing descends from the child
 abbrev pub HoldsItem : ℕ → ℕ → ItemMove → Entries → Type 0
@@ -61,35 +54,18 @@ module _ (start : Linked) (from to : ℕ) (items : List ItemMove) where
   abbrev pub Moves : UsedMove → Type 0
   Moves = IsMoved start.entries from to items
 
-  -- nothing descends from what is at the target of a used move
-  abbrev pub IsOverLeaf : UsedMove → Type 0
-  IsOverLeaf move = (key : ℕ) → IsAt start.entries move.target key → IsLeaf start.entries key
-
-  -- the targets of the used moves that are done have keys, those that had none by a blank, and nothing else has changed
-  pub record Spaced (Done : UsedMove → Type 0) (now : Linked) : Type 0 where
-    pub spaces : now.spaces ≡ start.spaces
-    pub kept : (key : ℕ) (e : Entry) → entry_at start.entries key ≡ Some e → entry_at now.entries key ≡ Some e
-    pub only : (key : ℕ) (e : Entry) → entry_at now.entries key ≡ Some e → (entry_at start.entries key ≡ Some e) ⊎ ((move : UsedMove) × Moves move × (e ≡ blank_at move.target))
-    pub there : (move : UsedMove) → Moves move → Done move → (key : ℕ) × IsAt now.entries move.target key
-    pub leaf : (move : UsedMove) → Moves move → Done move → IsOverLeaf move
-
-  -- room is made up to a used move that has something at its target which others descend from, or for which memory was refused
-  pub record IsBarred (now : Linked) (stop : Stop) : Type 0 where
-    pub moved : Moves stop.used
-    pub spaced : Spaced (λ _. ⊥) now
-    pub lacks : stop.refused ≡ true → (key : ℕ) → ¬ (IsAt start.entries stop.used.target key)
+  -- each used move is over a leaf
+  abbrev pub AreOverLeaves : Type 0
+  AreOverLeaves = (move : UsedMove) → Moves move → IsOverLeaf start.entries move
 
   -- a used move that is done fills the place
   abbrev pub IsFilledBy : (UsedMove → Type 0) → LinkPlace → Type 0
   IsFilledBy Done place = (move : UsedMove) × Moves move × Done move × (move.target ≡ place)
 
-  -- the used moves that are done have their children at their targets, those of the others are as they were or blanks, and nothing else has changed
+  -- the used moves that are done have their children at their targets, and nothing else has changed
   pub record Renewed (Done : UsedMove → Type 0) (now : Linked) : Type 0 where
     pub spaces : now.spaces ≡ start.spaces
     pub kept : (key : ℕ) (e : Entry) → entry_at start.entries key ≡ Some e → ¬ (IsFilledBy Done e.place) → entry_at now.entries key ≡ Some e
     pub child : (move : UsedMove) (used : Moves move) → Done move → (key : ℕ) × (entry_at now.entries key ≡ Some (child_of start from to items move used))
     pub only : (key : ℕ) (e : Entry) → entry_at now.entries key ≡ Some e →
-        ((entry_at start.entries key ≡ Some e) × ¬ (IsFilledBy Done e.place))
-        ⊎ (((move : UsedMove) × (used : Moves move) × Done move × (e ≡ child_of start from to items move used)) ⊎ ((move : UsedMove) × Moves move × (e ≡ blank_at move.target) × (entry_at start.entries key ≡ None)))
-    pub there : (move : UsedMove) → Moves move → (key : ℕ) × IsAt now.entries move.target key
-    pub leaf : (move : UsedMove) → Moves move → IsOverLeaf move
+        ((entry_at start.entries key ≡ Some e) × ¬ (IsFilledBy Done e.place)) ⊎ ((move : UsedMove) × (used : Moves move) × Done move × (e ≡ child_of start from to items move used))

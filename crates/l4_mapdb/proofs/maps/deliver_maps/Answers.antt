@@ -1,12 +1,12 @@
-use Rattle.std.proofs.Common.{◌≡◌, ℕ, sym, ◌∙◌, IsTrue, subst}
-use Rattle.l4_links.specs.Entries.{entry_at}
+use Rattle.std.proofs.Common.{sym, ap, ◌∙◌, IsTrue, subst}
+use Rattle.l4_links.specs.Entries.{Linked, entry_at}
 use Rattle.l4_mapdb.specs.Delivering.{IsClean}
 use Rattle.l4_mapdb.specs.Inside.Growing.{IsGround}
 use Rattle.l4_mapdb.proofs.Prepared.{cause_of}
 use Rattle.l4_mapdb.proofs.RoomMade.{lacks_same, lacks_still}
 use Rattle.l4_mapdb.proofs.Unchanged.{unchanged}
 use Rattle.l4_mapdb.proofs.Grown.{delivered_now, delivered_same}
-use Rattle.l4_mapdb.proofs.maps.deliver_maps.Goals.{After-grow_children, After-take_places}
+use Rattle.l4_mapdb.proofs.maps.deliver_maps.Goals.{After-grow_children, After-take_places-taken}
 use Rattle.std.specs.Ordering.{nat_cmp}
 use Rattle.l4_mapdb.proofs.maps.deliver_maps.Goals as goal
 use Rattle.std.specs.FinSet as set
@@ -27,29 +27,19 @@ returns-then-stop-clause-cause c = cause_of c.args.links.now c.law_places.ensure
     (lacks_same c.args.links.now c.requires.clean c.args.from c.args.to c.args.items.now c.grow_children.new.links.entries c.in-Err.ensures.err c.refusal.result c.refusal.ensures)
 
 -- the second way begins where the first did
-clean_still : (c : goal.After-take_places) → IsClean c.grow_children.new.links
+clean_still : (c : goal.After-take_places-taken) → IsClean c.grow_children.new.links
 clean_still c key e at = c.requires.clean key e (sym (c.in-Err.ensures.err key) ∙ at)
 
-again : (c : goal.After-take_places) → IsGround c.grow_children.new.links c.args.from c.args.to
+again : (c : goal.After-take_places-taken) → IsGround c.grow_children.new.links c.args.from c.args.to
 again c = record { places = c.law_places-2.ensures; trees = c.law_trees-2.ensures; clean = clean_still c; apart = c.only_of_kind.ensures.apart c.if-not-only_of_kind.false }
 
-pub returns-in_default-take_places-clause-done : goal.returns-in_default-take_places-clause-done
-returns-in_default-take_places-clause-done c = λ _.
-    delivered_same c.args.from c.args.to c.args.items.now c.args.links.now c.grow_children.new.links c.take_places.new.links
+pub returns-clause-done : goal.returns-clause-done
+returns-clause-done c = λ taken.
+    delivered_same c.args.from c.args.to c.args.items.now c.args.links.now c.grow_children.new.links c.take_places-taken.new.links
     (unchanged c.args.links.now c.grow_children.new.links c.law_places.ensures c.law_places-2.ensures c.grow_children.ensures.spaces c.in-Err.ensures.err) c.in-Err.ensures.err
-    (delivered_now c.grow_children.new.links c.args.from c.args.to c.args.items.now (again (goal.at.returns-in_default-take_places-clause-done c).After-take_places)
-    (subst (λ (s : set.FinSet nat_cmp). IsTrue (set.contains s c.args.to)) (sym c.grow_children.ensures.spaces) c.requires.there) (c.only_of_kind.ensures.kind c.if-not-only_of_kind.false) c.take_places.new.links
-    c.in_default-take_places.ensures.ok c.law_places-in_default-take_places.ensures)
+    (delivered_now c.grow_children.new.links c.args.from c.args.to c.args.items.now (again (goal.at.returns-clause-done c).After-take_places-taken)
+    (subst (λ (s : set.FinSet nat_cmp). IsTrue (set.contains s c.args.to)) (sym c.grow_children.ensures.spaces) c.requires.there) (c.only_of_kind.ensures.kind c.if-not-only_of_kind.false) c.take_places-taken.new.links
+    (c.take_places-taken.ensures.mapped taken) c.law_places-3.ensures)
 
--- all is as before after both
-same : (c : goal.After-take_places) → ((key : ℕ) → entry_at c.take_places.new.links.entries key ≡ entry_at c.grow_children.new.links.entries key) → (key : ℕ) → entry_at c.take_places.new.links.entries key ≡ entry_at c.args.links.now.entries key
-same c err key = err key ∙ c.in-Err.ensures.err key
-
-pub refusal-requires-then-stop-2 : goal.refusal-requires-then-stop-2
-refusal-requires-then-stop-2 c = lacks_still c.grow_children.new.links (clean_still (goal.at.refusal-requires-then-stop-2 c).After-take_places) c.args.from c.args.to c.args.items.now c.take_places.new.links.entries c.in-Err-take_places.ensures.err
-    (c.in-Err-take_places.stop.used, c.in-Err-take_places.ensures.stop.0, c.in-Err-take_places.ensures.stop.1 c.if-stop-2.true)
-
-pub returns-then-stop-2-clause-cause : goal.returns-then-stop-2-clause-cause
-returns-then-stop-2-clause-cause c = cause_of c.args.links.now c.law_places.ensures c.law_trees.ensures c.args.from c.args.to c.args.items.now c.refusal-then-stop-2.result
-    (lacks_same c.args.links.now c.requires.clean c.args.from c.args.to c.args.items.now c.take_places.new.links.entries
-    (same (goal.at.returns-then-stop-2-clause-cause c).After-take_places c.in-Err-take_places.ensures.err) c.refusal-then-stop-2.result c.refusal-then-stop-2.ensures)
+pub returns-clause-left : goal.returns-clause-left
+returns-clause-left c = λ left key. ap (λ (s : Linked). entry_at s.entries key) (c.take_places-taken.ensures.left left) ∙ c.in-Err.ensures.err key

@@ -13,7 +13,7 @@ pub loop-used-init : goal.loop-used-init
 loop-used-init c = rw c.new-moves.ensures (record {
   fits = omega arith;
   spaces = refl;
-  renewed = λ start ground spaced. none_renewed start c.args.from c.args.to c.args.items.now ground c.requires.apart c.args.links.now spaced;
+  renewed = none_renewed c.args.links.now c.args.from c.args.to c.args.items.now c.requires.ground c.requires.apart c.requires.over;
 })
 
 -- the item of the used move
@@ -22,15 +22,13 @@ item_at c = read_there c.args.items.now c.in-Some.used.item c.index-items-used.r
 
 pub renew-requires-clause-ready : goal.renew-requires-clause-ready
 renew-requires-clause-ready c =
-    let r = c.requires.ready in
     subst (λ (b : ItemMove). CanRenew c.in-Some.used.source c.in-Some.used.target b.rights c.loop-used.links.entries) c.index-items-used.is
-    (ready_at r.0 c.args.from c.args.to c.args.items.now r.1 c.requires.apart c.loop-used.links (turn_in c.loop-used.moves) c.in-Some.used c.index-items-used.result c.in-Some.ensures.gives
-    (item_at (goal.at.renew-requires-clause-ready c).After-law_places) (c.loop-used.invariant.renewed r.0 r.1 r.2))
+    (ready_at c.args.links.now c.args.from c.args.to c.args.items.now c.requires.ground c.requires.apart c.requires.over c.loop-used.links (turn_in c.loop-used.moves) c.in-Some.used c.index-items-used.result c.in-Some.ensures.gives
+    (item_at (goal.at.renew-requires-clause-ready c).After-law_places) c.loop-used.invariant.renewed)
 
 pub renew-requires-clause-rights : goal.renew-requires-clause-rights
 renew-requires-clause-rights c =
-    let r = c.requires.ready in
-    renewed_rights r.0 c.args.from c.args.to c.args.items.now r.1 c.requires.apart (Earlier (turn_in c.loop-used.moves)) c.loop-used.links (c.loop-used.invariant.renewed r.0 r.1 r.2)
+    renewed_rights c.args.links.now c.args.from c.args.to c.args.items.now c.requires.ground c.requires.apart c.requires.over (Earlier (turn_in c.loop-used.moves)) c.loop-used.links c.loop-used.invariant.renewed
 
 pub loop-used-preserved : goal.loop-used-preserved
 loop-used-preserved c =
@@ -39,11 +37,11 @@ loop-used-preserved c =
     rw c.in-Some.ensures.passes (record {
       fits = omega (arith, fits);
       spaces = c.renew.ensures.spaces ∙ c.loop-used.invariant.spaces;
-      renewed = λ start ground spaced. renewed_more start c.args.from c.args.to c.args.items.now ground c.requires.apart c.loop-used.links (turn_in c.loop-used.moves) c.in-Some.used c.index-items-used.result
-          c.in-Some.ensures.gives item (c.loop-used.invariant.renewed start ground spaced) c.renew.new.links c.renew.ensures.spaces c.law_places.ensures
+      renewed = renewed_more c.args.links.now c.args.from c.args.to c.args.items.now c.requires.ground c.requires.apart c.requires.over c.loop-used.links (turn_in c.loop-used.moves) c.in-Some.used c.index-items-used.result
+          c.in-Some.ensures.gives item c.loop-used.invariant.renewed c.renew.new.links c.renew.ensures.spaces c.law_places.ensures
           (subst (λ (b : ItemMove). RenewsAt c.in-Some.used.source c.in-Some.used.target b.rights c.loop-used.links.entries c.renew.new.links.entries) (sym c.index-items-used.is) c.renew.ensures.renews);
     })
 
 pub returns-clause-renewed : goal.returns-clause-renewed
-returns-clause-renewed c = λ start ground spaced.
-    renewed_all start c.args.from c.args.to c.args.items.now ground c.requires.apart c.loop-used.links (turn_in c.loop-used.moves) c.in_default.ensures.gives (c.loop-used.invariant.renewed start ground spaced)
+returns-clause-renewed c =
+    renewed_all c.args.links.now c.args.from c.args.to c.args.items.now c.requires.ground c.requires.apart c.requires.over c.loop-used.links (turn_in c.loop-used.moves) c.in_default.ensures.gives c.loop-used.invariant.renewed

@@ -1,8 +1,7 @@
 use Rattle.std.proofs.Common.{◌≡◌, ◌≤◌}
-use Rattle.l4_links.specs.Entries.{Linked}
-use Rattle.l4_mapdb.specs.Inside.Messages.{IsMoved, turn_in, turns_left}
-use Rattle.l4_mapdb.specs.Inside.Growing.{IsGround, Earlier}
-use Rattle.l4_mapdb.specs.Inside.Renewing.{Spaced, Renewed}
+use Rattle.l4_mapdb.specs.Inside.Messages.{turn_in, turns_left}
+use Rattle.l4_mapdb.specs.Inside.Growing.{Earlier}
+use Rattle.l4_mapdb.specs.Inside.Renewing.{Renewed}
 use Rattle.l4_mapdb.proofs.renewing.renew_all.Given as goal
 use Rattle.l4_fpage.specs.Pages.{most_pages}
 
@@ -11,8 +10,7 @@ abbrev pub invariant-loop-used : goal.invariant-loop-used
 invariant-loop-used l = record {
   fits : l.moves.page ≤ most_pages;
   spaces : l.links.spaces ≡ l.fn.links.spaces;
-  renewed : (start : Linked) → IsGround start l.from l.to → Spaced start l.from l.to l.items (IsMoved start.entries l.from l.to l.items) l.fn.links
-      → Renewed start l.from l.to l.items (Earlier (turn_in l.moves)) l.links;
+  renewed : Renewed l.fn.links l.from l.to l.items (Earlier (turn_in l.moves)) l.links;
 }
 
 abbrev pub decreases-loop-used : goal.decreases-loop-used
