@@ -1,5 +1,5 @@
 -- A message whose children have all come is delivered.
-use Rattle.std.proofs.Common.{◌≡◌, ◌≢◌, ℕ, false, List, Option, Some, None, is_some, IsTrue, option_and_then, option_map, refl, sym, ap, ◌∙◌, subst, inl, inr}
+use Rattle.std.proofs.Common.{◌≡◌, ℕ, false, List, Option, Some, None, is_some, IsTrue, option_and_then, option_map, refl, sym, ap, ◌∙◌, subst, inl, inr}
 use Rattle.std.proofs.lemmas.Bool.{false≢true}
 use Rattle.l4_fpage.specs.Rights.{common}
 use Rattle.l4_nodes.specs.declared.Place.{Place as LinkPlace}

@@ -1,5 +1,5 @@
 -- Children take the places of what is there, one after another.
-use Rattle.std.proofs.Common.{◌≡◌, ◌≢◌, ℕ, ◌+◌, ◌<◌, ◌⊎◌, false, List, length, Option, Some, None, option_and_then, option_map, refl, sym, ap, ◌∙◌, subst, slice_get, inl, inr, arith}
+use Rattle.std.proofs.Common.{◌≡◌, ◌≢◌, ℕ, ◌+◌, ◌<◌, ◌⊎◌, false, List, length, Some, None, option_and_then, refl, sym, ap, ◌∙◌, subst, slice_get, inl, inr, arith}
 use Rattle.l4_fpage.specs.Rights.{common}
 use Rattle.l4_nodes.specs.declared.Place.{Place as LinkPlace}
 use Rattle.l4_links.specs.declared.Standing.{Standing}
@@ -10,7 +10,7 @@ use Rattle.l4_mapdb.specs.declared.ItemMove.{ItemMove}
 use Rattle.l4_mapdb.specs.declared.sources.UsedMove.{UsedMove}
 use Rattle.l4_mapdb.specs.Inside.Messages.{plain, IsMoved, turn, turn_of, IsNextMove}
 use Rattle.l4_mapdb.specs.Inside.Tangles.{AreApart}
-use Rattle.l4_mapdb.specs.Inside.Growing.{child_at, child_of, IsGround, Earlier, Mapped}
+use Rattle.l4_mapdb.specs.Inside.Growing.{child_of, IsGround, Earlier, Mapped}
 use Rattle.l4_mapdb.specs.Inside.Renewing.{CanRenew, RenewsAt, AreOverLeaves, Renewed}
 use Rattle.l4_mapdb.proofs.Unique.{same_value}
 use Rattle.l4_mapdb.proofs.Moves.{stand_of, found_of, is_at, entry_of, one_by, move_at}

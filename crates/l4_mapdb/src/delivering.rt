@@ -1,6 +1,6 @@
 //! Delivers a message, or refuses it.
 
-ghost use Rattle.std.specs.Prelude.{◌≡◌, ℕ, List, Option, IsTrue, IsOk, OnOk, OnErr, IfOk, IfErr, true, false};
+ghost use Rattle.std.specs.Prelude.{◌≡◌, ◌≢◌, ℕ, List, Option, IsTrue, IsOk, OnOk, OnErr, IfOk, IfErr, true, false};
 ghost use Rattle.std.specs.FinSet as set;
 ghost use Rattle.l4_links.specs.Entries.{Linked, entry_at};
 ghost use Rattle.l4_mapdb.specs.Mappings.{IsForest};
@@ -9,6 +9,7 @@ ghost use Rattle.l4_mapdb.specs.Causes.{HasCause};
 ghost use Rattle.l4_mapdb.specs.View.{mappings_of};
 ghost use Rattle.l4_mapdb.specs.Delivering.{IsClean, RootsKnown, IsDelivered};
 ghost use Rattle.l4_mapdb.specs.Inside.Messages.{Cleared};
+ghost use Rattle.l4_mapdb.specs.Inside.Growing.{AreOfKind};
 ghost use Rattle.l4_mapdb.specs.Inside.Placing.{IsStart};
 
 use crate::cutting::cut;
@@ -70,6 +71,22 @@ fn deliver_any(links: &mut Links, from: u64, to: u64, items: &[ItemMove]) -> Res
     Ok(())
 }
 
+/// Returns whether the message is from one space to another, and each of its items grants (or maps, if `grants` is false).
+fn only_of_kind(from: u64, to: u64, items: &[ItemMove], grants: bool) -> bool
+    ensures apart { result ≡ true → from ≢ to }
+    ensures kind { result ≡ true → AreOfKind grants items.now }
+{
+    if from == to {
+        return false;
+    }
+    for item in 0..items.len() {
+        if items[item].grant != grants {
+            return false;
+        }
+    }
+    true
+}
+
 /// Delivers a message by a short path, if it only maps or has a single item that grants. Returns whether it was delivered; if not, nothing
 /// has changed.
 fn deliver_short(links: &mut Links, from: u64, to: u64, items: &[ItemMove]) -> Result<bool, Cause>
@@ -87,15 +104,14 @@ fn deliver_short(links: &mut Links, from: u64, to: u64, items: &[ItemMove]) -> R
     ensures spaces { links.new.spaces ≡ links.old.spaces }
 {
     links.law_places();
-    let done = match deliver_maps(links, from, to, items) {
-        Ok(done) => done,
-        Err(cause) => return Err(cause),
-    };
-    if done {
-        return Ok(true);
+    links.law_trees();
+    if only_of_kind(from, to, items, false) {
+        return deliver_maps(links, from, to, items);
     }
-    links.law_places();
-    deliver_grants(links, from, to, items)
+    if only_of_kind(from, to, items, true) {
+        return deliver_grants(links, from, to, items);
+    }
+    Ok(false)
 }
 
 /// Delivers a message. If it only maps, or grants by a single item, tries a shorter path first.

@@ -8,14 +8,13 @@ ghost use Rattle.l4_mapdb.specs.declared.sources.UsedMove.{UsedMove as AUsedMove
 ghost use Rattle.l4_mapdb.specs.Transfer.{IsUsed};
 ghost use Rattle.l4_mapdb.specs.Causes.{HasCause};
 ghost use Rattle.l4_mapdb.specs.View.{mappings_of};
-ghost use Rattle.l4_mapdb.specs.Delivering.{IsClean, IsDelivered};
+ghost use Rattle.l4_mapdb.specs.Delivering.{IsDelivered};
 ghost use Rattle.l4_mapdb.specs.Inside.Messages.{IsMoved};
 ghost use Rattle.l4_mapdb.specs.Inside.Tangles.{AreApart};
 ghost use Rattle.l4_mapdb.specs.Inside.Growing.{IsGround};
-ghost use Rattle.l4_mapdb.specs.Inside.Granting.{Handed};
+ghost use Rattle.l4_mapdb.specs.Inside.Granting.{AreGrants, Handed};
 
 use crate::cutting::end_of;
-use crate::maps::only_of_kind;
 use crate::preparing::refusal;
 use crate::{Cause, ItemMove};
 use l4_links::{Links, NoMemory, Place};
@@ -64,8 +63,9 @@ pub(crate) fn deliver_grants(
     to: u64,
     items: &[ItemMove],
 ) -> Result<bool, Cause>
-    requires clean { IsClean links.old }
+    requires ground { IsGround links.old from to }
     requires there { IsTrue (set.contains links.old.spaces to) }
+    requires grants { AreGrants items.now }
     ensures done { IfOk result
         (λ done. done ≡ true → IsDelivered from to items.now links.old links.new) }
     ensures left { IfOk result
@@ -77,11 +77,6 @@ pub(crate) fn deliver_grants(
         (HasCause (IsUsed (mappings_of links.old) from to items.now) (mappings_of links.old)) }
     ensures spaces { links.new.spaces ≡ links.old.spaces }
 {
-    links.law_places();
-    links.law_trees();
-    if !only_of_kind(from, to, items, true) {
-        return Ok(false);
-    }
     let handed = match grant_block(links, from, to, items) {
         Ok(handed) => handed,
         Err(_) => return Err(refusal(links, from, to, items)),

@@ -1,14 +1,14 @@
 //! A message that only maps, from one space to another, has two short paths: children at absent places, and children that replace nodes
 //! without descendants. Neither marks anything.
 
-ghost use Rattle.std.specs.Prelude.{◌≡◌, ◌≢◌, ℕ, IsTrue, OnErr, IfOk, IfErr, true, false};
+ghost use Rattle.std.specs.Prelude.{◌≡◌, ℕ, IsTrue, OnErr, IfOk, IfErr, true, false};
 ghost use Rattle.std.specs.FinSet as set;
 ghost use Rattle.l4_links.specs.Entries.{entry_at};
 ghost use Rattle.l4_mapdb.specs.Transfer.{IsUsed};
 ghost use Rattle.l4_mapdb.specs.Causes.{HasCause};
 ghost use Rattle.l4_mapdb.specs.View.{mappings_of};
-ghost use Rattle.l4_mapdb.specs.Delivering.{IsClean, IsDelivered};
-ghost use Rattle.l4_mapdb.specs.Inside.Growing.{AreOfKind};
+ghost use Rattle.l4_mapdb.specs.Delivering.{IsDelivered};
+ghost use Rattle.l4_mapdb.specs.Inside.Growing.{AreMaps, IsGround};
 
 use crate::growing::grow_children;
 use crate::preparing::refusal;
@@ -16,22 +16,6 @@ use crate::renewing::take_places;
 use crate::tangles::are_apart;
 use crate::{Cause, ItemMove};
 use l4_links::Links;
-
-/// Returns whether the message is from one space to another, and each of its items grants (or maps, if `grants` is false).
-pub(crate) fn only_of_kind(from: u64, to: u64, items: &[ItemMove], grants: bool) -> bool
-    ensures apart { result ≡ true → from ≢ to }
-    ensures kind { result ≡ true → AreOfKind grants items.now }
-{
-    if from == to {
-        return false;
-    }
-    for item in 0..items.len() {
-        if items[item].grant != grants {
-            return false;
-        }
-    }
-    true
-}
 
 /// Delivers a message that only maps, from one space to another, if the targets of its used moves are absent, or if its items fill no page
 /// twice, all of these targets are present, and nothing descends from them. Returns whether it was delivered; if not, nothing has changed.
@@ -43,8 +27,9 @@ pub(crate) fn deliver_maps(
     to: u64,
     items: &[ItemMove],
 ) -> Result<bool, Cause>
-    requires clean { IsClean links.old }
+    requires ground { IsGround links.old from to }
     requires there { IsTrue (set.contains links.old.spaces to) }
+    requires maps { AreMaps items.now }
     ensures done { IfOk result
         (λ done. done ≡ true → IsDelivered from to items.now links.old links.new) }
     ensures left { IfOk result
@@ -56,11 +41,6 @@ pub(crate) fn deliver_maps(
         (HasCause (IsUsed (mappings_of links.old) from to items.now) (mappings_of links.old)) }
     ensures spaces { links.new.spaces ≡ links.old.spaces }
 {
-    links.law_places();
-    links.law_trees();
-    if !only_of_kind(from, to, items, false) {
-        return Ok(false);
-    }
     let Err(stop) = grow_children(links, from, to, items) else {
         links.law_places();
         return Ok(true);

@@ -2,14 +2,9 @@ use Rattle.std.proofs.Common.{ℕ, sym, subst}
 use Rattle.l4_links.specs.Entries.{Linked, IsAt}
 use Rattle.l4_mapdb.specs.declared.sources.UsedMove.{UsedMove}
 use Rattle.l4_mapdb.specs.Inside.Messages.{IsMoved, LacksKey}
-use Rattle.l4_mapdb.specs.Inside.Growing.{IsGround}
 use Rattle.l4_mapdb.proofs.Prepared.{cause_of}
 use Rattle.l4_mapdb.proofs.Handed.{granted_now}
-use Rattle.l4_mapdb.proofs.granting.deliver_grants.Goals.{After-grant_block}
 use Rattle.l4_mapdb.proofs.granting.deliver_grants.Goals as goal
-
-ground : (c : goal.After-grant_block) → IsGround c.args.links.now c.args.from c.args.to
-ground c = record { places = c.law_places.ensures; trees = c.law_trees.ensures; clean = c.requires.clean; apart = c.only_of_kind.ensures.apart c.if-not-only_of_kind.false }
 
 pub refusal-requires : goal.refusal-requires
 refusal-requires c =
@@ -17,10 +12,10 @@ refusal-requires c =
 
 pub returns-in-Err-clause-cause : goal.returns-in-Err-clause-cause
 returns-in-Err-clause-cause c =
-    cause_of c.args.links.now c.law_places.ensures c.law_trees.ensures c.args.from c.args.to c.args.items.now c.refusal.result
+    cause_of c.args.links.now c.requires.ground.places c.requires.ground.trees c.args.from c.args.to c.args.items.now c.refusal.result
     (subst (λ (s : Linked). LacksKey (IsMoved s.entries c.args.from c.args.to c.args.items.now) s.entries c.refusal.result) c.in-Err.ensures.err c.refusal.ensures)
 
 pub returns-then-handed-clause-done : goal.returns-then-handed-clause-done
 returns-then-handed-clause-done c = λ _.
-    granted_now c.args.links.now c.args.from c.args.to c.args.items.now (ground (goal.at.returns-then-handed-clause-done c).After-grant_block) c.requires.there (c.only_of_kind.ensures.kind c.if-not-only_of_kind.false)
-    (c.in-Ok.ensures.apart c.if-handed.true) c.grant_block.new.links (c.in-Ok.ensures.handed c.if-handed.true) c.law_places-then-handed.ensures
+    granted_now c.args.links.now c.args.from c.args.to c.args.items.now c.requires.ground c.requires.there c.requires.grants
+    (c.in-Ok.ensures.apart c.if-handed.true) c.grant_block.new.links (c.in-Ok.ensures.handed c.if-handed.true) c.law_places.ensures

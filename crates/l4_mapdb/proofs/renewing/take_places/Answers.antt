@@ -1,4 +1,3 @@
-use Rattle.std.proofs.Common.{◌≡◌, true, false, sym, ◌∙◌}
 use Rattle.l4_mapdb.proofs.Held.{held_mapped}
 use Rattle.l4_mapdb.proofs.RenewSteps.{renewed_mapped}
 use Rattle.l4_mapdb.proofs.renewing.take_places.Goals as goal
