@@ -16,7 +16,7 @@ use Rattle.l4_checkpoints.specs.Checkpoints.{heading_words, IsCheckpoint, IsNoCh
 use Rattle.l4_checkpoints.specs.Inside.Reading.{AreNoHeading, BeginsWith, EndsWrong}
 use Rattle.l4_checkpoints.proofs.Same.{heading_fits, parts}
 
--- the length of a heading, so many words and a checksum
+-- the length of a heading, this number of words, and a checksum
 long : (head words : List ℕ) → length ((bytes_of head ++ bytes_of words) ++ sha256 (bytes_of head ++ bytes_of words)) ≡ 4 * length head + 4 * length words + 32
 long head words =
     let body : List ℕ = bytes_of head ++ bytes_of words in

@@ -31,7 +31,7 @@ pub record IsWritten (frames entries : ℕ) (m : Machine) (bytes : List ℕ) : T
   pub few : length words < 2 ^ 64
   pub bytes_are : bytes ≡ file_of frames m.size entries words
 
--- The bytes are a checkpoint of this machine, which booted with so many frames, and whose history has so many entries since boot.
+-- The bytes are a checkpoint of this machine, which booted with this number of frames, and whose history has this number of entries since boot.
 pub record IsCheckpoint (frames entries : ℕ) (m : Machine) (bytes : List ℕ) : Type 0 where
   pub written : IsWritten frames entries m bytes
   pub some : 1 ≤ frames

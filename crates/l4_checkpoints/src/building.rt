@@ -14,7 +14,7 @@ use std::alloc::Global;
 pub(crate) enum Stop {
     /// An allocation failed.
     NoMemory,
-    /// The words where so many are left are not those of a machine.
+    /// The words at the place where this number of words is left are not those of a machine.
     Words(usize),
 }
 
@@ -23,7 +23,7 @@ pub(crate) fn left_of(words: &Words<'_>) -> usize {
     words.as_slice().len()
 }
 
-/// Returns the last words of a list, so many of them, or none if there are fewer.
+/// Returns this number of words at the end of a list, or no word if the list has fewer.
 pub(crate) fn words_with(words: &[u32], left: usize) -> Words<'_> {
     match words.get(words.len().saturating_sub(left)..) {
         Some(rest) => Words::of(rest),

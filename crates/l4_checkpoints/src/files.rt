@@ -52,7 +52,7 @@ fn file_of(
     Ok(out)
 }
 
-/// Returns the checkpoint of a kernel that booted with these frames, and whose history has so many entries since boot. `read_checkpoint`
+/// Returns the checkpoint of a kernel that booted with this number of frames, and whose history has this number of entries since boot. `read_checkpoint`
 /// reads it if there are 1 to 4,096 frames, each frame that a page maps is one of them, and there are at most 2^63 entries.
 pub fn write_checkpoint(
     alloc: Global,

@@ -74,7 +74,7 @@ pub(crate) fn read_heading(bytes: &[u8]) -> Result<Heading, CheckpointFault>
     heading_of(record.as_slice())
 }
 
-/// Returns what is wrong with the length or the checksum of a file with so many words.
+/// Returns what is wrong with the length or the checksum of a file with this number of words.
 pub(crate) fn check_end(bytes: &[u8], count: usize) -> Option<CheckpointFault>
     requires { 32 ≤ length bytes.now }
     ensures { MatchOption result (32 + 4 * count + 32 ≡ length bytes.now)

@@ -26,7 +26,7 @@ const REQUESTS: u32 = 4;
 /// it a message without words at last.
 const ENTRIES: usize = 4 * REQUESTS as usize + 3;
 
-/// Waits for a message from any thread, and then answers so many requests by the table, turn by turn, each in the call that waits for the
+/// Waits for a message from any thread, and then answers this number of requests by the table, turn by turn, each in the call that waits for the
 /// next one. Returns how many there were.
 fn answer_requests<G: Gate>(gate: &mut G, sigma0: &mut Sigma0, requests: u32) -> u32 {
     let Ok(mut reply) = gate.enter(wait()) else {

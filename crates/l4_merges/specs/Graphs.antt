@@ -29,7 +29,7 @@ pub record IsNode {S : Type 0} (enabled : S → ℕ → Bool) (Turns : S → ℕ
   pub edges : AreEdges enabled Turns name At s one.edges.items
   pub end : IsEnd enabled HasOutcome s found one.end
 
--- THE GRAPH OF A STATE. Each entry stands for a state that a run from it reaches: the entry at this place for the state itself. The edges of an
+-- THE GRAPH OF A STATE. Each entry represents a state that a run from it reaches: the entry at this place for the state itself. The edges of an
 -- entry are the turns in its state, and an entry without edges has the outcome of its state. So every state that a run reaches has an entry.
 pub record IsGraph {S : Type 0} (enabled : S → ℕ → Bool) (Turns : S → ℕ → S → Type 0) (name : S → ℕ → ℕ) (HasOutcome : S → List ℕ → Type 0) (start : S) (found : List Found) (seen : List Seen) (place : ℕ) : Type 0 where
   pub states : ℕ → S

@@ -6,7 +6,7 @@ use Rattle.l4_options.specs.declared.requests.Options.TheVariants.{Run, History,
 use Rattle.l4_options.specs.declared.requests.StepOptions.{StepOptions}
 use Rattle.l4_options.specs.declared.requests.StepOptions.TheVariants.{Run as RunSteps, Show as ShowText}
 
--- a machine can have so many frames
+-- a machine can have this number of frames
 abbrev pub IsFrameCount : ℕ → Type 0
 IsFrameCount n = (1 ≤ n) × (n ≤ max_frames)
 

@@ -7,7 +7,7 @@ use Rattle.l4_merges.specs.declared.graph.Edge.{Edge}
 use Rattle.l4_merges.specs.declared.graph.Seen.{Seen}
 use Rattle.l4_orders.specs.Telling.{summary_text}
 
--- the number of the state at a place among so many: the last one has number 1
+-- the number of the state at a place in a list of this length: the last state has number 1
 abbrev pub state_text : ℕ → ℕ → List ℕ
 state_text count place = decimal (count - place)
 

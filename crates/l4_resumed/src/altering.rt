@@ -53,7 +53,7 @@ fn read(alloc: Global, file: &[u8], readings: &mut Readings) -> Result<(), Alloc
     }
 }
 
-/// Alters bytes of a file in two ways, up to 64 of them and none of its checksum, and reads what comes of it. Returns None if memory runs out.
+/// Alters bytes of a file in two ways, up to 64 of them and none of its checksum, and reads each altered file. Returns None if memory runs out.
 pub fn read_altered(alloc: Global, file: &[u8]) -> Option<Readings> {
     let mut readings = Readings { count: 0, wrong: 0 };
     let end = file.len().saturating_sub(DIGEST_BYTES);

@@ -19,7 +19,7 @@ pub struct Resumed {
 }
 
 impl Resumed {
-    /// Returns a word of the last checkpoint, so many bytes before its end.
+    /// Returns the word of the last checkpoint that begins this number of bytes before its end.
     fn word(&self, before: usize) -> u32 {
         let at = self.last.len().saturating_sub(before);
         match self.last.as_slice().get(at..at.saturating_add(4)) {

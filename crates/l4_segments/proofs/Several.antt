@@ -114,7 +114,7 @@ entry_other bytes fault fails = entry_kind bytes fault.position fault.kind fails
 pub from_on : (bytes : List ℕ) (at : ℕ) → take (length bytes - at) (drop at bytes) ≡ drop at bytes
 from_on bytes at = take_all (length bytes - at) (drop at bytes) (omega (arith, length-drop at bytes))
 
--- so many segments were read, which end at this position
+-- this number of segments was read, and the last one ends at this position
 pub record ReadSoFar (bytes : List ℕ) (segments : List Saved) (at : ℕ) : Type 0 where
   pub each : AreSegments segments
   pub begins : bytes ≡ saved_files segments ++ drop at bytes

@@ -34,7 +34,7 @@ body_of h entries = bytes_of (heading_code h) ++ bytes_of (entries_code entries)
 abbrev pub file_of : Heading → List Entry → List ℕ
 file_of h entries = body_of h entries ++ sha256 (body_of h entries)
 
--- a kernel can have so many frames, and recorders hand out entries with such numbers
+-- a kernel can have this number of frames, and recorders hand out entries with such numbers
 pub record IsHeading (h : Heading) : Type 0 where
   pub some : 1 ≤ h.frames
   pub few : h.frames ≤ max_frames

@@ -15,7 +15,7 @@ use Rattle.l4_text.specs.Streams.{WentOut}
 use Rattle.l4_text.specs.declared.faults.RunFault.{RunFault}
 use Rattle.l4_text.specs.declared.faults.RunFault.TheVariants.{Read, Write, Memory}
 
--- no line is refused, or the last of so many alone, and its refusal is the last answer
+-- no line is refused, or only the last one of this number of lines, and its refusal is the last answer
 abbrev pub StopsAtRefusal : ℕ → List Report → Type 0
 StopsAtRefusal count told =
     (has_refusal told ≡ false) ⊎ ((earlier : List Report) × (report : Report) × (refused_line report ≡ Some count) × (has_refusal earlier ≡ false) × (told ≡ earlier ++ report ∷ []))

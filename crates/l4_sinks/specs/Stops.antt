@@ -105,7 +105,7 @@ abbrev pub end_stop : ℕ → List (List ℕ) → Option Place
 end_stop number [] = None
 end_stop number (token ∷ tokens) = wrong number token LineEnd
 
--- at most so many fpages, the first of which is the token of this number; None where that is right to the end
+-- at most this number of fpages, the first of which is the token of this number; None if that is right to the end
 abbrev pub fpages_stop : PageSize → Names → ℕ → ℕ → List (List ℕ) → Option Place
 fpages_stop size names number most [] = None
 fpages_stop size names number zero (token ∷ tokens) = wrong number token LineEnd

@@ -29,7 +29,7 @@ pub record BeginsWith (bytes : List ℕ) (frames : ℕ) (size : PageSize) (entri
   pub bytes_are : bytes ≡ bytes_of words ++ drop 32 bytes
   pub within : 32 ≤ length bytes
 
--- the bytes are not a heading, so many words, and the checksum of both
+-- the bytes are not a heading, this number of words, and the checksum of both
 abbrev pub EndsWrong : List ℕ → ℕ → Type 0
 EndsWrong bytes count =
     (head words : List ℕ) → length head ≡ 8 → length words ≡ count → bytes ≢ (bytes_of head ++ bytes_of words) ++ sha256 (bytes_of head ++ bytes_of words)

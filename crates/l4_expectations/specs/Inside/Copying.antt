@@ -24,7 +24,7 @@ IsMemory (Differs difference) = ⊥
 IsMemory (Malformed n fault) = ⊥
 IsMemory (Stopped fault) = fault ≡ Memory
 
--- this text was added, with so many lines
+-- this text was added, with this number of lines
 pub record Added (old : Copying) (text : List ℕ) (count : ℕ) (new : Copying) : Type 0 where
   pub text_is : new.text.items ≡ old.text.items ++ text
   pub lines_are : new.lines ≡ old.lines + count
