@@ -6,7 +6,7 @@ use Rattle.l4_links.specs.Entries.{Entries}
 use Rattle.l4_mapdb.specs.declared.ItemMove.{ItemMove}
 use Rattle.l4_mapdb.specs.declared.sources.UsedMove.{UsedMove}
 use Rattle.l4_mapdb.specs.Inside.Messages.{IsMoved, turn, turn_of}
-use Rattle.l4_mapdb.specs.Inside.Tangles.{AreApart, Clashes, HasTangle, NoneReplaced}
+use Rattle.l4_mapdb.specs.Inside.Tangles.{AreApart, Replaces, Clashes, HasTangle}
 use Rattle.l4_mapdb.proofs.Moves.{one_by, move_item}
 use Rattle.l4_mapdb.proofs.Marking.{by_key}
 use Rattle.l4_mapdb.proofs.Restored.{by_bool}
@@ -17,7 +17,7 @@ pub record EndBy (items : List ItemMove) (end source target : ℕ) (grants : Boo
   pub targets : (item : ℕ) (by : ItemMove) → item < end → slice_get items item ≡ Some by → by.mv.target.first + 2 ^ by.mv.target.log ≤ target
   pub none : grants ≡ false → (item : ℕ) (by : ItemMove) → item < end → slice_get items item ≡ Some by → by.grant ≡ false
 
-pub either_no : (a b : Bool) → a || b ≡ false → (a ≡ false) × (b ≡ false)
+either_no : (a b : Bool) → a || b ≡ false → (a ≡ false) × (b ≡ false)
 either_no false b h = (refl, h)
 either_no true b h = absurd (let k : true ≡ false = h in cc)
 
@@ -118,5 +118,5 @@ module _ (s : Entries) (from to : ℕ) (items : List ItemMove) (apart : AreApart
   none_clashes m used (inl f) = (differing m f.other used f.used f.differ).1 (ap (λ (p : LinkPlace). p.page) (sym f.target))
   none_clashes m used (inr g) = (differing m g.1.other used g.1.used g.1.differ).0 g.0 (sym g.1.page_is)
 
-  pub none_tangled : NoneReplaced Used s → ¬ (HasTangle Used s)
+  pub none_tangled : ((m : UsedMove) → Used m → ¬ (Replaces Used s m.target)) → ¬ (HasTangle Used s)
   none_tangled spared h = elim h.tangles [ inl clash ↦ none_clashes h.move h.used clash | inr r ↦ spared h.move h.used r ]

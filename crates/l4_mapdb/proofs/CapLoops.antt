@@ -6,7 +6,8 @@ use Rattle.l4_fpage.specs.Rights.{RightsSet}
 use Rattle.l4_links.specs.Entries.{Entries, IsAt, NoKeyIn, IsNextKeyIn}
 use Rattle.l4_mapdb.specs.declared.ItemMove.{ItemMove}
 use Rattle.l4_mapdb.specs.Inside.Cutting.{IsGrantedAt, IsGrantOf, IsGrantBy, IsGrantBelow, Capped}
-use Rattle.l4_mapdb.proofs.Caps.{capped_both, capped_as, capped_none, place_same, place_back, granted_same, granted_back}
+use Rattle.l4_mapdb.proofs.Caps.{capped_both, capped_as, capped_none, place_same, granted_same}
+use Rattle.l4_mapdb.proofs.Unique.{same_value}
 
 -- what was granted to pages before this one is cut
 pub record CutSoFar (old now : Entries) (space first start end : ℕ) (rights : RightsSet) : Type 0 where
@@ -38,8 +39,8 @@ module _ (old now : Entries) (space first start end : ℕ) (rights : RightsSet) 
         page = page;
         from = omega (arith, so_far.begun, next.from);
         before = omega arith;
-        at = place_back old now so_far.capped.same (record { space = space; page = page }) key d.0;
-        granted = granted_back old now so_far.capped.same key rights d.1;
+        at = place_same now old (λ k. sym (so_far.capped.same k)) (record { space = space; page = page }) key d.0;
+        granted = granted_same now old (λ k. sym (so_far.capped.same k)) key rights d.1;
       }
 
       back : (key : ℕ) → IsGrantOf old space first (page + 1) rights key → IsGrantOf old space first start rights key ⊎ (IsAt now (record { space = space; page = page }) key × IsGrantedAt now key rights)
@@ -91,8 +92,8 @@ items_more old now new to items count by at so_far here =
           page = d.is.page;
           from = d.is.from;
           before = d.is.before;
-          at = place_back old now so_far.same (record { space = to; page = d.is.page }) key d.is.at;
-          granted = granted_back old now so_far.same key by.rights d.is.granted;
+          at = place_same now old (λ k. sym (so_far.same k)) (record { space = to; page = d.is.page }) key d.is.at;
+          granted = granted_same now old (λ k. sym (so_far.same k)) key by.rights d.is.granted;
         };
       };
     }
@@ -102,8 +103,7 @@ items_more old now new to items count by at so_far here =
       | inl lt ↦ inl (record { item = d.item; less = lt; by = d.by; at = d.at; is = d.is })
       | inr ge ↦
           let e : d.item ≡ count = omega (arith, ge, d.less) in
-          let both : Some d.by ≡ Some by = sym d.at ∙ ap (slice_get items) e ∙ at in
-          let same : d.by ≡ by = cc in
+          let same : d.by ≡ by = same_value (sym d.at ∙ ap (slice_get items) e ∙ at) in
           let is = subst (λ (x : ItemMove). IsGrantBy old to x key) same d.is in
           inr (record {
             grant = is.grant;

@@ -16,12 +16,13 @@ use Rattle.l4_mapdb.specs.Losing.{LosesRights}
 use Rattle.l4_mapdb.specs.Transfer.{PageMove, IsGone, IsCut}
 use Rattle.l4_mapdb.proofs.Unique.{same_value, same_rights}
 use Rattle.l4_mapdb.specs.View.{link_place, map_place, place_at, mapping_of, mappings_of}
-use Rattle.l4_mapdb.specs.Inside.Cutting.{bare, IsGrantedAt, IsOrBelow, Capped, IsGrantBelow}
+use Rattle.l4_mapdb.specs.Inside.Cutting.{IsGrantedAt, IsOrBelow, Capped, IsGrantBelow}
 use Rattle.l4_mapdb.specs.Inside.Placing.{IsStart, Used, IsTarget, Placed}
 use Rattle.l4_mapdb.specs.Inside.Settling.{left_by, settled_standing, settled_entry, settled}
 use Rattle.l4_mapdb.proofs.View.{shown_by_key, key_shows, some_standing, one_entry, descends_by_key, parent_is}
 use Rattle.l4_mapdb.proofs.Deciding.{none_or}
-use Rattle.l4_mapdb.proofs.Caps.{has_common}
+use Rattle.l4_mapdb.proofs.Caps.{has_common, IsSameBare, bare_stands, turned}
+use Rattle.l4_mapdb.proofs.EntriesLemmas.{decided}
 use Rattle.l4_mapdb.proofs.Lost.{HasLost, KeysLose, view_loses}
 use Rattle.l4_mapdb.proofs.Sourced.{stood}
 use Rattle.l4_mapdb.proofs.Moved.{at_settled, was_settled, places_settled, place_at_settled, granted_to, not_granted_here}
@@ -258,21 +259,11 @@ module _ (start now : Linked) (from to : ℕ) (items : List ItemMove) (ready : I
       not_lost : KeepsRight key t right → ¬ (LostKey key right)
       not_lost h l = l.lacks (h.1 l.top l.cap (grant_below l.top l.cap (ap (option_and_then (λ (y : Standing). y.granted)) l.at ∙ l.granted)) (ap (option_and_then (λ (y : Standing). y.granted)) l.at ∙ l.granted) (inr l.below))
 
-      has_or : (cap : RightsSet) (k : Right) → IsTrue (has cap k) ⊎ ¬ (IsTrue (has cap k))
-      has_or cap k = by_bool (has cap k)
-        where
-          by_bool : (b : Bool) → IsTrue b ⊎ ¬ (IsTrue b)
-          by_bool true = inl refl
-          by_bool false = inr (λ h. let z : false ≡ true = h in cc)
-
       above : (top : ℕ) (cap : RightsSet) → IsGrantedAt now.entries top cap → IsOrBelow now.entries key top → IsTrue (has (left_by t.granted t.rights) right) × ¬ (LostKey key right) → IsTrue (has cap right)
       above top cap granted (inl same) h =
           let g : t.granted ≡ Some cap = sym (ap (option_and_then (λ (y : Standing). y.granted)) at_t) ∙ ap (λ (k : ℕ). option_and_then (λ (y : Standing). y.granted) (standing_at now.entries k)) same ∙ granted in
           ((has_common t.rights cap right).0 (subst (λ (o : Option RightsSet). IsTrue (has (left_by o t.rights) right)) g h.0)).1
-      above top cap granted (inr d) h = elim (has_or cap right) [
-        | inl there ↦ there
-        | inr lacks ↦ absurd (by_standing (standing_at now.entries top) refl lacks)
-      ]
+      above top cap granted (inr d) h = decided (has cap right) (λ there. there) (λ lacks. absurd (by_standing (standing_at now.entries top) refl lacks))
         where
           by_standing : (o : Option Standing) → standing_at now.entries top ≡ o → ¬ (IsTrue (has cap right)) → ⊥
           by_standing None n lacks = let z : ◌≡◌ {A = Option RightsSet} None (Some cap) = sym (ap (option_and_then (λ (y : Standing). y.granted)) n) ∙ granted in cc
@@ -287,81 +278,28 @@ module _ (start now : Linked) (from to : ℕ) (items : List ItemMove) (ready : I
             below = d;
           })
 
-  -- what stands and its page are the same but for the rights
-  record Bare (key : ℕ) (e f : Entry) (t u : Standing) : Type 0 where
-    place : f.place ≡ e.place
-    frame : u.frame ≡ t.frame
-    parent : u.parent ≡ t.parent
-
-  bare_of : (key : ℕ) (e f : Entry) (t u : Standing) → bare (Some f) ≡ bare (Some e) → e.stands ≡ Some t → f.stands ≡ Some u → Bare key e f t u
-  bare_of key e f t u same at_t at_u =
-      let stands : ◌≡◌ {A = Option Standing} (Some (record u { rights = no_rights })) (Some (record t { rights = no_rights })) =
-      sym (ap (option_map (λ (x : Standing). record x { rights = no_rights })) at_u) ∙ ap (option_and_then (λ (x : Entry). x.stands)) same ∙ ap (option_map (λ (x : Standing). record x { rights = no_rights })) at_t in
-      let is : record u { rights = no_rights } ≡ record t { rights = no_rights } = same_value stands in
-      record {
-        place = same_value (ap (option_map {T = Entry} (λ x. x.place)) same);
-        frame = ap (λ (x : Standing). x.frame) is;
-        parent = ap (λ (x : Standing). x.parent) is;
-      }
-
   module _ (cur : Entries) (new : Linked) (capped : Capped (IsGrantBelow now.entries to items (length items)) now.entries cur) (buries : Buries cur new.entries) where
-    -- an entry before the caps for one after them
-    pub had_before : (key : ℕ) (f : Entry) (u : Standing) → entry_at cur key ≡ Some f → f.stands ≡ Some u → (e : Entry) × (t : Standing) × (entry_at now.entries key ≡ Some e) × (e.stands ≡ Some t)
-    had_before key f u at stands = go (entry_at now.entries key) refl
-      where
-        go : (o : Option Entry) → entry_at now.entries key ≡ o → (e : Entry) × (t : Standing) × (entry_at now.entries key ≡ Some e) × (e.stands ≡ Some t)
-        go None n = absurd (let z : ◌≡◌ {A = Option Entry} (bare (Some f)) None = ap bare (sym at) ∙ capped.same key ∙ ap bare n in cc)
-        go (Some e) is = inside e.stands refl
-          where
-            inside : (o : Option Standing) → e.stands ≡ o → (e : Entry) × (t : Standing) × (entry_at now.entries key ≡ Some e) × (e.stands ≡ Some t)
-            inside (Some t) s = (e, t, is, s)
-            inside None s = absurd (let z : ◌≡◌ {A = Option Standing} (Some (record u { rights = no_rights })) None =
-                sym (ap (option_map (λ (x : Standing). record x { rights = no_rights })) stands) ∙ ap (option_and_then (λ (x : Entry). x.stands)) (ap bare (sym at) ∙ capped.same key ∙ ap bare is) ∙ ap (option_map (λ (x : Standing). record x { rights = no_rights })) s in cc)
+    -- what is there after the burial was there before it, and where something stands it has rights
+    pub before_burial : (key : ℕ) (e : Entry) → entry_at new.entries key ≡ Some e → entry_at cur key ≡ Some e
+    before_burial key e at = elim (standing_at cur key) as (λ (o : Option Standing). standing_at cur key ≡ o → entry_at cur key ≡ Some e) [
+      | None ↦ λ none. sym (buries.kept key (λ t is. let z : ◌≡◌ {A = Option Standing} None (Some t) = sym none ∙ is in absurd cc)) ∙ at
+      | Some w ↦ λ stands. elim (none_or w.rights) [
+        | inl none ↦ absurd (let z : ◌≡◌ {A = Option Entry} (Some e) None = sym at ∙ buries.gone key w stands none in cc)
+        | inr some ↦ sym (buries.kept key (λ t is. subst (λ (x : Standing). x.rights ≢ no_rights) (same_value (sym stands ∙ is)) some)) ∙ at
+      ]
+    ] refl
 
-    has_after : (key : ℕ) (e : Entry) (t : Standing) → entry_at now.entries key ≡ Some e → e.stands ≡ Some t → (f : Entry) × (u : Standing) × (entry_at cur key ≡ Some f) × (f.stands ≡ Some u)
-    has_after key e t at stands = go (entry_at cur key) refl
-      where
-        go : (o : Option Entry) → entry_at cur key ≡ o → (f : Entry) × (u : Standing) × (entry_at cur key ≡ Some f) × (f.stands ≡ Some u)
-        go None n = absurd (let z : ◌≡◌ {A = Option Entry} None (bare (Some e)) = sym (ap bare n) ∙ capped.same key ∙ ap bare at in cc)
-        go (Some f) is = inside f.stands refl
-          where
-            inside : (o : Option Standing) → f.stands ≡ o → (f : Entry) × (u : Standing) × (entry_at cur key ≡ Some f) × (f.stands ≡ Some u)
-            inside (Some u) s = (f, u, is, s)
-            inside None s = absurd (let z : ◌≡◌ {A = Option Standing} None (Some (record t { rights = no_rights })) =
-                sym (ap (option_map (λ (x : Standing). record x { rights = no_rights })) s) ∙ ap (option_and_then (λ (x : Entry). x.stands)) (ap bare (sym is) ∙ capped.same key ∙ ap bare at) ∙ ap (option_map (λ (x : Standing). record x { rights = no_rights })) stands in cc)
-
-    -- what stands after the burial, stood before it with the same rights, of which there is one
     pub not_buried : (key : ℕ) (f : Entry) (u : Standing) → entry_at new.entries key ≡ Some f → f.stands ≡ Some u → (entry_at cur key ≡ Some f) × (u.rights ≢ no_rights)
-    not_buried key f u at stands = go (entry_at cur key) refl
-      where
-        go : (o : Option Entry) → entry_at cur key ≡ o → (entry_at cur key ≡ Some f) × (u.rights ≢ no_rights)
-        go None n =
-            let kept = buries.kept key (λ t is. let z : ◌≡◌ {A = Option Standing} None (Some t) = sym (ap (option_and_then (λ (x : Entry). x.stands)) n) ∙ is in absurd cc) in
-            absurd (let z : ◌≡◌ {A = Option Entry} (Some f) None = sym at ∙ kept ∙ n in cc)
-        go (Some g) is = inside g.stands refl
-          where
-            inside : (o : Option Standing) → g.stands ≡ o → (entry_at cur key ≡ Some f) × (u.rights ≢ no_rights)
-            inside None s =
-                let kept = buries.kept key (λ t st. let z : ◌≡◌ {A = Option Standing} None (Some t) = sym (ap (option_and_then (λ (x : Entry). x.stands)) is ∙ s) ∙ st in absurd cc) in
-                let same : f ≡ g = same_value (sym at ∙ kept ∙ is) in
-                absurd (let z : ◌≡◌ {A = Option Standing} (Some u) None = sym stands ∙ ap (λ (x : Entry). x.stands) same ∙ s in cc)
-            inside (Some w) s = elim (none_or w.rights) [
-              | inl none ↦ absurd (let z : ◌≡◌ {A = Option Entry} (Some f) None = sym at ∙ buries.gone key w (ap (option_and_then (λ (x : Entry). x.stands)) is ∙ s) none in cc)
-              | inr some ↦
-                  let at_w : standing_at cur key ≡ Some w = ap (option_and_then (λ (x : Entry). x.stands)) is ∙ s in
-                  let kept = buries.kept key (λ t st. subst (λ (x : Standing). x.rights ≢ no_rights) (same_value (sym at_w ∙ st)) some) in
-                  let same : f ≡ g = same_value (sym at ∙ kept ∙ is) in
-                  let u_is : w ≡ u = same_value (sym s ∙ ap (λ (x : Entry). x.stands) (sym same) ∙ stands) in
-                  (sym kept ∙ at, subst (λ (x : Standing). x.rights ≢ no_rights) u_is some)
-            ]
+    not_buried key f u at stands =
+        let here = before_burial key f at in
+        (here, λ none. let z : ◌≡◌ {A = Option Entry} (Some f) None = sym at ∙ buries.gone key u (ap (option_and_then (λ (x : Entry). x.stands)) here ∙ stands) none in cc)
 
     settled_at : (key : ℕ) (e : Entry) → entry_at now.entries key ≡ Some e → entry_at (settled now).entries key ≡ Some (record e { stands = option_map settled_standing e.stands })
     settled_at key e at = at_settled now key ∙ ap settled_entry at
 
-    lost_between : (key : ℕ) (e f : Entry) (t u : Standing) → entry_at now.entries key ≡ Some e → e.stands ≡ Some t → entry_at cur key ≡ Some f → f.stands ≡ Some u → u.rights ≢ no_rights
+    lost_between : (key : ℕ) (e f : Entry) (t u : Standing) → entry_at now.entries key ≡ Some e → e.stands ≡ Some t → entry_at cur key ≡ Some f → f.stands ≡ Some u → IsSameBare e f t u → u.rights ≢ no_rights
         → HasLost (LostKey key) (record e { stands = option_map settled_standing e.stands }) (settled_standing t) f u
-    lost_between key e f t u at_e at_t at_f at_u some =
-        let b = bare_of key e f t u (ap bare (sym at_f) ∙ capped.same key ∙ ap bare at_e) at_t at_u in
+    lost_between key e f t u at_e at_t at_f at_u b some =
         record {
           place = b.place;
           frame = b.frame;
@@ -374,12 +312,12 @@ module _ (start now : Linked) (from to : ℕ) (items : List ItemMove) (ready : I
     keys_lose = record {
       from = λ key f u at stands.
           let n = not_buried key f u at stands in
-          let h = had_before key f u n.0 stands in
-          (record h.0 { stands = option_map settled_standing h.0.stands }, settled_standing h.1, settled_at key h.0 h.2, ap (option_map settled_standing) h.3, lost_between key h.0 f h.1 u h.2 h.3 n.0 stands n.1);
+          let h = bare_stands (entry_at cur key) (entry_at now.entries key) (sym (capped.same key)) f u n.0 stands in
+          (record h.0 { stands = option_map settled_standing h.0.stands }, settled_standing h.1, settled_at key h.0 h.2, ap (option_map settled_standing) h.3, lost_between key h.0 f h.1 u h.2 h.3 n.0 stands (turned h.4) n.1);
       to = λ key was had at stands rights rights_are some.
           let w = was_settled (entry_at now.entries key) was (sym (at_settled now key) ∙ at) in
           let s = settled_from w.entry.stands had (ap (λ (x : Entry). x.stands) (sym w.is) ∙ stands) in
-          let a = has_after key w.entry s.0 w.was s.1 in
+          let a = bare_stands (entry_at now.entries key) (entry_at cur key) (capped.same key) w.entry s.0 w.was s.1 in
           let left = rights_left cur capped key s.0 a.1 (ap (option_and_then (λ (x : Entry). x.stands)) w.was ∙ s.1) (ap (option_and_then (λ (x : Entry). x.stands)) a.2 ∙ a.3) in
           let same : a.1.rights ≡ rights = same_rights a.1.rights rights (λ k. (
             λ h. (rights_are k).1 (let l = (left k).0 h in (subst (λ (x : Standing). IsTrue (has x.rights k)) (sym s.2) l.0, l.1)),
@@ -393,7 +331,7 @@ module _ (start now : Linked) (from to : ℕ) (items : List ItemMove) (ready : I
             kept ∙ a.2,
             a.3,
             subst (λ (x : Entry). HasLost (LostKey key) x had a.0 a.1) (sym w.is)
-                (subst (λ (x : Standing). HasLost (LostKey key) (record w.entry { stands = option_map settled_standing w.entry.stands }) x a.0 a.1) (sym s.2) (lost_between key w.entry a.0 s.0 a.1 w.was s.1 a.2 a.3 some_right)),
+                (subst (λ (x : Standing). HasLost (LostKey key) (record w.entry { stands = option_map settled_standing w.entry.stands }) x a.0 a.1) (sym s.2) (lost_between key w.entry a.0 s.0 a.1 w.was s.1 a.2 a.3 a.4 some_right)),
           );
     }
       where

@@ -23,7 +23,9 @@ use Rattle.l4_mapdb.specs.Inside.Settling.{settled}
 use Rattle.l4_mapdb.proofs.View.{some_standing, stands_at, one_entry, same_view}
 use Rattle.l4_mapdb.proofs.Deciding.{none_or}
 use Rattle.l4_mapdb.proofs.Moved.{moved, granted_to, not_granted_here}
-use Rattle.l4_mapdb.proofs.CutLoss.{cut_loses, had_before, not_buried}
+use Rattle.l4_mapdb.proofs.CutLoss.{cut_loses, before_burial, not_buried}
+use Rattle.l4_mapdb.proofs.Caps.{IsSameBare, bare_stands, turned}
+use Rattle.l4_mapdb.proofs.Restored.{target_in, source_in}
 
 -- an entry that was tidied
 record WasTidied (o : Option Entry) (e : Entry) : Type 0 where
@@ -117,49 +119,14 @@ module _ (start now : Linked) (from to : ℕ) (items : List ItemMove) (ready : I
     standing : Standing
     at : entry_at now.entries key ≡ Some entry
     stands : entry.stands ≡ Some standing
-    place : e.place ≡ entry.place
-    wanted : e.wanted ≡ entry.wanted
-    source : t.source ≡ standing.source
-    granted : t.granted ≡ standing.granted
-    frame : t.frame ≡ standing.frame
-    parent : t.parent ≡ standing.parent
+    same : IsSameBare entry e standing t
     some_right : t.rights ≢ no_rights
 
   stood_before : (key : ℕ) (e : Entry) (t : Standing) → entry_at buried.entries key ≡ Some e → e.stands ≡ Some t → Stood key e t
   stood_before key e t at stands =
       let n = not_buried start now from to items ready Done placed have trees all cur buried capped buries key e t at stands in
-      let h = had_before start now from to items ready Done placed have trees all cur buried capped buries key e t n.0 stands in
-      let same : bare (Some e) ≡ bare (Some h.0) = ap bare (sym n.0) ∙ capped.same key ∙ ap bare h.2 in
-      let both : ◌≡◌ {A = Option Standing} (Some (record t { rights = no_rights })) (Some (record h.1 { rights = no_rights })) =
-      sym (ap (option_map (λ (x : Standing). record x { rights = no_rights })) stands) ∙ ap (option_and_then (λ (x : Entry). x.stands)) same ∙ ap (option_map (λ (x : Standing). record x { rights = no_rights })) h.3 in
-      let is : record t { rights = no_rights } ≡ record h.1 { rights = no_rights } = same_value both in
-      record {
-        entry = h.0;
-        standing = h.1;
-        at = h.2;
-        stands = h.3;
-        place = same_value (ap (option_map {T = Entry} (λ x. x.place)) same);
-        wanted = same_value (ap (option_map {T = Entry} (λ x. x.wanted)) same);
-        source = ap (λ (x : Standing). x.source) is;
-        granted = ap (λ (x : Standing). x.granted) is;
-        frame = ap (λ (x : Standing). x.frame) is;
-        parent = ap (λ (x : Standing). x.parent) is;
-        some_right = n.1;
-      }
-
-  -- the pages of used moves are named by the items
-  target_named : (u : PageMove) → Moves u → OfItems from to items (length items) (link_place u.target)
-  target_named u used =
-      let w = used.pages.within in
-      let t = used.pages.target_is in
-      let size : 2 ^ used.by.mv.target.log ≡ 2 ^ used.by.mv.source.log = ap (λ (n : ℕ). 2 ^ n) (sym used.by.mv.same_size) in
-      (u.item, used.by, slice_get_within items u.item used.by used.item, used.item, inr (used.to_space, omega (arith, t), omega (arith, t, w, size)))
-
-  source_named : (u : PageMove) → Moves u → OfItems from to items (length items) (link_place u.source)
-  source_named u used =
-      let w = used.pages.within in
-      let t = used.pages.source_is in
-      (u.item, used.by, slice_get_within items u.item used.by used.item, used.item, inl (used.from_space, omega (arith, t), omega (arith, t, w)))
+      let h = bare_stands (entry_at cur key) (entry_at now.entries key) (sym (capped.same key)) e t n.0 stands in
+      record { entry = h.0; standing = h.1; at = h.2; stands = h.3; same = turned h.4; some_right = n.1 }
 
   -- a page that was tidied
   plain_tidied : (key : ℕ) (e : Entry) → entry_at new.entries key ≡ tidied (entry_at buried.entries key) → entry_at new.entries key ≡ Some e → IsPlain e
@@ -209,41 +176,18 @@ module _ (start now : Linked) (from to : ℕ) (items : List ItemMove) (ready : I
 
   -- nor is there one after the burial
   no_blank : (key : ℕ) (e : Entry) → entry_at buried.entries key ≡ Some e → e.stands ≡ None → ⊥
-  no_blank key e at blank = go (entry_at cur key) refl
-    where
-      stands_of : Option Entry → Option Standing
-      stands_of o = option_and_then (λ (x : Entry). x.stands) o
-
-      not_now : (o : Option Entry) → entry_at now.entries key ≡ o → (g : Entry) → entry_at cur key ≡ Some g → g.stands ≡ None → ⊥
-      not_now None n g is s = let z : ◌≡◌ {A = Option Entry} (bare (Some g)) None = ap bare (sym is) ∙ capped.same key ∙ ap bare n in cc
-      not_now (Some f) n g is s = not_standing f.stands refl
-        where
-          not_standing : (o : Option Standing) → f.stands ≡ o → ⊥
-          not_standing None b = all_stand key f n b
-          not_standing (Some t) b =
-              let same : bare (Some g) ≡ bare (Some f) = ap bare (sym is) ∙ capped.same key ∙ ap bare n in
-              let z : ◌≡◌ {A = Option Standing} None (Some (record t { rights = no_rights })) =
-              sym (ap (option_map (λ (x : Standing). record x { rights = no_rights })) s) ∙ ap (option_and_then (λ (x : Entry). x.stands)) same ∙ ap (option_map (λ (x : Standing). record x { rights = no_rights })) b in
+  no_blank key e at blank =
+      let here = before_burial start now from to items ready Done placed have trees all cur buried capped buries key e at in
+      elim (entry_at now.entries key) as (λ (o : Option Entry). entry_at now.entries key ≡ o → ⊥) [
+        | None ↦ λ none. let z : ◌≡◌ {A = Option Entry} (bare (Some e)) None = ap bare (sym here) ∙ capped.same key ∙ ap bare none in cc
+        | Some f ↦ λ was. elim f.stands as (λ (o : Option Standing). f.stands ≡ o → ⊥) [
+          | None ↦ λ none. all_stand key f was none
+          | Some t ↦ λ stands.
+              let u = bare_stands (entry_at now.entries key) (entry_at cur key) (capped.same key) f t was stands in
+              let z : ◌≡◌ {A = Option Standing} None (Some u.1) = sym blank ∙ ap (λ (x : Entry). x.stands) (same_value (sym here ∙ u.2)) ∙ u.3 in
               cc
-
-      go : (o : Option Entry) → entry_at cur key ≡ o → ⊥
-      go None n =
-          let kept = buries.kept key (λ t st. let z : ◌≡◌ {A = Option Standing} None (Some t) = sym (ap (option_and_then (λ (x : Entry). x.stands)) n) ∙ st in absurd cc) in
-          let z : ◌≡◌ {A = Option Entry} (Some e) None = sym at ∙ kept ∙ n in
-          cc
-      go (Some g) is = inside g.stands refl
-        where
-          inside : (o : Option Standing) → g.stands ≡ o → ⊥
-          inside None s = not_now (entry_at now.entries key) refl g is s
-          inside (Some w) s = elim (none_or w.rights) [
-            | inl none ↦ let z : ◌≡◌ {A = Option Entry} (Some e) None = sym at ∙ buries.gone key w (ap (option_and_then (λ (x : Entry). x.stands)) is ∙ s) none in cc
-            | inr some ↦
-                let at_w : standing_at cur key ≡ Some w = ap (option_and_then (λ (x : Entry). x.stands)) is ∙ s in
-                let kept = buries.kept key (λ t st. subst (λ (x : Standing). x.rights ≢ no_rights) (same_value (sym at_w ∙ st)) some) in
-                let same : e ≡ g = same_value (sym at ∙ kept ∙ is) in
-                let z : ◌≡◌ {A = Option Standing} None (Some w) = sym blank ∙ ap (λ (x : Entry). x.stands) same ∙ s in
-                cc
-          ]
+        ] refl
+      ] refl
 
   -- what stands where it stood is unmarked, or was tidied
   kept_plain : (key : ℕ) (e : Entry) (t : Standing) → entry_at buried.entries key ≡ Some e → e.stands ≡ Some t → entry_at new.entries key ≡ Some e → (s : Stood key e t)
@@ -253,18 +197,18 @@ module _ (start now : Linked) (from to : ℕ) (items : List ItemMove) (ready : I
       let l = placed.kept key before p.standing at_start p.stands (λ g. there (subst (λ (q : LinkPlace). IsGone Moves (mappings_of start) (map_place q)) same g)) (not_granted_here start now from to items ready Done placed have all key s.entry before s.at at_start same) in
       let is : s.entry ≡ record before { stands = Some (record p.standing { source = l.marked }) } = same_value (sym s.at ∙ l.at) in
       let standing_is : s.standing ≡ record p.standing { source = l.marked } = same_value (sym s.stands ∙ ap (λ (x : Entry). x.stands) is) in
-      let source_is : t.source ≡ l.marked = s.source ∙ ap (λ (x : Standing). x.source) standing_is in
+      let source_is : t.source ≡ l.marked = s.same.source ∙ ap (λ (x : Standing). x.source) standing_is in
       record {
         standing = t;
         stands = stands;
         some_right = s.some_right;
-        unwanted = s.wanted ∙ ap (λ (x : Entry). x.wanted) is ∙ p.unwanted;
-        no_source = source_is ∙ unmarked l.marked source_is (λ none. l.plain none) (λ v used place. source_named_here v used (place ∙ same ∙ sym s.place));
-        not_granted = s.granted ∙ ap (λ (x : Standing). x.granted) standing_is ∙ p.not_granted;
+        unwanted = s.same.wanted ∙ ap (λ (x : Entry). x.wanted) is ∙ p.unwanted;
+        no_source = source_is ∙ unmarked l.marked source_is (λ none. l.plain none) (λ v used place. source_named_here v used (place ∙ same ∙ sym s.same.place));
+        not_granted = s.same.granted ∙ ap (λ (x : Standing). x.granted) standing_is ∙ p.not_granted;
       }
     where
       source_named_here : (v : PageMove) → Moves v → link_place v.source ≡ e.place → OfItems from to items (length items) e.place
-      source_named_here v used place = subst (OfItems from to items (length items)) place (source_named v used)
+      source_named_here v used place = subst (OfItems from to items (length items)) place (source_in from to items v.item used.by v.target.page (link_place v.source) used.item used.from_space used.pages)
 
       unmarked : (marked : Bool) → t.source ≡ marked → (((v : PageMove) → Moves v → link_place v.source ≢ before.place) → marked ≡ false)
           → ((v : PageMove) → Moves v → link_place v.source ≡ before.place → OfItems from to items (length items) e.place) → marked ≡ false
@@ -287,7 +231,7 @@ module _ (start now : Linked) (from to : ℕ) (items : List ItemMove) (ready : I
       untouched at_old (Some t) stands =
           let s = stood_before key e t at_old stands in
           elim (placed.only key s.entry s.at) [
-            | inl v ↦ plain_tidied key e (tidied_here key e at_old (subst (OfItems from to items (length items)) (v.target ∙ sym s.place) (target_named v.move v.used))) at
+            | inl v ↦ plain_tidied key e (tidied_here key e at_old (subst (OfItems from to items (length items)) (v.target ∙ sym s.same.place) (target_in from to items v.move.item v.used.by v.move.source.page (link_place v.move.target) v.used.item v.used.to_space v.used.pages))) at
             | inr o ↦ kept_plain key e t at_old stands at s o.0 o.1 o.2 o.3
           ]
 
@@ -337,7 +281,7 @@ module _ (start now : Linked) (from to : ℕ) (items : List ItemMove) (ready : I
       from_buried : (e : Entry) (t : Standing) → entry_at buried.entries key ≡ Some e → e.stands ≡ Some t → t.parent ≡ None → slice_get roots t.frame ≡ Some key
       from_buried e t at stands top =
           let s = stood_before key e t at stands in
-          ap (slice_get roots) s.frame ∙ root_now key s.entry s.standing s.at s.stands (sym s.parent ∙ top) roots known
+          ap (slice_get roots) s.same.frame ∙ root_now key s.entry s.standing s.at s.stands (sym s.same.parent ∙ top) roots known
 
   -- the message is delivered
   pub delivers_in_the_end : HavePlaces buried → AreTrees buried.entries → HavePlaces new → buried.spaces ≡ now.spaces → new.spaces ≡ buried.spaces → Delivers from to items (mappings_of start) (mappings_of new)

@@ -9,15 +9,11 @@ use Rattle.l4_links.specs.Entries.{Entries, Linked, entry_at, standing_at, paren
 use Rattle.l4_mapdb.specs.declared.ItemMove.{ItemMove}
 use Rattle.l4_mapdb.specs.declared.sources.UsedMove.{UsedMove}
 use Rattle.l4_mapdb.specs.Inside.Messages.{stand_at, IsMoved, turn, turn_of, IsNextMove, IsWanted, Before, Goes, IsClearedAt}
-use Rattle.l4_mapdb.proofs.Leading.{leads_on}
+use Rattle.l4_mapdb.proofs.Leading.{leads_on, leads_within}
 use Rattle.l4_mapdb.proofs.Moves.{is_at}
-use Rattle.l4_mapdb.proofs.Marking.{by_key, stand_in, same_move}
+use Rattle.l4_mapdb.proofs.View.{some_parent}
+use Rattle.l4_mapdb.proofs.Marking.{by_key, stand_in, moved_by_key, same_move}
 use Rattle.l4_mapdb.proofs.Tangling.{no_leads}
-
--- a used move where the same stands under its key
-pub moved_by_key : (a b : Entries) (from to : ℕ) (items : List ItemMove) (m : UsedMove) → stand_at b m.source ≡ stand_at a m.source → IsMoved b from to items m → IsMoved a from to items m
-moved_by_key a b from to items m same used =
-    record { by = used.by; item = used.item; grant = used.grant; to_space = used.to_space; pages = used.pages; standing = used.standing; stands = sym same ∙ used.stands; some_right = used.some_right }
 
 abbrev stood : Option Entry → Option Standing
 stood o = option_and_then (λ (e : Entry). e.stands) o
@@ -48,10 +44,6 @@ cut_place (Some e) place h = elim e.wanted as (λ (b : Bool). option_map {T = En
   | true ↦ λ is. is
   | false ↦ λ is. absurd (let k : ◌≡◌ {A = Option LinkPlace} None (Some place) = is in cc)
 ] h
-
-leads_within : (f g : ℕ → Option ℕ) → ((k p : ℕ) → f k ≡ Some p → g k ≡ Some p) → {low high : ℕ} → Leads f low high → Leads g low high
-leads_within f g within {low} {high} (step is) = step (within low high is)
-leads_within f g within {low} (steps {middle = middle} is rest) = steps (within low middle is) (leads_within f g within rest)
 
 module _ (old : Linked) (have : HavePlaces old) (trees : AreTrees old.entries) (from to : ℕ) (items : List ItemMove) where
   abbrev Used : UsedMove → Type 0
@@ -111,16 +103,9 @@ module _ (old : Linked) (have : HavePlaces old) (trees : AreTrees old.entries) (
     pub cleared_rights : (cur : Entries) (next : ℕ) → SoFar cur next → HaveRights old.entries → HaveRights cur
     cleared_rights cur next so_far rights key t stands = rights key t (cleared_standing cur next so_far key t stands)
 
-    parent_standing : (cur : Entries) (k p : ℕ) → parent_of cur k ≡ Some p → (t : Standing) × (standing_at cur k ≡ Some t) × (t.parent ≡ Some p)
-    parent_standing cur k p is =
-        elim (standing_at cur k) as (λ (o : Option Standing). standing_at cur k ≡ o → option_and_then (λ (t : Standing). t.parent) o ≡ Some p → (t : Standing) × (standing_at cur k ≡ Some t) × (t.parent ≡ Some p)) [
-          | None ↦ λ _ h. absurd (let q : ◌≡◌ {A = Option ℕ} None (Some p) = h in cc)
-          | Some t ↦ λ at h. (t, at, h)
-        ] refl is
-
     cleared_parent : (cur : Entries) (next : ℕ) → SoFar cur next → (k p : ℕ) → parent_of cur k ≡ Some p → parent_of old.entries k ≡ Some p
     cleared_parent cur next so_far k p is =
-        let t = parent_standing cur k p is in
+        let t = some_parent cur k p is in
         ap (option_and_then (λ (x : Standing). x.parent)) (cleared_standing cur next so_far k t.0 t.1) ∙ t.2
 
     cleared_descends : (cur : Entries) (next : ℕ) → SoFar cur next → (low high : ℕ) → Descends cur low high → Descends old.entries low high

@@ -7,6 +7,7 @@ use Rattle.l4_mapdb.specs.declared.ItemMove.{ItemMove}
 use Rattle.l4_mapdb.specs.Transfer.{PageMove}
 use Rattle.l4_mapdb.specs.Inside.Placing.{Used, IsBefore, earlier, same, IsDone, Placed}
 use Rattle.l4_mapdb.proofs.Placed.{placed_as}
+use Rattle.l4_mapdb.proofs.Unique.{same_value}
 
 module _ (start now : Linked) (from to : ℕ) (items : List ItemMove) (kind : Bool) where
   abbrev Moves : PageMove → Type 0
@@ -15,14 +16,12 @@ module _ (start now : Linked) (from to : ℕ) (items : List ItemMove) (kind : Bo
   module _ (item : ℕ) (by : ItemMove) (item_at : slice_get items item ≡ Some by) where
     kind_of : (v : PageMove) → Moves v → v.item ≡ item → v.grant ≡ by.grant
     kind_of v used item_is =
-        let bys : Some used.by ≡ Some by = sym used.item ∙ ap (slice_get items) item_is ∙ item_at in
-        let by_is : used.by ≡ by = cc in
+        let by_is : used.by ≡ by = same_value (sym used.item ∙ ap (slice_get items) item_is ∙ item_at) in
         used.grant ∙ ap (λ (x : ItemMove). x.grant) by_is
 
     from_first : (v : PageMove) → Moves v → v.item ≡ item → by.mv.source.first ≤ v.source.page
     from_first v used item_is =
-        let bys : Some used.by ≡ Some by = sym used.item ∙ ap (slice_get items) item_is ∙ item_at in
-        let by_is : used.by ≡ by = cc in
+        let by_is : used.by ≡ by = same_value (sym used.item ∙ ap (slice_get items) item_is ∙ item_at) in
         let f : used.by.mv.source.first ≡ by.mv.source.first = ap (λ (x : ItemMove). x.mv.source.first) by_is in
         let s = used.pages.source_is in
         omega (arith, f, s)

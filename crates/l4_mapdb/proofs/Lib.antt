@@ -14,7 +14,6 @@ pub mod Single
 pub mod Unique
 pub mod UsedMoves
 pub mod AllDone
-pub mod Begun
 pub mod CapLoops
 pub mod Caps
 pub mod CutLoss

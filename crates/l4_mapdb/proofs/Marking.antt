@@ -11,7 +11,7 @@ use Rattle.l4_mapdb.proofs.EntriesLemmas.{decided}
 use Rattle.l4_mapdb.proofs.Unique.{same_value}
 use Rattle.l4_mapdb.specs.declared.sources.UsedMove.{UsedMove}
 use Rattle.l4_mapdb.specs.Delivering.{IsClean}
-use Rattle.l4_mapdb.specs.Inside.Messages.{plain, stand_at, StandAlike, IsMoved, turn, turn_of, IsNextMove, IsWaiting, Marks, SourcesMarked}
+use Rattle.l4_mapdb.specs.Inside.Messages.{plain, stand_at, StandAlike, IsMoved, turn, turn_of, IsNextMove, IsWaiting, Marks}
 use Rattle.l4_mapdb.proofs.Moves.{stand_of, found_of, with_place, one_by, move_at, move_page}
 
 -- by cases on keys
@@ -20,12 +20,16 @@ by_key a b yes_case no_case = decided (a == b)
     (λ t. let e : a ≡ b = grind (arith, nat_tests) in yes_case e)
     (λ f. no_case (λ e. f (let t : (a == b) ≡ true = grind (arith, nat_tests) in t)))
 
--- a used move is one also of what stands alike
+-- a used move is one also where the same stands under its key
+pub moved_by_key : (a b : Entries) (from to : ℕ) (items : List ItemMove) (m : UsedMove) → stand_at b m.source ≡ stand_at a m.source → IsMoved b from to items m → IsMoved a from to items m
+moved_by_key a b from to items m same used =
+    record { by = used.by; item = used.item; grant = used.grant; to_space = used.to_space; pages = used.pages; standing = used.standing; stands = sym same ∙ used.stands; some_right = used.some_right }
+
 pub moved_alike : (old new : Entries) (from to : ℕ) (items : List ItemMove) → StandAlike old new → (m : UsedMove) → IsMoved new from to items m → IsMoved old from to items m
-moved_alike old new from to items alike m used = record { by = used.by; item = used.item; grant = used.grant; to_space = used.to_space; pages = used.pages; standing = used.standing; stands = sym (alike m.source) ∙ used.stands; some_right = used.some_right }
+moved_alike old new from to items alike m = moved_by_key old new from to items m (alike m.source)
 
 pub moved_still : (old new : Entries) (from to : ℕ) (items : List ItemMove) → StandAlike old new → (m : UsedMove) → IsMoved old from to items m → IsMoved new from to items m
-moved_still old new from to items alike m used = record { by = used.by; item = used.item; grant = used.grant; to_space = used.to_space; pages = used.pages; standing = used.standing; stands = alike m.source ∙ used.stands; some_right = used.some_right }
+moved_still old new from to items alike m = moved_by_key new old from to items m (sym (alike m.source))
 
 pub alike_on : (old middle new : Entries) → StandAlike old middle → StandAlike middle new → StandAlike old new
 alike_on old middle new a b key = b key ∙ a key
@@ -182,7 +186,7 @@ module _ (old : Linked) (have : HavePlaces old) (from to : ℕ) (items : List It
       }
 
   pub sources_more : (cur new : Entries) (start : ℕ) (u : UsedMove) → IsNextMove cur from to items start u → SetsSource u.source true cur new → StandAlike old.entries cur
-      → SourcesMarked from to items old.entries cur start → SourcesMarked from to items old.entries new (turn u.item (u.page + 1))
+      → ((m : UsedMove) → Used m → turn_of m < start → IsSource cur m.source) → (m : UsedMove) → Used m → turn_of m < turn u.item (u.page + 1) → IsSource new m.source
   sources_more cur new start u is sets alike before =
       let stood = standing_of cur u.source (record { space = from; page = u.page }) is.moved.standing is.moved.stands in
       let here : IsSource new u.source = ap (λ (o : Option Entry). option_map (λ (t : Standing). t.source) (option_and_then (λ (x : Entry). x.stands) o)) sets.here ∙ is_marked (entry_at cur u.source) stood.0 stood.1 in

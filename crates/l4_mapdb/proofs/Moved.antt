@@ -23,6 +23,7 @@ use Rattle.l4_mapdb.specs.Inside.Settling.{left_by, settled_standing, settled_en
 use Rattle.l4_mapdb.proofs.View.{key_shows, shown_by_key, some_standing, one_entry}
 use Rattle.l4_mapdb.proofs.Placed.{same_link, same_entry}
 use Rattle.l4_mapdb.proofs.Sourced.{source_stays, stood, GrantedTo, granted_place}
+use Rattle.l4_mapdb.proofs.Unique.{same_value}
 
 pub at_settled : (s : Linked) (key : ℕ) → entry_at (settled s).entries key ≡ settled_entry (entry_at s.entries key)
 at_settled s key = get_or-map settled_entry s.entries key None
@@ -109,8 +110,7 @@ module _ (start now : Linked) (from to : ℕ) (items : List ItemMove) (ready : I
       plain : t.granted ≡ None
       plain =
           let p = ready.clean key e at in
-          let both : Some p.standing ≡ Some t = sym p.stands ∙ stands in
-          let same : p.standing ≡ t = cc in
+          let same : p.standing ≡ t = same_value (sym p.stands ∙ stands) in
           ap (λ (x : Standing). x.granted) (sym same) ∙ p.not_granted
 
       -- the note of a grant tells whether it was granted
@@ -123,8 +123,7 @@ module _ (start now : Linked) (from to : ℕ) (items : List ItemMove) (ready : I
         where
           not_noted : ¬ (HasGone start from to items Done e.place)
           not_noted g =
-              let both : Some x ≡ Some (record { place = link_place g.move.target; wanted = false; stands = Some (record t { source = true; granted = Some g.used.by.rights }) }) = sym here ∙ moved_if g in
-              let is : x ≡ record { place = link_place g.move.target; wanted = false; stands = Some (record t { source = true; granted = Some g.used.by.rights }) } = cc in
+              let is : x ≡ record { place = link_place g.move.target; wanted = false; stands = Some (record t { source = true; granted = Some g.used.by.rights }) } = same_value (sym here ∙ moved_if g) in
               let z : ◌≡◌ {A = Option RightsSet} None (Some g.used.by.rights) = sym note ∙ ap (λ (y : Entry). option_and_then (λ (w : Standing). w.granted) y.stands) is in
               cc
 
@@ -139,8 +138,7 @@ module _ (start now : Linked) (from to : ℕ) (items : List ItemMove) (ready : I
           still_there before at_start same =
               let is : before ≡ e = same_entry start.entries key key before e at_start at refl in
               let n : ¬ (HasGone start from to items Done e.place) = subst (λ (y : Entry). ¬ (HasGone start from to items Done y.place)) is (not_granted_here key x before here at_start same) in
-              let both : Some x ≡ Some (record e { stands = Some (record t { source = (left_if n).marked }) }) = sym here ∙ (left_if n).at in
-              let left : x ≡ record e { stands = Some (record t { source = (left_if n).marked }) } = cc in
+              let left : x ≡ record e { stands = Some (record t { source = (left_if n).marked }) } = same_value (sym here ∙ (left_if n).at) in
               let z : ◌≡◌ {A = Option RightsSet} (Some cap) None = sym note ∙ ap (λ (y : Entry). option_and_then (λ (w : Standing). w.granted) y.stands) left ∙ plain in
               cc
 
@@ -149,8 +147,7 @@ module _ (start now : Linked) (from to : ℕ) (items : List ItemMove) (ready : I
             | true ↦ λ grant.
                 let p = granted_to v.move v.used grant in
                 let key_is : p.key ≡ key = have.once (link_place v.move.target) p.key key (ap (option_map {T = Entry} (λ y. y.place)) p.at) (ap (option_map {T = Entry} (λ y. y.place)) here ∙ ap Some (sym v.target)) in
-                let at_source : Some e.place ≡ Some (link_place v.move.source) = sym (ap (option_map {T = Entry} (λ y. y.place)) at) ∙ ap (λ (k : ℕ). option_map {T = Entry} (λ y. y.place) (entry_at start.entries k)) (sym key_is) ∙ p.at_start in
-                let place : e.place ≡ link_place v.move.source = cc in
+                let place : e.place ≡ link_place v.move.source = same_value (sym (ap (option_map {T = Entry} (λ y. y.place)) at) ∙ ap (λ (k : ℕ). option_map {T = Entry} (λ y. y.place) (entry_at start.entries k)) (sym key_is) ∙ p.at_start) in
                 (v.move.target, inl (v.move, v.used, grant, ap map_place (sym place), refl), ap (option_map {T = Entry} (λ y. map_place y.place)) here ∙ ap (λ (p : LinkPlace). Some (map_place p)) (sym v.target))
             | false ↦ λ map.
                 let c = placed.mapped v.move v.used (all v.move v.used) (λ g. let z : false ≡ true = sym map ∙ g in cc) in
@@ -208,16 +205,13 @@ module _ (start now : Linked) (from to : ℕ) (items : List ItemMove) (ready : I
             let p = granted_to t.move t.used grant in
             let same : e ≡ record { place = link_place t.move.target; wanted = false; stands = Some (record p.standing { source = true; granted = Some p.by.rights }) } =
             one_entry now have key p.key e (record { place = link_place t.move.target; wanted = false; stands = Some (record p.standing { source = true; granted = Some p.by.rights }) }) at p.at (here ∙ sym t.target) in
-            let both : Some s ≡ Some (record p.standing { rights = common p.standing.rights p.by.rights; source = true; granted = Some p.by.rights }) = sym stands ∙ ap (λ (x : Entry). option_map settled_standing x.stands) same in
-            let stands_is : s ≡ record p.standing { rights = common p.standing.rights p.by.rights; source = true; granted = Some p.by.rights } = cc in
+            let stands_is : s ≡ record p.standing { rights = common p.standing.rights p.by.rights; source = true; granted = Some p.by.rights } = same_value (sym stands ∙ ap (λ (x : Entry). option_map settled_standing x.stands) same) in
             let before = stood start now from to items ready Done placed have t.move t.used in
             let key_is : before.key ≡ p.key = ready.places.once (link_place t.move.source) before.key p.key (ap (option_map {T = Entry} (λ x. x.place)) before.at ∙ ap Some before.place_is) p.at_start in
             let entry_is : before.entry ≡ p.stood_as.0 = same_entry start.entries before.key p.key before.entry p.stood_as.0 before.at p.stood_as.1 key_is in
-            let standing_both : Some before.standing ≡ Some p.standing = sym before.stands ∙ ap (λ (x : Entry). x.stands) entry_is ∙ p.stood_as.2 in
-            let standing_is : before.standing ≡ p.standing = cc in
+            let standing_is : before.standing ≡ p.standing = same_value (sym before.stands ∙ ap (λ (x : Entry). x.stands) entry_is ∙ p.stood_as.2) in
             let shows : t.move.shows ≡ mapping_of start.entries p.standing = sym before.mapping ∙ ap (mapping_of start.entries) standing_is in
-            let bys : Some p.by ≡ Some t.used.by = sym p.by_is ∙ t.used.item in
-            let by_is : p.by ≡ t.used.by = cc in
+            let by_is : p.by ≡ t.used.by = same_value (sym p.by_is ∙ t.used.item) in
             let there = λ (g : IsGone Moves before_all (map_place before.entry.place)). source_stays start now from to items ready Done placed have t.move t.used (subst (λ (q : LinkPlace). IsGone Moves before_all (map_place q)) before.place_is g) in
             inl (record {
               move = t.move;
@@ -237,8 +231,7 @@ module _ (start now : Linked) (from to : ℕ) (items : List ItemMove) (ready : I
             let c = placed.mapped t.move t.used (all t.move t.used) not_grant in
             let same : e ≡ record { place = link_place t.move.target; wanted = true; stands = Some (record { frame = t.move.shows.frame; rights = t.move.rights; source = false; granted = None; parent = Some c.parent }) } =
             one_entry now have key c.key e (record { place = link_place t.move.target; wanted = true; stands = Some (record { frame = t.move.shows.frame; rights = t.move.rights; source = false; granted = None; parent = Some c.parent }) }) at c.at (here ∙ sym t.target) in
-            let both : Some s ≡ Some (record { frame = t.move.shows.frame; rights = t.move.rights; source = false; granted = None; parent = Some c.parent }) = sym stands ∙ ap (λ (x : Entry). option_map settled_standing x.stands) same in
-            let stands_is : s ≡ record { frame = t.move.shows.frame; rights = t.move.rights; source = false; granted = None; parent = Some c.parent } = cc in
+            let stands_is : s ≡ record { frame = t.move.shows.frame; rights = t.move.rights; source = false; granted = None; parent = Some c.parent } = same_value (sym stands ∙ ap (λ (x : Entry). option_map settled_standing x.stands) same) in
             inl (record {
               move = t.move;
               used = t.used;
@@ -256,10 +249,8 @@ module _ (start now : Linked) (from to : ℕ) (items : List ItemMove) (ready : I
           let n = not_granted_here key e before at at_start same in
           let there' = λ (g : IsGone Moves before_all (map_place before.place)). there (subst (λ (q : LinkPlace). IsGone Moves before_all (map_place q)) same g) in
           let l = placed.kept key before plain.standing at_start plain.stands there' n in
-          let both : Some e ≡ Some (record before { stands = Some (record plain.standing { source = l.marked }) }) = sym at ∙ l.at in
-          let entry_is : e ≡ record before { stands = Some (record plain.standing { source = l.marked }) } = cc in
-          let s_both : Some s ≡ Some (settled_standing (record plain.standing { source = l.marked })) = sym stands ∙ ap (λ (x : Entry). option_map settled_standing x.stands) entry_is in
-          let s_is : s ≡ settled_standing (record plain.standing { source = l.marked }) = cc in
+          let entry_is : e ≡ record before { stands = Some (record plain.standing { source = l.marked }) } = same_value (sym at ∙ l.at) in
+          let s_is : s ≡ settled_standing (record plain.standing { source = l.marked }) = same_value (sym stands ∙ ap (λ (x : Entry). option_map settled_standing x.stands) entry_is) in
           let place_is : map_place before.place ≡ place = ap map_place (same ∙ here) in
           inr (record {
             before = mapping_of start.entries plain.standing;

@@ -13,6 +13,7 @@ use Rattle.l4_mapdb.specs.View.{link_place, map_place, mappings_of}
 use Rattle.l4_mapdb.specs.Inside.Placing.{IsStart, Used, blank_for, HasGone, IsBefore, earlier, same, IsDone, MapsPage, GrantsPage, MovesPage, MovesNone, HasBlank, Placed}
 use Rattle.l4_mapdb.proofs.Placed.{same_link, placed_as, placed_map, placed_grant}
 use Rattle.l4_mapdb.proofs.Sourced.{source_stays, stood, MoveHere, move_here, none_here, blank_here}
+use Rattle.l4_mapdb.proofs.Unique.{same_value}
 
 module _ (start now : Linked) (from to : ℕ) (items : List ItemMove) (ready : IsStart start from to items) (have : HavePlaces now) (kind : Bool)
     (item : ℕ) (by : ItemMove) (item_at : slice_get items item ≡ Some by) (of_kind : by.grant ≡ kind) (begin : ℕ) (first : by.mv.source.first ≤ begin)
@@ -26,16 +27,15 @@ module _ (start now : Linked) (from to : ℕ) (items : List ItemMove) (ready : I
   undone v g i le (inr (k, earlier lt)) = omega (arith, i, lt)
   undone v g i le (inr (k, same j lt)) = omega (arith, le, lt)
 
+  same_by : (v : PageMove) (used : ItemMoves v) → v.item ≡ item → used.by ≡ by
+  same_by v used item_is = same_value (sym used.item ∙ ap (slice_get items) item_is ∙ item_at)
+
   kind_of : (v : PageMove) → ItemMoves v → v.item ≡ item → v.grant ≡ by.grant
-  kind_of v used item_is =
-      let bys : Some used.by ≡ Some by = sym used.item ∙ ap (slice_get items) item_is ∙ item_at in
-      let by_is : used.by ≡ by = cc in
-      used.grant ∙ ap (λ (x : ItemMove). x.grant) by_is
+  kind_of v used item_is = used.grant ∙ ap (λ (x : ItemMove). x.grant) (same_by v used item_is)
 
   block_of : (v : PageMove) → ItemMoves v → v.item ≡ item → (by.mv.source.first ≤ v.source.page) × (v.source.page < by.mv.source.first + 2 ^ by.mv.source.log)
   block_of v used item_is =
-      let bys : Some used.by ≡ Some by = sym used.item ∙ ap (slice_get items) item_is ∙ item_at in
-      let by_is : used.by ≡ by = cc in
+      let by_is = same_by v used item_is in
       let f : used.by.mv.source.first ≡ by.mv.source.first = ap (λ (x : ItemMove). x.mv.source.first) by_is in
       let l : 2 ^ used.by.mv.source.log ≡ 2 ^ by.mv.source.log = ap (λ (x : ItemMove). 2 ^ x.mv.source.log) by_is in
       let w = used.pages.within in
@@ -61,17 +61,21 @@ module _ (start now : Linked) (from to : ℕ) (items : List ItemMove) (ready : I
       let place : s.entry.place ≡ record { space = from; page = v.source.page } = s.place_is ∙ (λ i. record { space = used.from_space i; page = v.source.page }) in
       (s.key, ap (option_map {T = Entry} (λ e. e.place)) l.at ∙ ap Some place)
 
+  -- what is done so far is done as far as there, and nothing else of this kind
+  walked : (i p : ℕ) → ((v : PageMove) → IsBefore start from to items item begin v → IsBefore start from to items i p v) → ((v : PageMove) → ItemMoves v → IsBefore start from to items i p v → IsBefore start from to items item begin v)
+      → Placed start from to items (IsDone start from to items kind i p) now
+  walked i p on back = placed_as start from to items (IsDone start from to items kind item begin) (IsDone start from to items kind i p) now (λ v used. (
+    λ d. elim d [ inl n ↦ inl n | inr k ↦ inr (k.0, on v k.1) ],
+    λ d. elim d [ inl n ↦ inl n | inr k ↦ inr (k.0, back v used k.1) ],
+  )) placed
+
   -- pages without a key are passed by
   pub pass_page : (page : ℕ) → begin ≤ page → ((other : ℕ) → begin ≤ other → other < page → ¬ (HasKey now.entries from other)) → Placed start from to items (IsDone start from to items kind item page) now
-  pass_page page le none = placed_as start from to items (IsDone start from to items kind item begin) (IsDone start from to items kind item page) now (λ v used. (later v, back v used)) placed
+  pass_page page le none = walked item page before back_before
     where
       before : (v : PageMove) → IsBefore start from to items item begin v → IsBefore start from to items item page v
       before v (earlier lt) = earlier lt
       before v (same i lt) = same i (omega (arith, lt, le))
-
-      later : (v : PageMove) → IsDone start from to items kind item begin v → IsDone start from to items kind item page v
-      later v (inl n) = inl n
-      later v (inr d) = inr (d.0, before v d.1)
 
       back_before : (v : PageMove) → ItemMoves v → IsBefore start from to items item page v → IsBefore start from to items item begin v
       back_before v used (earlier lt) = earlier lt
@@ -80,21 +84,13 @@ module _ (start now : Linked) (from to : ℕ) (items : List ItemMove) (ready : I
         | inr ge ↦ absurd (none v.source.page (omega (arith, ge)) lt (has_key v used i (omega (arith, ge))))
       ]
 
-      back : (v : PageMove) → ItemMoves v → IsDone start from to items kind item page v → IsDone start from to items kind item begin v
-      back v used (inl n) = inl n
-      back v used (inr d) = inr (d.0, back_before v used d.1)
-
   -- at the end of the block the item is done
   pub end_page : (end : ℕ) → end ≡ by.mv.source.first + 2 ^ by.mv.source.log → ((other : ℕ) → begin ≤ other → other < end → ¬ (HasKey now.entries from other)) → Placed start from to items (IsDone start from to items kind (item + 1) 0) now
-  end_page end end_is none = placed_as start from to items (IsDone start from to items kind item begin) (IsDone start from to items kind (item + 1) 0) now (λ v used. (later v, back v used)) placed
+  end_page end end_is none = walked (item + 1) 0 before back_before
     where
       before : (v : PageMove) → IsBefore start from to items item begin v → IsBefore start from to items (item + 1) 0 v
       before v (earlier lt) = earlier (omega (arith, lt))
       before v (same i lt) = earlier (omega (arith, i))
-
-      later : (v : PageMove) → IsDone start from to items kind item begin v → IsDone start from to items kind (item + 1) 0 v
-      later v (inl n) = inl n
-      later v (inr d) = inr (d.0, before v d.1)
 
       back_before : (v : PageMove) → ItemMoves v → IsBefore start from to items (item + 1) 0 v → IsBefore start from to items item begin v
       back_before v used (earlier lt) = elim (cases_lt v.item item) [
@@ -108,10 +104,6 @@ module _ (start now : Linked) (from to : ℕ) (items : List ItemMove) (ready : I
             ]
       ]
       back_before v used (same i lt) = absurd (omega (arith, lt))
-
-      back : (v : PageMove) → ItemMoves v → IsDone start from to items kind (item + 1) 0 v → IsDone start from to items kind item begin v
-      back v used (inl n) = inl n
-      back v used (inr d) = inr (d.0, back_before v used d.1)
 
 -- one page more
 module _ (start now new : Linked) (from to : ℕ) (items : List ItemMove) (ready : IsStart start from to items) (have : HavePlaces now) (spaces : new.spaces ≡ now.spaces) (kind : Bool)
@@ -136,12 +128,8 @@ module _ (start now new : Linked) (from to : ℕ) (items : List ItemMove) (ready
   before_here v (earlier lt) = earlier lt
   before_here v (same i lt) = same i (omega (arith, lt))
 
-  page_later : (v : PageMove) → IsDone start from to items kind item page v → IsDone start from to items kind item (page + 1) v
-  page_later v (inl n) = inl n
-  page_later v (inr d) = inr (d.0, before_here v d.1)
-
   pub none_page : MovesNone source_here by.rights now.entries → Placed start from to items (IsDone start from to items kind item (page + 1)) now
-  none_page none = placed_as start from to items (IsDone start from to items kind item page) (IsDone start from to items kind item (page + 1)) now (λ v used. (page_later v, back v used)) placed
+  none_page none = walked start now from to items ready have kind item by item_at of_kind page first placed item (page + 1) before_here back_before
     where
       back_before : (v : PageMove) → PageMoves v → IsBefore start from to items item (page + 1) v → IsBefore start from to items item page v
       back_before v used (earlier lt) = earlier lt
@@ -152,10 +140,6 @@ module _ (start now new : Linked) (from to : ℕ) (items : List ItemMove) (ready
             absurd (none_here start now from to items ready (IsDone start from to items kind item page) placed have item by item_at page first last none v used i p
             (not_gone start now from to items ready have kind item by item_at of_kind page first placed v used i (omega (arith, ge))))
       ]
-
-      back : (v : PageMove) → PageMoves v → IsDone start from to items kind item (page + 1) v → IsDone start from to items kind item page v
-      back v used (inl n) = inl n
-      back v used (inr d) = inr (d.0, back_before v used d.1)
 
   -- the page is moved, as its item says
   module _ (source : ℕ) (standing : Standing) (m : MoveHere start now from to items ready (IsDone start from to items kind item page) placed have item by item_at page first last source standing) where
@@ -183,7 +167,8 @@ module _ (start now new : Linked) (from to : ℕ) (items : List ItemMove) (ready
     before_new v e = same (ap (λ (x : PageMove). x.item) e ∙ m.item_is) (let p : v.source.page ≡ page = ap (λ (x : PageMove). x.source.page) e ∙ source_page_is in omega (arith, p))
 
     there : (v : PageMove) → NowDone v → IsDone start from to items kind item (page + 1) v
-    there v (inl d) = page_later v d
+    there v (inl (inl n)) = inl n
+    there v (inl (inr d)) = inr (d.0, before_here v d.1)
     there v (inr e) = inr (ap (λ (x : PageMove). x.grant) e ∙ m.grant ∙ of_kind, before_new v e)
 
     back_before : (v : PageMove) → PageMoves v → IsBefore start from to items item (page + 1) v → IsBefore start from to items item page v ⊎ (v ≡ m.move)

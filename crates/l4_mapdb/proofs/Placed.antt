@@ -12,12 +12,12 @@ use Rattle.l4_mapdb.proofs.Single.{KnownMoves, one_target}
 use Rattle.l4_mapdb.specs.View.{link_place, mappings_of}
 use Rattle.l4_mapdb.specs.Inside.Placing.{IsStart, Used, blank_for, HasGone, HasChild, Placed}
 use Rattle.l4_mapdb.proofs.Deciding.{same_or}
+use Rattle.l4_mapdb.proofs.Unique.{same_value}
 
 -- where something stands is no blank
 pub not_blank : (s : Entries) (a b : ℕ) (e f : Entry) (t : Standing) → entry_at s a ≡ Some e → entry_at s b ≡ Some f → e.stands ≡ Some t → f.stands ≡ None → a ≢ b
 not_blank s a b e f t at_a at_b stands blank same =
-    let both : Some e ≡ Some f = sym at_a ∙ ap (entry_at s) same ∙ at_b in
-    let k : e ≡ f = cc in
+    let k : e ≡ f = same_value (sym at_a ∙ ap (entry_at s) same ∙ at_b) in
     let z : ◌≡◌ {A = Option Standing} (Some t) None = sym stands ∙ ap (λ (x : Entry). x.stands) k ∙ blank in
     cc
 
@@ -90,8 +90,7 @@ module _ (start : Linked) (from to : ℕ) (items : List ItemMove) where
             };
         only = λ k e at. elim (same_or k key) [
           | inl same ↦
-              let both : Some e ≡ Some (record { place = link_place u.target; wanted = true; stands = Some child }) = sym at ∙ ap (entry_at new.entries) same ∙ here in
-              let is : e ≡ record { place = link_place u.target; wanted = true; stands = Some child } = cc in
+              let is : e ≡ record { place = link_place u.target; wanted = true; stands = Some child } = same_value (sym at ∙ ap (entry_at new.entries) same ∙ here) in
               inl (record { move = u; used = used; target = sym (ap (λ (x : Entry). x.place) is) })
           | inr other ↦ placed.only k e (sym (s.stands.others k other) ∙ at)
         ];
@@ -156,8 +155,7 @@ module _ (start : Linked) (from to : ℕ) (items : List ItemMove) where
             };
         only = λ k e at. elim (same_or k source) [
           | inl same ↦
-              let both : Some e ≡ Some moved = sym at ∙ ap (entry_at new.entries) same ∙ here in
-              let is : e ≡ moved = cc in
+              let is : e ≡ moved = same_value (sym at ∙ ap (entry_at new.entries) same ∙ here) in
               inl (record { move = u; used = used; target = sym (ap (λ (x : Entry). x.place) is) })
           | inr other ↦ elim (same_or k key) [
             | inl same ↦ absurd (let z : ◌≡◌ {A = Option Entry} (Some e) None = sym at ∙ ap (entry_at new.entries) same ∙ s.gone in cc)
@@ -206,10 +204,8 @@ module _ (start : Linked) (from to : ℕ) (items : List ItemMove) where
           new_grant : (v : PageMove) (v_by : ItemMove) → v ≡ u → slice_get items v.item ≡ Some v_by → (k : ℕ) (e : Entry) (t : Standing) → entry_at start.entries k ≡ Some e → e.place ≡ link_place v.source → e.stands ≡ Some t
               → entry_at new.entries k ≡ Some (record { place = link_place v.target; wanted = false; stands = Some (record t { source = true; granted = Some v_by.rights }) })
           new_grant v v_by same v_item k e t at place stands =
-              let bys : Some v_by ≡ Some by = sym v_item ∙ ap (λ (x : PageMove). slice_get items x.item) same ∙ item in
-              let by_is : v_by ≡ by = cc in
+              let by_is : v_by ≡ by = same_value (sym v_item ∙ ap (λ (x : PageMove). slice_get items x.item) same ∙ item) in
               let key_is : k ≡ source = ready.places.once (link_place u.source) k source (ap (option_map {T = Entry} (λ x. x.place)) at ∙ ap Some (place ∙ ap (λ (x : PageMove). link_place x.source) same)) (ap (option_map {T = Entry} (λ x. x.place)) at_start ∙ ap Some place_start) in
               let entry_is : e ≡ before = same_entry start.entries k source e before at at_start key_is in
-              let stands_both : Some t ≡ Some stood = sym stands ∙ ap (λ (x : Entry). x.stands) entry_is ∙ stands_start in
-              let stood_is : t ≡ stood = cc in
+              let stood_is : t ≡ stood = same_value (sym stands ∙ ap (λ (x : Entry). x.stands) entry_is ∙ stands_start) in
               ap (entry_at new.entries) key_is ∙ here ∙ (λ i. Some (record { place = link_place (sym same i).target; wanted = false; stands = Some (record (sym stood_is i) { source = true; granted = Some (sym by_is i).rights }) }))

@@ -1,24 +1,25 @@
 -- What a message has made way for.
-use Rattle.std.proofs.Common.{◌≡◌, ℕ, Bool, true, false, if◌then◌else◌, List, Option, Some, None, option_and_then, option_map, refl, sym, ap, ◌∙◌, subst, inl, inr}
+use Rattle.std.proofs.Common.{◌≡◌, ℕ, Bool, true, false, if◌then◌else◌, List, Option, Some, None, option_and_then, option_map, refl, sym, ap, ◌∙◌, subst, inl, inr, ◌⊎◌, arith}
 use Rattle.l4_nodes.specs.declared.Place.{Place as LinkPlace}
 use Rattle.l4_links.specs.declared.Standing.{Standing}
 use Rattle.l4_links.specs.declared.Entry.{Entry}
 use Rattle.l4_links.specs.Leads.{Leads, step, steps}
-use Rattle.l4_links.specs.Entries.{Entries, Linked, entry_at, standing_at, IsStanding, parent_of, HavePlaces, AreTrees, HaveRights, IsAt, IsSource, cut_off}
+use Rattle.l4_links.specs.Entries.{Entries, Linked, entry_at, standing_at, IsStanding, parent_of, HavePlaces, AreTrees, HaveRights, IsAt, cut_off}
 use Rattle.l4_mapdb.specs.declared.Place.{Place}
 use Rattle.l4_mapdb.specs.declared.ItemMove.{ItemMove}
 use Rattle.l4_mapdb.specs.declared.Cause.{Cause}
 use Rattle.l4_mapdb.specs.declared.Cause.TheVariants.{Entangled, NoMemory}
-use Rattle.l4_mapdb.specs.Mappings.{Mappings}
 use Rattle.l4_mapdb.specs.Causes.{HasCause}
-use Rattle.l4_mapdb.specs.Transfer.{PageMove, IsUsed, IsGone, IsEntangled, TargetsPresent}
+use Rattle.l4_mapdb.specs.Transfer.{PageMove, IsUsed, IsGone}
 use Rattle.l4_mapdb.proofs.Unique.{same_value}
 use Rattle.l4_mapdb.specs.declared.sources.UsedMove.{UsedMove}
 use Rattle.l4_mapdb.specs.View.{link_place, map_place, mappings_of}
 use Rattle.l4_mapdb.specs.Delivering.{IsClean}
-use Rattle.l4_mapdb.specs.Inside.Messages.{plain, stand_at, StandAlike, IsMoved, IsWanted, Goes, IsClearedAt, Roomed, IsTargetOf, Cleared, LacksKey}
+use Rattle.l4_mapdb.specs.Inside.Messages.{plain, stand_at, StandAlike, IsMoved, IsWaiting, IsWanted, Goes, IsClearedAt, Roomed, LacksKey}
+use Rattle.l4_mapdb.specs.Inside.Placing.{Placed, IsDone, IsTarget, IsLeftAt, blank_for, IsBefore, earlier, same as same_item}
 use Rattle.l4_mapdb.specs.Inside.Tangles.{HasTangle}
 use Rattle.l4_mapdb.proofs.Moves.{with_place, stand_of, stands_as, found_of, is_at, entry_of, move_at}
+use Rattle.l4_mapdb.proofs.View.{some_parent}
 use Rattle.l4_mapdb.proofs.Marking.{moved_alike, moved_still, source_of}
 use Rattle.l4_mapdb.proofs.Restored.{by_bool, alike_at, alike_descends, tangle_alike}
 use Rattle.l4_mapdb.proofs.Keyed.{page_move, used_of, key_of, source_is, key_present, present_key, above_place, above_key, entangled_places, entangled_keys}
@@ -29,13 +30,10 @@ opposite a b alike key = sym (alike key)
 -- something stands at the end of a chain
 pub leads_stands : (s : Entries) → AreTrees s → {low high : ℕ} → Leads (parent_of s) low high → IsStanding s high
 leads_stands s trees {low} {high} (step is) none =
-    elim (standing_at s low) as (λ (o : Option Standing). standing_at s low ≡ o → option_and_then (λ (t : Standing). t.parent) o ≡ Some high → ⊥) [
-      | None ↦ λ _ h. (let k : ◌≡◌ {A = Option ℕ} None (Some high) = h in cc)
-      | Some t ↦ λ at h.
-          let p = trees.parents low t high at h in
-          let k : ◌≡◌ {A = Option Standing} None (Some p.above) = sym none ∙ p.at in
-          cc
-    ] refl is
+    let t = some_parent s low high is in
+    let p = trees.parents low t.0 high t.1 t.2 in
+    let k : ◌≡◌ {A = Option Standing} None (Some p.above) = sym none ∙ p.at in
+    cc
 leads_stands s trees (steps is rest) none = leads_stands s trees rest none
 
 -- a clean key keeps its page where the same stands
@@ -78,13 +76,13 @@ module _ (old : Linked) (clean : IsClean old) (from to : ℕ) (items : List Item
   pub room_rights : HaveRights cur
   room_rights key t stands none =
       let f = found_of cur key t stands in
-      let o = stand_of old.entries key f.entry.place (plain t) (sym (room.marks.alike key) ∙ stands_as cur key f.entry t f.at f.stands) in
+      let o = stand_of old.entries key f.entry.place (plain t) (sym (room.marked.marks.alike key) ∙ stands_as cur key f.entry t f.at f.stands) in
       let p = clean key o.entry o.at in
       let same : p.standing ≡ o.standing = same_value (sym p.stands ∙ o.stands) in
       p.some_right (ap (λ (x : Standing). x.rights) same ∙ ap (λ (x : Standing). x.rights) o.plain_is ∙ none)
 
   pub room_wanted : (m : UsedMove) → IsMoved cur from to items m → IsWanted cur m.target
-  room_wanted m used = room.targets m (moved_alike old.entries cur from to items room.marks.alike m used)
+  room_wanted m used = room.targets m (moved_alike old.entries cur from to items room.marked.marks.alike m used)
 
   -- no source goes
   pub room_stay : AreTrees cur → ¬ (HasTangle Moves old.entries) → (m : UsedMove) → IsMoved cur from to items m → ¬ (Goes (IsMoved cur from to items) cur m.source)
@@ -94,7 +92,7 @@ module _ (old : Linked) (clean : IsClean old) (from to : ℕ) (items : List Item
         | inl e ↦ λ none. (let k : ◌≡◌ {A = Option Standing} None (Some o.standing) = sym none ∙ ap (standing_at cur) (sym e) ∙ ap (option_and_then (λ (x : Entry). x.stands)) o.at ∙ o.stands in cc)
         | inr d ↦ leads_stands cur trees d
       ] in
-      free (tangle_alike old.entries cur room.marks.alike from to items (record {
+      free (tangle_alike old.entries cur room.marked.marks.alike from to items (record {
         move = g.move;
         used = g.used;
         tangles = inr (record { key = g.top; at = g.at; stands = stands; other = m; used = used; above = g.below });
@@ -115,10 +113,10 @@ module _ (old : Linked) (clean : IsClean old) (have : HavePlaces old) (trees : A
   IsLost key = Goes CurMoves cur.entries key
 
   still : (m : UsedMove) → KeyMoves m → CurMoves m
-  still = moved_still old.entries cur.entries from to items room.marks.alike
+  still = moved_still old.entries cur.entries from to items room.marked.marks.alike
 
   was : (m : UsedMove) → CurMoves m → KeyMoves m
-  was = moved_alike old.entries cur.entries from to items room.marks.alike
+  was = moved_alike old.entries cur.entries from to items room.marked.marks.alike
 
   -- what became of an entry
   record Became (key : ℕ) (e : Entry) : Type 0 where
@@ -137,7 +135,7 @@ module _ (old : Linked) (clean : IsClean old) (have : HavePlaces old) (trees : A
   became : (key : ℕ) (e : Entry) → entry_at old.entries key ≡ Some e → Became key e
   became key e at =
       let p = clean key e at in
-      let o = stand_of cur.entries key e.place (plain p.standing) (room.marks.alike key ∙ stands_as old.entries key e p.standing at p.stands) in
+      let o = stand_of cur.entries key e.place (plain p.standing) (room.marked.marks.alike key ∙ stands_as old.entries key e p.standing at p.stands) in
       record {
         entry = o.entry;
         now = o.standing;
@@ -149,7 +147,7 @@ module _ (old : Linked) (clean : IsClean old) (have : HavePlaces old) (trees : A
         unwanted = p.unwanted;
         plain_before = p.no_source;
         not_granted = p.not_granted;
-        is = marked_is o.standing p.standing o.plain_is (room.marks.not_granted key o.standing (ap (option_and_then (λ (x : Entry). x.stands)) o.at ∙ o.stands)) p.not_granted;
+        is = marked_is o.standing p.standing o.plain_is (room.marked.marks.not_granted key o.standing (ap (option_and_then (λ (x : Entry). x.stands)) o.at ∙ o.stands)) p.not_granted;
       }
 
   -- the page of a used move's target goes
@@ -158,7 +156,7 @@ module _ (old : Linked) (clean : IsClean old) (have : HavePlaces old) (trees : A
 
   -- what is wanted is the target of a used move
   wanted_target : (key : ℕ) (e : Entry) → entry_at cur.entries key ≡ Some e → e.wanted ≡ true → (m : UsedMove) × KeyMoves m × (m.target ≡ e.place)
-  wanted_target key e at wanted = room.marks.targets key e at (inl wanted)
+  wanted_target key e at wanted = room.marked.marks.targets key e at (inl wanted)
 
   pub gone_of : (key : ℕ) (e : Entry) → entry_at old.entries key ≡ Some e → IsLost key → IsGone Used (mappings_of old) (map_place e.place)
   gone_of key e at g =
@@ -168,20 +166,20 @@ module _ (old : Linked) (clean : IsClean old) (have : HavePlaces old) (trees : A
         | inl same ↦ λ none. (let k : ◌≡◌ {A = Option Standing} None (Some b.now) = sym none ∙ ap (standing_at cur.entries) (sym same) ∙ ap (option_and_then (λ (x : Entry). x.stands)) b.at ∙ b.stands in cc)
         | inr d ↦ leads_stands cur.entries trees_cur d
       ] in
-      let top = alike_at old.entries cur.entries room.marks.alike g.move.target g.top g.at stands in
+      let top = alike_at old.entries cur.entries room.marked.marks.alike g.move.target g.top g.at stands in
       record {
         move = page_move old have trees from to items g.move m;
         used = used_of old have trees from to items g.move m;
         present = key_present old have trees from to items g.move.target g.top top.0 top.1;
         below = above_place old have trees from to items key g.top (map_place e.place) (map_place g.move.target) (is_at old.entries key e e.place at refl) top.0
-            (elim g.below [ inl same ↦ inl same | inr d ↦ inr (alike_descends old.entries cur.entries room.marks.alike key g.top d) ]);
+            (elim g.below [ inl same ↦ inl same | inr d ↦ inr (alike_descends old.entries cur.entries room.marked.marks.alike key g.top d) ]);
       }
 
   pub lost_of : (key : ℕ) (e : Entry) → entry_at old.entries key ≡ Some e → IsGone Used (mappings_of old) (map_place e.place) → IsLost key
   lost_of key e at g =
       let k = key_of old have trees from to items g.move g.used in
       let p = present_key old have trees from to items g.move.target g.present in
-      let top = alike_at cur.entries old.entries (opposite old.entries cur.entries room.marks.alike) (link_place g.move.target) p.key p.at p.stands in
+      let top = alike_at cur.entries old.entries (opposite old.entries cur.entries room.marked.marks.alike) (link_place g.move.target) p.key p.at p.stands in
       record {
         move = k.move;
         used = still k.move k.moves;
@@ -189,23 +187,13 @@ module _ (old : Linked) (clean : IsClean old) (have : HavePlaces old) (trees : A
         at = subst (λ (q : LinkPlace). IsAt cur.entries q p.key) (sym k.target) top.0;
         below = elim (above_key old have trees from to items key p.key (map_place e.place) g.move.target (is_at old.entries key e e.place at refl) p.at g.below) [
           | inl same ↦ inl same
-          | inr d ↦ inr (alike_descends cur.entries old.entries (opposite old.entries cur.entries room.marks.alike) key p.key d)
+          | inr d ↦ inr (alike_descends cur.entries old.entries (opposite old.entries cur.entries room.marked.marks.alike) key p.key d)
         ];
       }
 
   module _ (new : Linked) (spaces : new.spaces ≡ old.spaces) (clears : (key : ℕ) → IsClearedAt (Goes CurMoves cur.entries key) (entry_at cur.entries key) (entry_at new.entries key)) where
-    -- what goes and is wanted is a blank
-    blank_left : (key : ℕ) (e : Entry) → entry_at cur.entries key ≡ Some e → e.wanted ≡ true → IsLost key → entry_at new.entries key ≡ Some (record { place = e.place; wanted = true; stands = None })
-    blank_left key e at wanted lost = elim (clears key) [
-      | inl g ↦ g.1 ∙ ap cut_off at ∙ wanted_cut e wanted
-      | inr k ↦ absurd (k.0 lost)
-    ]
-
     kept : (key : ℕ) → ¬ (IsLost key) → entry_at new.entries key ≡ entry_at cur.entries key
     kept key out = elim (clears key) [ inl g ↦ absurd (out g.0) | inr k ↦ k.1 ]
-
-    cut : (key : ℕ) → IsLost key → entry_at new.entries key ≡ cut_off (entry_at cur.entries key)
-    cut key lost = elim (clears key) [ inl g ↦ g.1 | inr k ↦ absurd (k.0 lost) ]
 
     -- what doesn't go isn't wanted
     unwanted_kept : (key : ℕ) (e : Entry) → entry_at cur.entries key ≡ Some e → ¬ (IsLost key) → e.wanted ≡ false
@@ -215,96 +203,87 @@ module _ (old : Linked) (clean : IsClean old) (have : HavePlaces old) (trees : A
         absurd (out (target_lost t.0 t.1 key (is_at cur.entries key e t.0.target at (sym t.2)))))
         (λ unwanted. unwanted)
 
-    target_blank : (m : UsedMove) → KeyMoves m → (key : ℕ) × (entry_at new.entries key ≡ Some (record { place = m.target; wanted = true; stands = None }))
-    target_blank m used =
-        let w = room.targets m used in (
-          w.key,
-          blank_left w.key w.entry w.at w.wanted (target_lost m used w.key (is_at cur.entries w.key w.entry m.target w.at w.place_is))
-              ∙ ap (λ (p : LinkPlace). Some (record { place = p; wanted = true; stands = None })) w.place_is,
-        )
+    blank_left : (u : PageMove) → Used u → (key : ℕ) × (entry_at new.entries key ≡ Some (blank_for old from to items u))
+    blank_left u used =
+        let k = key_of old have trees from to items u used in
+        let w = room.targets k.move k.moves in
+        let lost = target_lost k.move k.moves w.key (is_at cur.entries w.key w.entry k.move.target w.at w.place_is) in
+        let cut : entry_at new.entries w.key ≡ cut_off (entry_at cur.entries w.key) = elim (clears w.key) [ inl g ↦ g.1 | inr out ↦ absurd (out.0 lost) ] in
+        (w.key, cut ∙ ap cut_off w.at ∙ wanted_cut w.entry w.wanted ∙ ap (λ (p : LinkPlace). Some (record { place = p; wanted = true; stands = None })) (w.place_is ∙ k.target))
 
-    -- a page with a key of its own is the target's
-    target_filled : (m : UsedMove) → KeyMoves m → (key : ℕ) (e : Entry) → entry_at cur.entries key ≡ Some e → m.target ≡ e.place → entry_at new.entries key ≡ Some (record { place = e.place; wanted = true; stands = None })
-    target_filled m used key e at target =
-        let w = room.targets m used in
-        let same : w.key ≡ key = have_cur.once m.target w.key key (is_at cur.entries w.key w.entry m.target w.at w.place_is) (is_at cur.entries key e m.target at (sym target)) in
-        let one : w.entry ≡ e = same_value (sym w.at ∙ ap (entry_at cur.entries) same ∙ at) in
-        blank_left key e at (ap (λ (x : Entry). x.wanted) (sym one) ∙ w.wanted) (target_lost m used key (is_at cur.entries key e m.target at (sym target)))
+    stays : (key : ℕ) (e : Entry) (t : Standing) → entry_at old.entries key ≡ Some e → e.stands ≡ Some t → ¬ (IsGone Used (mappings_of old) (map_place e.place)) → IsLeftAt old from to items new key e t
+    stays key e t at stands not_gone =
+        let b = became key e at in
+        let stay : ¬ (IsLost key) = λ lost. not_gone (gone_of key e at lost) in
+        let unwanted = unwanted_kept key b.entry b.at stay in
+        let before : b.before ≡ t = same_value (sym b.stood ∙ stands) in
+        let now_is : b.now ≡ record t { source = b.now.source } = b.is ∙ (λ i. record (before i) { source = b.now.source }) in
+        let now_at : standing_at cur.entries key ≡ Some b.now = ap (option_and_then (λ (x : Entry). x.stands)) b.at ∙ b.stands in
+        record {
+          marked = b.now.source;
+          at = kept key stay ∙ b.at ∙ (λ i. Some (record { place = b.place_is i; wanted = (unwanted ∙ sym b.unwanted) i; stands = (b.stands ∙ ap (λ (x : Standing). Some x) now_is) i }));
+          source = λ u used place.
+              let k = key_of old have trees from to items u used in
+              let same : k.move.source ≡ key =
+              have.once (link_place u.source) k.move.source key (subst (λ (p : Place). IsAt old.entries (link_place p) k.move.source) (source_is old have trees from to items u k) (move_at old.entries from to items k.move k.moves))
+              (is_at old.entries key e (link_place u.source) at (sym place)) in
+              let s = source_of cur.entries k.move.source (room.marked.sources k.move k.moves) in
+              ap (λ (x : Standing). x.source) (same_value (sym now_at ∙ ap (standing_at cur.entries) (sym same) ∙ s.1)) ∙ s.2;
+          plain = λ none. by_bool b.now.source
+              (λ source.
+              let m = room.marked.marks.sources key (ap (option_map (λ (x : Standing). x.source)) now_at ∙ ap (λ (v : Bool). Some v) source) in
+              let o = stand_of old.entries m.0.source (record { space = from; page = m.0.page }) m.1.standing m.1.stands in
+              let one : o.entry ≡ e = same_value (sym o.at ∙ ap (entry_at old.entries) m.2 ∙ at) in
+              absurd (none (page_move old have trees from to items m.0 m.1) (used_of old have trees from to items m.0 m.1) (sym o.place_is ∙ ap (λ (x : Entry). x.place) one)))
+              (λ unmarked. unmarked);
+        }
 
-    nothing_new : (key : ℕ) (e : Entry) → entry_at cur.entries key ≡ None → entry_at new.entries key ≡ Some e → ⊥
-    nothing_new key e none at =
-        let left : entry_at new.entries key ≡ None = elim (clears key) [ inl g ↦ g.1 ∙ ap cut_off none | inr k ↦ k.1 ∙ none ] in
-        let k : ◌≡◌ {A = Option Entry} None (Some e) = sym left ∙ at in
-        cc
+    target_is : (e f : Entry) (key : ℕ) → entry_at cur.entries key ≡ Some f → IsWaiting f → f.place ≡ e.place → IsTarget old from to items e.place
+    target_is e f key at waits place =
+        let t = room.marked.marks.targets key f at waits in
+        record { move = page_move old have trees from to items t.0 t.1; used = used_of old have trees from to items t.0 t.1; target = t.2 ∙ place }
 
-    pub cleared : Cleared Used old new
-    cleared = record {
+    -- what has a key then is a target, or was there and has not gone
+    abbrev IsLeft : ℕ → Entry → Type 0
+    IsLeft key e = IsTarget old from to items e.place ⊎ ((before : Entry) × (entry_at old.entries key ≡ Some before) × (before.place ≡ e.place) × ¬ (IsGone Used (mappings_of old) (map_place e.place)))
+
+    only_left : (key : ℕ) (e : Entry) → entry_at new.entries key ≡ Some e → IsLeft key e
+    only_left key e at = elim (clears key) [
+      | inl g ↦ elim (entry_at cur.entries key) as (λ (o : Option Entry). entry_at cur.entries key ≡ o → cut_off o ≡ Some e → IsLeft key e) [
+        | None ↦ λ _ is. absurd (let k : ◌≡◌ {A = Option Entry} None (Some e) = is in cc)
+        | Some f ↦ λ here is. by_bool f.wanted
+            (λ wanted. inl (target_is e f key here (inl wanted) (ap (λ (x : Entry). x.place) (same_value (sym (wanted_cut f wanted) ∙ is)))))
+            (λ unwanted. absurd (let k : ◌≡◌ {A = Option Entry} None (Some e) = sym (unwanted_cut f unwanted) ∙ is in cc))
+      ] refl (sym g.1 ∙ at)
+      | inr k ↦ elim (entry_at old.entries key) as (λ (o : Option Entry). entry_at old.entries key ≡ o → IsLeft key e) [
+        | None ↦ λ none.
+            let here : entry_at cur.entries key ≡ Some e = sym k.1 ∙ at in
+            let bare : e.stands ≡ None = stand_none cur.entries key e here (room.marked.marks.alike key ∙ ap (option_and_then (λ (x : Entry). option_map (with_place x.place) x.stands)) none) in
+            inl (target_is e e key here (inr bare) refl)
+        | Some before ↦ λ was.
+            let b = became key before was in
+            let place : before.place ≡ e.place = sym b.place_is ∙ ap (λ (x : Entry). x.place) (same_value (sym b.at ∙ sym k.1 ∙ at)) in
+            inr (before, was, place, λ gone. k.0 (lost_of key before was (subst (λ (q : LinkPlace). IsGone Used (mappings_of old) (map_place q)) (sym place) gone)))
+      ] refl
+    ]
+
+    none_before : (m : PageMove) → ¬ (IsBefore old from to items 0 0 m)
+    none_before m (earlier lt) = absurd (omega (arith, lt))
+    none_before m (same_item is lt) = absurd (omega (arith, lt))
+
+    not_yet : (m : PageMove) → ¬ (IsDone old from to items false 0 0 m)
+    not_yet m (inl n) = let z : false ≡ true = n.0 in cc
+    not_yet m (inr d) = none_before m d.1
+
+    -- none of the moves is done
+    pub begun : Placed old from to items (IsDone old from to items false 0 0) new
+    begun = record {
       spaces = spaces;
-      target = λ u used.
-          let k = key_of old have trees from to items u used in
-          let b = target_blank k.move k.moves in
-          (b.0, b.1 ∙ ap (λ (p : LinkPlace). Some (record { place = p; wanted = true; stands = None })) k.target);
-      source = λ u used key e t at place stands.
-          let k = key_of old have trees from to items u used in
-          let b = became key e at in
-          let same : k.move.source ≡ key =
-          have.once (link_place u.source) k.move.source key (subst (λ (p : Place). IsAt old.entries (link_place p) k.move.source) (source_is old have trees from to items u k) (move_at old.entries from to items k.move k.moves))
-          (is_at old.entries key e (link_place u.source) at place) in
-          let s = source_of cur.entries k.move.source (room.sources k.move k.moves) in
-          let one : b.now ≡ s.0 = same_value (sym (ap (option_and_then (λ (x : Entry). x.stands)) b.at ∙ b.stands) ∙ ap (standing_at cur.entries) (sym same) ∙ s.1) in
-          let source : b.now.source ≡ true = ap (λ (x : Standing). x.source) one ∙ s.2 in
-          let before : b.before ≡ t = same_value (sym b.stood ∙ stands) in
-          let stay : ¬ (IsLost key) = subst (λ (n : ℕ). ¬ (IsLost n)) same (room_stay old clean from to items cur.entries room trees_cur free k.move (still k.move k.moves)) in
-          let unwanted = unwanted_kept key b.entry b.at stay in
-          let now_is : b.now ≡ record t { source = true } = b.is ∙ (λ i. record (before i) { source = source i }) in
-          kept key stay ∙ b.at ∙ (λ i. Some (record { place = b.place_is i; wanted = (unwanted ∙ sym b.unwanted) i; stands = (b.stands ∙ ap (λ (x : Standing). Some x) now_is) i }));
-      filled = λ key e at target.
-          let k = key_of old have trees from to items target.0 target.1 in
-          let b = became key e at in
-          target_filled k.move k.moves key b.entry b.at (k.target ∙ sym target.2 ∙ sym b.place_is) ∙ ap (λ (p : LinkPlace). Some (record { place = p; wanted = true; stands = None })) b.place_is;
-      stays = λ key e at not_gone not_source.
-          let b = became key e at in
-          let stay : ¬ (IsLost key) = λ lost. not_gone (gone_of key e at lost) in
-          let unwanted = unwanted_kept key b.entry b.at stay in
-          let source : b.now.source ≡ false = by_bool b.now.source
-          (λ marked.
-          let is : IsSource cur.entries key = ap (option_map (λ (x : Standing). x.source)) (ap (option_and_then (λ (x : Entry). x.stands)) b.at ∙ b.stands) ∙ ap (λ (v : Bool). Some v) marked in
-          let m = room.marks.sources key is in
-          let o = stand_of old.entries m.0.source (record { space = from; page = m.0.page }) m.1.standing m.1.stands in
-          let one : o.entry ≡ e = same_value (sym o.at ∙ ap (entry_at old.entries) m.2 ∙ at) in
-          absurd (not_source (page_move old have trees from to items m.0 m.1, used_of old have trees from to items m.0 m.1, sym (ap (λ (x : Entry). x.place) one) ∙ o.place_is)))
-          (λ unmarked. unmarked) in
-          let now_is : b.now ≡ b.before = b.is ∙ (λ i. record { frame = b.before.frame; rights = b.before.rights; source = (source ∙ sym b.plain_before) i; granted = b.before.granted; parent = b.before.parent }) in
-          kept key stay ∙ b.at ∙ (λ i. Some (record { place = b.place_is i; wanted = (unwanted ∙ sym b.unwanted) i; stands = (b.stands ∙ ap (λ (x : Standing). Some x) now_is ∙ sym b.stood) i }));
-      left = λ key e t at stands not_gone.
-          let b = became key e at in
-          let stay : ¬ (IsLost key) = λ lost. not_gone (gone_of key e at lost) in
-          let unwanted = unwanted_kept key b.entry b.at stay in
-          let before : b.before ≡ t = same_value (sym b.stood ∙ stands) in
-          let now_is : b.now ≡ record t { source = b.now.source } = b.is ∙ (λ i. record (before i) { source = b.now.source }) in
-          (b.now.source, kept key stay ∙ b.at ∙ (λ i. Some (record { place = b.place_is i; wanted = (unwanted ∙ sym b.unwanted) i; stands = (b.stands ∙ ap (λ (x : Standing). Some x) now_is) i })));
-      gone = λ key e at gone.
-          let b = became key e at in
-          by_bool b.entry.wanted
-          (λ wanted.
-          let t = wanted_target key b.entry b.at wanted in
-          inr (page_move old have trees from to items t.0 t.1, used_of old have trees from to items t.0 t.1, sym (t.2 ∙ b.place_is)))
-          (λ unwanted. inl (cut key (lost_of key e at gone) ∙ ap cut_off b.at ∙ unwanted_cut b.entry unwanted));
-      only = λ key e none at. elim (entry_at cur.entries key) as (λ (o : Option Entry). entry_at cur.entries key ≡ o → (e ≡ record { place = e.place; wanted = true; stands = None }) × IsTargetOf Used e.place) [
-        | None ↦ λ here. absurd (nothing_new key e here at)
-        | Some blank ↦ λ here.
-            let bare : blank.stands ≡ None = stand_none cur.entries key blank here (room.marks.alike key ∙ ap (option_and_then (λ (x : Entry). option_map (with_place x.place) x.stands)) none) in
-            let t = room.marks.targets key blank here (inr bare) in
-            let one : e ≡ record { place = blank.place; wanted = true; stands = None } = same_value (sym at ∙ target_filled t.0 t.1 key blank here t.2) in
-            let place : e.place ≡ blank.place = ap (λ (x : Entry). x.place) one in (
-              one ∙ (λ i. record { place = (sym place) i; wanted = true; stands = None }),
-              (page_move old have trees from to items t.0 t.1, used_of old have trees from to items t.0 t.1, place ∙ sym t.2),
-            )
-      ] refl;
-      decided = λ key e at. elim (clears key) [
-        | inl g ↦ inl (gone_of key e at g.0)
-        | inr k ↦ inr (λ gone. k.0 (lost_of key e at gone))
-      ];
+      blank = λ move used _. blank_left move used;
+      mapped = λ move used done map. absurd (not_yet move done);
+      granted = λ move by used done grant. absurd (not_yet move done);
+      kept = λ key e t at stands not_gone _. stays key e t at stands not_gone;
+      only = only_left;
     }
 
 -- why a message isn't delivered, by keys and by places
@@ -319,7 +298,3 @@ cause_of old have trees from to items NoMemory lacks = (
     absent = λ present. let p = present_key old have trees from to items (map_place lacks.1.0.target) present in lacks.1.2 p.key p.at;
   },
 )
-
-pub none_refused : (Used : PageMove → Type 0) (s : Mappings) (cause : Cause) → HasCause Used s cause → TargetsPresent Used s → ¬ (IsEntangled Used s) → ⊥
-none_refused Used s Entangled cause present free = free cause
-none_refused Used s NoMemory cause present free = cause.1.absent (present cause.1.move cause.1.used)

@@ -1,6 +1,7 @@
 -- What was marked and is marked no longer is as it was.
-use Rattle.std.proofs.Common.{◌≡◌, ℕ, ◌^◌, Bool, true, false, List, length, Option, Some, None, option_and_then, option_map, refl, sym, ap, ◌∙◌, subst, inl, inr, ◌⊎◌, arith}
+use Rattle.std.proofs.Common.{◌≡◌, ℕ, ◌^◌, Bool, true, false, List, length, Option, Some, None, option_and_then, option_map, refl, sym, ap, ◌∙◌, subst, slice_get, inl, inr, ◌⊎◌, arith}
 use Rattle.std.proofs.lemmas.Option.{slice_get_within}
+use Rattle.l4_msg.specs.Moves.{MovePairs}
 use Rattle.l4_nodes.specs.declared.Place.{Place as LinkPlace}
 use Rattle.l4_links.specs.declared.Standing.{Standing}
 use Rattle.l4_links.specs.declared.Entry.{Entry}
@@ -9,11 +10,11 @@ use Rattle.l4_mapdb.specs.declared.ItemMove.{ItemMove}
 use Rattle.l4_mapdb.proofs.Unique.{same_value}
 use Rattle.l4_mapdb.specs.declared.sources.UsedMove.{UsedMove}
 use Rattle.l4_mapdb.specs.Delivering.{IsClean}
-use Rattle.l4_mapdb.specs.Inside.Messages.{plain, stand_at, StandAlike, IsMoved, IsWaiting, Marks, tidied, Tidies, OfItems, Wants, IsFilled}
-use Rattle.l4_mapdb.specs.Inside.Tangles.{Clashes, Tangles, HasTangle, SourcesAre}
+use Rattle.l4_mapdb.specs.Inside.Messages.{plain, stand_at, StandAlike, IsMoved, IsWaiting, Marks, AreMarked, tidied, Tidies, OfItems, Wants, IsFilled}
+use Rattle.l4_mapdb.specs.Inside.Tangles.{Clashes, Tangles, HasTangle}
 use Rattle.l4_mapdb.proofs.Leading.{leads_along}
 use Rattle.l4_mapdb.proofs.Moves.{stand_of, stands_as, with_place, found_of, is_at, entry_of}
-use Rattle.l4_mapdb.proofs.Marking.{moved_alike, moved_still, alike_on}
+use Rattle.l4_mapdb.proofs.Marking.{moved_alike, alike_on}
 use Rattle.l4_mapdb.proofs.Rooming.{wants_alike}
 
 -- a bool is one or the other
@@ -62,30 +63,29 @@ tidied_was old clean cur key alike =
       ] is
     ] alike
 
+-- a used move is of pages that the items name
+pub target_in : (from to : ℕ) (items : List ItemMove) (item : ℕ) (by : ItemMove) (source : ℕ) (place : LinkPlace) → slice_get items item ≡ Some by → place.space ≡ to → MovePairs (Some by.mv) source place.page → OfItems from to items (length items) place
+target_in from to items item by source place at space pages =
+    let size : 2 ^ by.mv.source.log ≡ 2 ^ by.mv.target.log = ap (λ (n : ℕ). 2 ^ n) by.mv.same_size in
+    let i = pages.within in
+    let p = pages.target_is in
+    (item, by, slice_get_within items item by at, at, inr (space, omega (arith, p), omega (arith, p, i, size)))
+
+pub source_in : (from to : ℕ) (items : List ItemMove) (item : ℕ) (by : ItemMove) (target : ℕ) (place : LinkPlace) → slice_get items item ≡ Some by → place.space ≡ from → MovePairs (Some by.mv) place.page target → OfItems from to items (length items) place
+source_in from to items item by target place at space pages =
+    let i = pages.within in
+    let p = pages.source_is in
+    (item, by, slice_get_within items item by at, at, inl (space, omega (arith, p), omega (arith, p, i)))
+
 module _ (old : Linked) (clean : IsClean old) (from to : ℕ) (items : List ItemMove) where
   abbrev Used : UsedMove → Type 0
   Used = IsMoved old.entries from to items
-
-  -- a used move is of pages that the items name
-  target_named : (m : UsedMove) → Used m → OfItems from to items (length items) m.target
-  target_named m used =
-      let size = used.by.mv.same_size in
-      let i = used.pages.within in
-      let p = used.pages.target_is in
-      let space : 2 ^ used.by.mv.source.log ≡ 2 ^ used.by.mv.target.log = ap (λ (n : ℕ). 2 ^ n) size in
-      (m.item, used.by, slice_get_within items m.item used.by used.item, used.item, inr (used.to_space, omega (arith, p), omega (arith, p, i, space)))
-
-  source_named : (m : UsedMove) → Used m → OfItems from to items (length items) (record { space = from; page = m.page })
-  source_named m used =
-      let i = used.pages.within in
-      let p = used.pages.source_is in
-      (m.item, used.by, slice_get_within items m.item used.by used.item, used.item, inl (refl, omega (arith, p), omega (arith, p, i)))
 
   module _ (cur : Entries) (marks : Marks Used old.entries cur) where
     waiting_named : (key : ℕ) (e : Entry) → entry_at cur key ≡ Some e → IsWaiting e → OfItems from to items (length items) e.place
     waiting_named key e at waits =
         let t = marks.targets key e at waits in
-        subst (λ (p : LinkPlace). OfItems from to items (length items) p) t.2 (target_named t.0 t.1)
+        subst (λ (p : LinkPlace). OfItems from to items (length items) p) t.2 (target_in from to items t.0.item t.1.by t.0.page t.0.target t.1.item t.1.to_space t.1.pages)
 
     marked_named : (key : ℕ) (e : Entry) (t : Standing) → entry_at cur key ≡ Some e → e.stands ≡ Some t → t.source ≡ true → OfItems from to items (length items) e.place
     marked_named key e t at stands source =
@@ -95,7 +95,7 @@ module _ (old : Linked) (clean : IsClean old) (from to : ℕ) (items : List Item
         let here : stand_at cur key ≡ Some (record { space = from; page = m.0.page }, m.1.standing) = marks.alike key ∙ ap (stand_at old.entries) (sym m.2) ∙ m.1.stands in
         let c = stand_of cur key (record { space = from; page = m.0.page }) m.1.standing here in
         let same : c.entry ≡ e = same_value (sym c.at ∙ at) in
-        subst (λ (p : LinkPlace). OfItems from to items (length items) p) (sym c.place_is ∙ ap (λ (x : Entry). x.place) same) (source_named m.0 m.1)
+        subst (λ (p : LinkPlace). OfItems from to items (length items) p) (sym c.place_is ∙ ap (λ (x : Entry). x.place) same) (source_in from to items m.0.item m.1.by m.0.target.page (record { space = from; page = m.0.page }) m.1.item refl m.1.pages)
 
     -- an entry that no item names has no mark
     unnamed_tidy : (new : Entries) → Tidies (OfItems from to items (length items)) cur new → (key : ℕ) (e : Entry) → entry_at cur key ≡ Some e → entry_at new key ≡ Some e → entry_at new key ≡ tidied (Some e)
@@ -123,12 +123,18 @@ module _ (old : Linked) (clean : IsClean old) (from to : ℕ) (items : List Item
     ]
 
   -- what is only looked at keeps its marks
-  pub marks_same : (a b : Entries) → ((key : ℕ) → entry_at b key ≡ entry_at a key) → Marks Used old.entries a → Marks Used old.entries b
+  marks_same : (a b : Entries) → ((key : ℕ) → entry_at b key ≡ entry_at a key) → Marks Used old.entries a → Marks Used old.entries b
   marks_same a b same marks = record {
     alike = λ key. ap (option_and_then (λ (e : Entry). option_map (with_place e.place) e.stands)) (same key) ∙ marks.alike key;
     sources = λ key source. marks.sources key (ap (λ (o : Option Entry). option_map (λ (x : Standing). x.source) (option_and_then (λ (x : Entry). x.stands) o)) (sym (same key)) ∙ source);
     targets = λ key e at waits. marks.targets key e (sym (same key) ∙ at) waits;
     not_granted = λ key t stands. marks.not_granted key t (ap (option_and_then (λ (x : Entry). x.stands)) (sym (same key)) ∙ stands);
+  }
+
+  pub marked_same : (a b : Entries) → ((key : ℕ) → entry_at b key ≡ entry_at a key) → AreMarked Used old.entries a → AreMarked Used old.entries b
+  marked_same a b same marked = record {
+    marks = marks_same a b same marked.marks;
+    sources = λ m used. ap (λ (o : Option Entry). option_map (λ (x : Standing). x.source) (option_and_then (λ (x : Entry). x.stands) o)) (same m.source) ∙ marked.sources m used;
   }
 
   pub wants_stands : (A : LinkPlace → Type 0) (o n : Option Entry) → Wants A o n → option_and_then (λ (x : Entry). x.stands) n ≡ option_and_then (λ (x : Entry). x.stands) o
@@ -152,13 +158,6 @@ module _ (old : Linked) (clean : IsClean old) (from to : ℕ) (items : List Item
       | inr f ↦ (f.0, moved_alike old.entries a from to items marks.alike f.0 f.1, f.2)
     ];
     not_granted = λ key t stands. marks.not_granted key t (sym (wants_stands (IsFilled (IsMoved a from to items)) (entry_at a key) (entry_at b key) (wants key)) ∙ stands);
-  }
-
-  -- the sources are those that are marked
-  pub sources_are : (a : Entries) → Marks Used old.entries a → ((m : UsedMove) → Used m → IsSource a m.source) → SourcesAre (IsMoved a from to items) a
-  sources_are a marks sources = record {
-    marked = λ m used. sources m (moved_alike old.entries a from to items marks.alike m used);
-    used = λ key source. let m = marks.sources key source in (m.0, moved_still old.entries a from to items marks.alike m.0 m.1, m.2);
   }
 
 -- what stands alike has the same parents

@@ -9,6 +9,7 @@ use Rattle.l4_mapdb.specs.Mappings.{Mappings, shown}
 use Rattle.l4_mapdb.specs.Transfer.{PageMove, IsEntangled, IsGone, StandsAt, ParentLater, Becomes, Moved}
 use Rattle.l4_mapdb.proofs.EntriesLemmas.{decided}
 use Rattle.l4_mapdb.proofs.Filled.{BecomesBy, by_kind}
+use Rattle.l4_mapdb.proofs.Unique.{same_value}
 use Rattle.l4_fpage.specs.Pages.{most_pages}
 
 -- what is known of each used move
@@ -80,8 +81,7 @@ module _ (Used : PageMove → Type 0) (old : Mappings) (known : KnownMoves Used 
   one_by_kind q a b (inr (inr x)) (inl y) = absurd (x.not_gone (target_gone y.move y.used q x.before y.target x.at))
   one_by_kind q a b (inr (inr x)) (inr (inl y)) = absurd (x.not_gone (target_gone y.move y.used q x.before y.target x.at))
   one_by_kind q a b (inr (inr x)) (inr (inr y)) =
-      let both : Some x.before ≡ Some y.before = sym x.at ∙ y.at in
-      let e : x.before ≡ y.before = cc in
+      let e : x.before ≡ y.before = same_value (sym x.at ∙ y.at) in
       same_mapping a b
       (x.frame ∙ ap (λ (v : Mapping). v.frame) e ∙ sym y.frame)
       (x.rights ∙ ap (λ (v : Mapping). v.rights) e ∙ sym y.rights)

@@ -12,6 +12,7 @@ use Rattle.l4_mapdb.specs.View.{link_place, map_place, mapping_of, mappings_of}
 use Rattle.l4_mapdb.specs.Inside.View.{IsShown}
 use Rattle.l4_mapdb.specs.Inside.Placing.{IsStart, Used, blank_for, IsTarget, HasGone, Placed, IsSourceAt, MovesNone, HasBlank}
 use Rattle.l4_mapdb.proofs.View.{key_shows, shown_by_key, some_standing, some_entry, one_entry}
+use Rattle.l4_mapdb.proofs.Unique.{same_value}
 
 module _ (start now : Linked) (from to : ℕ) (items : List ItemMove) (ready : IsStart start from to items) (Done : PageMove → Type 0) (placed : Placed start from to items Done now) (have : HavePlaces now) where
   abbrev Moves : PageMove → Type 0
@@ -99,8 +100,7 @@ module _ (start now : Linked) (from to : ℕ) (items : List ItemMove) (ready : I
   stood_here place rights key h =
       let s = some_standing now.entries key h.standing h.stands in
       let p = some_entry now.entries place key h.at in
-      let both : Some s.0 ≡ Some p.0 = sym s.1 ∙ p.1 in
-      let same : s.0 ≡ p.0 = cc in
+      let same : s.0 ≡ p.0 = same_value (sym s.1 ∙ p.1) in
       let here : s.0.place ≡ place = ap (λ (x : Entry). x.place) same ∙ p.2 in
       elim (placed.only key s.0 s.1) [
         | inl t ↦ absurd (no_target key s.0 h.standing s.1 s.2 h.source h.not_granted t)
@@ -112,10 +112,8 @@ module _ (start now : Linked) (from to : ℕ) (items : List ItemMove) (ready : I
       left e at stands here before at_start same there =
           let plain = ready.clean key before at_start in
           let l = placed.kept key before plain.standing at_start plain.stands (λ g. there (subst (λ (p : LinkPlace). IsGone Moves (mappings_of start) (map_place p)) same g)) granted in
-          let both : Some e ≡ Some (record before { stands = Some (record plain.standing { source = l.marked }) }) = sym at ∙ l.at in
-          let is : e ≡ record before { stands = Some (record plain.standing { source = l.marked }) } = cc in
-          let stand_both : Some h.standing ≡ Some (record plain.standing { source = l.marked }) = sym stands ∙ ap (λ (x : Entry). x.stands) is in
-          let stand_is : h.standing ≡ record plain.standing { source = l.marked } = cc in
+          let is : e ≡ record before { stands = Some (record plain.standing { source = l.marked }) } = same_value (sym at ∙ l.at) in
+          let stand_is : h.standing ≡ record plain.standing { source = l.marked } = same_value (sym stands ∙ ap (λ (x : Entry). x.stands) is) in
           let marked : l.marked ≡ true = ap (λ (x : Standing). x.source) (sym stand_is) ∙ h.source in
           record {
             before = before;
@@ -133,8 +131,7 @@ module _ (start now : Linked) (from to : ℕ) (items : List ItemMove) (ready : I
           granted g =
               let p = granted_place g.move g.used g.done g.grant in
               let key_is : p.key ≡ key = ready.places.once (link_place g.move.source) p.key key p.at_start (ap (option_map {T = Entry} (λ x. x.place)) at_start ∙ ap Some (sym g.source)) in
-              let moved : Some e ≡ Some (record { place = link_place g.move.target; wanted = false; stands = Some (record p.standing { source = true; granted = Some p.by.rights }) }) = sym at ∙ ap (entry_at now.entries) (sym key_is) ∙ p.at in
-              let is : e ≡ record { place = link_place g.move.target; wanted = false; stands = Some (record p.standing { source = true; granted = Some p.by.rights }) } = cc in
+              let is : e ≡ record { place = link_place g.move.target; wanted = false; stands = Some (record p.standing { source = true; granted = Some p.by.rights }) } = same_value (sym at ∙ ap (entry_at now.entries) (sym key_is) ∙ p.at) in
               let z : ◌≡◌ {A = Option RightsSet} None (Some p.by.rights) = sym h.not_granted ∙ ap (option_and_then (λ (x : Standing). x.granted)) (sym stands) ∙ ap note is in
               cc
 
@@ -201,10 +198,8 @@ module _ (start now : Linked) (from to : ℕ) (items : List ItemMove) (ready : I
         let stays = λ (g : IsGone Moves (mappings_of start) (map_place s.entry.place)). source_stays v used (subst (λ (p : LinkPlace). IsGone Moves (mappings_of start) (map_place p)) s.place_is g) in
         let l = placed.kept s.key s.entry s.standing s.at s.stands stays (λ g. there (record { move = g.move; used = g.used; done = g.done; grant = g.grant; source = g.source ∙ s.place_is })) in
         let marked : l.marked ≡ true = l.source v used (sym s.place_is) in
-        let both : Some plain.standing ≡ Some s.standing = sym plain.stands ∙ s.stands in
-        let same : plain.standing ≡ s.standing = cc in
-        let bys : Some used.by ≡ Some by = sym used.item ∙ ap (slice_get items) item_is ∙ item_at in
-        let by_is : used.by ≡ by = cc in
+        let same : plain.standing ≡ s.standing = same_value (sym plain.stands ∙ s.stands) in
+        let by_is : used.by ≡ by = same_value (sym used.item ∙ ap (slice_get items) item_is ∙ item_at) in
         let place : link_place v.source ≡ source_page = (λ i. record { space = used.from_space i; page = page_is i }) in
         none s.key (record {
           standing = record s.standing { source = l.marked };

@@ -9,6 +9,7 @@ use Rattle.l4_mapdb.specs.Mappings.{Mappings, shown, IsForest}
 use Rattle.l4_mapdb.specs.Transfer.{PageMove, IsUsed, IsEntangled, Delivers}
 use Rattle.l4_mapdb.proofs.Single.{KnownMoves}
 use Rattle.l4_mapdb.proofs.ForestMoved.{transfers_keep}
+use Rattle.l4_mapdb.proofs.Unique.{same_value}
 use Rattle.l4_fpage.specs.Pages.{most_pages}
 
 first_true : (a b : Bool) → IsTrue (a && b) → IsTrue a
@@ -30,14 +31,12 @@ module _ (old : Mappings) (sender receiver : ℕ) (items : List ItemMove) where
 
   one_item : (u v : PageMove) (a : Used u) (b : Used v) → u.item ≡ v.item → a.by ≡ b.by
   one_item u v a b e =
-      let both : Some a.by ≡ Some b.by = sym a.item ∙ ap (slice_get items) e ∙ b.item in
-      cc
+      same_value (sym a.item ∙ ap (slice_get items) e ∙ b.item)
 
   one_move : (u v : PageMove) → Used u → Used v → u.item ≡ v.item → u.source ≡ v.source → u.target ≡ v.target → u ≡ v
   one_move u v a b item source target =
       let by : a.by ≡ b.by = one_item u v a b item in
-      let shows_both : Some u.shows ≡ Some v.shows = sym a.present ∙ ap (shown old) source ∙ b.present in
-      let shows : u.shows ≡ v.shows = cc in
+      let shows : u.shows ≡ v.shows = same_value (sym a.present ∙ ap (shown old) source ∙ b.present) in
       let grant : u.grant ≡ v.grant = a.grant ∙ ap (λ (x : ItemMove). x.grant) by ∙ sym b.grant in
       let rights : u.rights ≡ v.rights = a.rights ∙ (λ i. common (shows i).rights (by i).rights) ∙ sym b.rights in
       λ i. record { item = item i; source = source i; target = target i; grant = grant i; shows = shows i; rights = rights i }

@@ -8,15 +8,16 @@ ghost use Rattle.l4_mapdb.specs.Transfer.{IsUsed, IsEntangled, TargetsPresent, D
 ghost use Rattle.l4_mapdb.specs.Causes.{HasCause};
 ghost use Rattle.l4_mapdb.specs.View.{mappings_of};
 ghost use Rattle.l4_mapdb.specs.Delivering.{IsClean, RootsKnown, IsDelivered};
-ghost use Rattle.l4_mapdb.specs.Inside.Messages.{Cleared};
 ghost use Rattle.l4_mapdb.specs.Inside.Growing.{AreOfKind};
-ghost use Rattle.l4_mapdb.specs.Inside.Placing.{IsStart};
+ghost use Rattle.l4_mapdb.specs.Inside.Placing.{IsStart, Placed, IsDone};
 
+use crate::clearing::clear_targets;
 use crate::cutting::cut;
 use crate::granting::deliver_grants;
 use crate::maps::deliver_maps;
 use crate::moving::move_all;
-use crate::preparing::make_way;
+use crate::room::make_room;
+use crate::tangles::has_tangle;
 use crate::unmarking::unmark;
 use crate::{Cause, ItemMove};
 use l4_links::Links;
@@ -25,12 +26,11 @@ use l4_links::Links;
 /// marks.
 fn carry_out(links: &mut Links, from: u64, to: u64, items: &[ItemMove])
     requires ready { (start : Linked) × IsStart start from to items.now
-        × Cleared (IsUsed (mappings_of start) from to items.now) start links.old }
-    ensures delivers { (start : Linked) → IsStart start from to items.now
-        → Cleared (IsUsed (mappings_of start) from to items.now) start links.old
+        × Placed start from to items.now (IsDone start from to items.now false 0 0) links.old }
+    ensures delivers { (start : Linked) → IsStart start from to items.now → Placed start from to items.now (IsDone start from to items.now false 0 0) links.old
         → Delivers from to items.now (mappings_of start) (mappings_of links.new) }
     ensures clean { IsClean links.new }
-    ensures roots { (start : Linked) → IsStart start from to items.now → Cleared (IsUsed (mappings_of start) from to items.now) start links.old
+    ensures roots { (start : Linked) → IsStart start from to items.now → Placed start from to items.now (IsDone start from to items.now false 0 0) links.old
         → (roots : List ℕ) → RootsKnown start.entries roots → RootsKnown links.new.entries roots }
     ensures spaces { links.new.spaces ≡ links.old.spaces }
 {
@@ -45,7 +45,8 @@ fn carry_out(links: &mut Links, from: u64, to: u64, items: &[ItemMove])
     links.law_places();
 }
 
-/// Delivers any message: prepares its targets, and then executes its used moves.
+/// Delivers any message: tests it, makes room for each target, removes the mappings at the targets with everything that descends from
+/// them, and then executes its used moves.
 fn deliver_any(links: &mut Links, from: u64, to: u64, items: &[ItemMove]) -> Result<(), Cause>
     requires clean { IsClean links.old }
     requires there { IsTrue (set.contains links.old.spaces to) }
@@ -63,10 +64,17 @@ fn deliver_any(links: &mut Links, from: u64, to: u64, items: &[ItemMove]) -> Res
 {
     links.law_places();
     links.law_trees();
-    match make_way(links, from, to, items) {
-        Ok(()) => {}
-        Err(cause) => return Err(cause),
+    if has_tangle(links, from, to, items) {
+        unmark(links, from, to, items);
+        return Err(Cause::Entangled);
     }
+    let Ok(()) = make_room(links, from, to, items) else {
+        unmark(links, from, to, items);
+        return Err(Cause::NoMemory);
+    };
+    links.law_places();
+    links.law_trees();
+    clear_targets(links, from, to, items);
     carry_out(links, from, to, items);
     Ok(())
 }

@@ -15,7 +15,7 @@ ghost use Rattle.l4_mapdb.specs.Inside.Growing.{IsGround};
 ghost use Rattle.l4_mapdb.specs.Inside.Granting.{AreGrants, Handed};
 
 use crate::cutting::end_of;
-use crate::preparing::refusal;
+use crate::tangles::refusal;
 use crate::{Cause, ItemMove};
 use l4_links::{Links, NoMemory, Place};
 

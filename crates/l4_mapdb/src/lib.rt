@@ -10,7 +10,6 @@ mod granting;
 mod growing;
 mod maps;
 mod moving;
-mod preparing;
 mod renewing;
 mod room;
 mod sources;

@@ -11,9 +11,8 @@ ghost use Rattle.l4_mapdb.specs.Delivering.{IsDelivered};
 ghost use Rattle.l4_mapdb.specs.Inside.Growing.{AreMaps, IsGround};
 
 use crate::growing::grow_children;
-use crate::preparing::refusal;
 use crate::renewing::take_places;
-use crate::tangles::are_apart;
+use crate::tangles::{are_apart, refusal};
 use crate::{Cause, ItemMove};
 use l4_links::Links;
 

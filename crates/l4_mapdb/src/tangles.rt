@@ -1,15 +1,17 @@
 //! Tests whether the effect of a message would depend on the order of its items.
 
 ghost use Rattle.std.specs.Prelude.{◌≡◌, ◌≢◌, ◌↔◌, ◌<◌, ◌≤◌, ◌⊎◌, ℕ, length, IsTrue, MatchOption, true, false};
-ghost use Rattle.l4_links.specs.Entries.{entry_at, IsAt, IsStanding, IsSource, Descends};
-ghost use Rattle.l4_mapdb.specs.Inside.Messages.{IsMoved};
-ghost use Rattle.l4_mapdb.specs.Inside.Tangles.{IsTaken, Clashes, ClashesWith, Tangles, TanglesFrom, HasTangle, AboveSource, SourcesAre, AreApart, NoneReplaced};
+ghost use Rattle.l4_links.specs.Entries.{entry_at, IsAt};
+ghost use Rattle.l4_mapdb.specs.Delivering.{IsClean};
+ghost use Rattle.l4_mapdb.specs.Inside.Messages.{IsMoved, AreMarked, LacksKey};
+ghost use Rattle.l4_mapdb.specs.Inside.Tangles.{Clashes, ClashesWith, HasTangle, AboveSource, AreApart};
 ghost use Rattle.l4_mapdb.specs.declared.sources.UsedMove.{UsedMove as AUsedMove};
 
-use crate::ItemMove;
 use crate::cutting::end_of;
 use crate::sources::{UsedMove, UsedMoves, later_page, move_out};
-use l4_links::{Entry, Links, Place};
+use crate::unmarking::unmark;
+use crate::{Cause, ItemMove};
+use l4_links::{Links, Place};
 
 /// Returns the used move of the item of this number into the place.
 fn move_into(
@@ -31,26 +33,6 @@ fn move_into(
     }
     let page = place.page - by.mv.target.first + by.mv.source.first;
     move_out(links, from, to, items, item, page)
-}
-
-/// Returns a used move into the place.
-fn into_place(
-    links: &Links,
-    from: u64,
-    to: u64,
-    items: &[ItemMove],
-    place: Place,
-) -> Option<UsedMove>
-    ensures { MatchOption result
-        ((move : AUsedMove) → IsMoved links.now.entries from to items.now move → move.target ≢ place)
-        (λ m. IsMoved links.now.entries from to items.now m × (m.target ≡ place)) }
-{
-    for item in 0..items.len() {
-        if let Some(used) = move_into(links, from, to, items, item, place) {
-            return Some(used);
-        }
-    }
-    None
 }
 
 /// Returns whether each item fills pages after those that the items before it fill, and, if one of them is a grant, moves pages after those
@@ -128,67 +110,6 @@ fn clashes(
     false
 }
 
-/// Returns whether a used move fills the page of the node under the key, or of one of its ancestors.
-fn is_taken(links: &Links, from: u64, to: u64, items: &[ItemMove], key: usize) -> bool
-    ensures { IsTrue result
-        ↔ IsTaken (IsMoved links.now.entries from to items.now) links.now.entries key }
-{
-    links.law_trees();
-    let mut at = key;
-    for _ in 0..links.bound() {
-        let Some(Entry { place, stands, .. }) = links.at(at) else {
-            return false;
-        };
-        let Some(standing) = stands else {
-            return false;
-        };
-        if let Some(_) = into_place(links, from, to, items, place) {
-            return true;
-        }
-        let Some(parent) = standing.parent else {
-            return false;
-        };
-        at = parent;
-    }
-    false
-}
-
-/// Returns whether the used move conflicts with another one, or its source is removed.
-fn tangles_from(
-    links: &Links,
-    from: u64,
-    to: u64,
-    items: &[ItemMove],
-    used: &UsedMove,
-    apart: bool,
-) -> bool
-    requires used { IsMoved links.now.entries from to items.now used.now }
-    requires apart { apart ≡ true → AreApart items.now (length items.now) }
-    ensures { IsTrue result
-        ↔ TanglesFrom (IsMoved links.now.entries from to items.now) links.now.entries used.now }
-{
-    if clashes(links, from, to, items, used, apart) {
-        return true;
-    }
-    is_taken(links, from, to, items, used.source)
-}
-
-/// Returns whether the used moves conflict. Changes nothing, and goes up from each source.
-pub(crate) fn has_tangle(links: &Links, from: u64, to: u64, items: &[ItemMove]) -> bool
-    ensures { IsTrue result
-        ↔ HasTangle (IsMoved links.now.entries from to items.now) links.now.entries }
-{
-    links.law_places();
-    let apart = are_apart(items);
-    let mut moves = UsedMoves::new();
-    while let Some(used) = moves.next(links, from, to, items) {
-        if tangles_from(links, from, to, items, &used, apart) {
-            return true;
-        }
-    }
-    false
-}
-
 /// Returns whether the node at the place is a source, or above one.
 fn is_above_source(links: &mut Links, place: Place) -> bool
     ensures same { (key : ℕ) → entry_at links.new.entries key ≡ entry_at links.old.entries key }
@@ -207,68 +128,57 @@ fn is_above_source(links: &mut Links, place: Place) -> bool
     links.has_source_below(key)
 }
 
-/// Returns whether the used move conflicts with another one, or its target is above a source. The sources of all used moves are marked.
-fn tangles(
-    links: &mut Links,
-    from: u64,
-    to: u64,
-    items: &[ItemMove],
-    used: &UsedMove,
-    apart: bool,
-) -> bool
-    requires used { IsMoved links.old.entries from to items.now used.now }
-    requires apart { apart ≡ true → AreApart items.now (length items.now) }
-    requires sources { SourcesAre (IsMoved links.old.entries from to items.now) links.old.entries }
-    ensures same { (key : ℕ) → entry_at links.new.entries key ≡ entry_at links.old.entries key }
-    ensures answer { IsTrue result
-        ↔ Tangles (IsMoved links.old.entries from to items.now) links.old.entries used.now }
-    ensures spaces { links.new.spaces ≡ links.old.spaces }
-{
-    if clashes(links, from, to, items, used, apart) {
-        return true;
-    }
-    is_above_source(links, used.target)
-}
-
-/// Returns whether the used moves conflict, if the sources of all are marked. Each node is visited once.
-fn marked_tangle(links: &mut Links, from: u64, to: u64, items: &[ItemMove], apart: bool) -> bool
-    requires apart { apart ≡ true → AreApart items.now (length items.now) }
-    requires sources { SourcesAre (IsMoved links.old.entries from to items.now) links.old.entries }
-    ensures same { (key : ℕ) → entry_at links.new.entries key ≡ entry_at links.old.entries key }
-    ensures answer { IsTrue result
-        ↔ HasTangle (IsMoved links.old.entries from to items.now) links.old.entries }
+/// Marks the source of each used move.
+fn mark_sources(links: &mut Links, from: u64, to: u64, items: &[ItemMove])
+    requires { IsClean links.old }
+    ensures marked { AreMarked (IsMoved links.old.entries from to items.now) links.old.entries
+        links.new.entries }
     ensures spaces { links.new.spaces ≡ links.old.spaces }
 {
     links.law_places();
     let mut moves = UsedMoves::new();
     while let Some(used) = moves.next(links, from, to, items) {
-        if tangles(links, from, to, items, &used, apart) {
+        links.set_source(used.source, true);
+    }
+}
+
+/// Marks the sources of all used moves, and returns whether the used moves conflict. Each node is visited once.
+pub(crate) fn has_tangle(links: &mut Links, from: u64, to: u64, items: &[ItemMove]) -> bool
+    requires { IsClean links.old }
+    ensures marked { AreMarked (IsMoved links.old.entries from to items.now) links.old.entries
+        links.new.entries }
+    ensures answer { IsTrue result
+        ↔ HasTangle (IsMoved links.old.entries from to items.now) links.old.entries }
+    ensures spaces { links.new.spaces ≡ links.old.spaces }
+{
+    links.law_places();
+    mark_sources(links, from, to, items);
+    let apart = are_apart(items);
+    let mut moves = UsedMoves::new();
+    while let Some(used) = moves.next(links, from, to, items) {
+        if clashes(links, from, to, items, &used, apart) {
+            return true;
+        }
+        if is_above_source(links, used.target) {
             return true;
         }
     }
     false
 }
 
-/// Returns whether the used moves conflict, if the sources of all are marked. If no target is present (`had` is false) and the items are
-/// apart, there is nothing to test.
-pub(crate) fn room_tangle(
-    links: &mut Links,
-    from: u64,
-    to: u64,
-    items: &[ItemMove],
-    had: bool,
-) -> bool
-    requires sources { SourcesAre (IsMoved links.old.entries from to items.now) links.old.entries }
-    requires had { had ≡ false
-        → NoneReplaced (IsMoved links.old.entries from to items.now) links.old.entries }
+/// Why a message is refused that there was no memory for. The nodes are as before.
+pub(crate) fn refusal(links: &mut Links, from: u64, to: u64, items: &[ItemMove]) -> Cause
+    requires clean { IsClean links.old }
+    requires lacks { (move : AUsedMove) × IsMoved links.old.entries from to items.now move
+        × ((key : ℕ) → ¬ (IsAt links.old.entries move.target key)) }
+    ensures cause { LacksKey (IsMoved links.old.entries from to items.now) links.old.entries result }
     ensures same { (key : ℕ) → entry_at links.new.entries key ≡ entry_at links.old.entries key }
-    ensures answer { IsTrue result
-        ↔ HasTangle (IsMoved links.old.entries from to items.now) links.old.entries }
     ensures spaces { links.new.spaces ≡ links.old.spaces }
 {
-    let apart = are_apart(items);
-    if apart && !had {
-        return false;
+    let tangled = has_tangle(links, from, to, items);
+    unmark(links, from, to, items);
+    if tangled {
+        return Cause::Entangled;
     }
-    marked_tangle(links, from, to, items, apart)
+    Cause::NoMemory
 }

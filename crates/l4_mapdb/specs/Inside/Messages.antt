@@ -10,10 +10,8 @@ use Rattle.l4_links.specs.Entries.{Entries, Linked, entry_at, standing_at, IsAt,
 use Rattle.l4_mapdb.specs.declared.Cause.{Cause}
 use Rattle.l4_mapdb.specs.declared.Cause.TheVariants.{Entangled, NoMemory}
 use Rattle.l4_mapdb.specs.declared.ItemMove.{ItemMove}
-use Rattle.l4_mapdb.specs.Transfer.{PageMove, IsGone}
 use Rattle.l4_mapdb.specs.declared.sources.UsedMove.{UsedMove}
 use Rattle.l4_mapdb.specs.declared.sources.UsedMoves.{UsedMoves}
-use Rattle.l4_mapdb.specs.View.{link_place, map_place, mappings_of}
 use Rattle.l4_mapdb.specs.Inside.Tangles.{HasTangle}
 
 -- what stands, without its marks
@@ -86,10 +84,6 @@ pub record IsWanted (s : Entries) (place : LinkPlace) : Type 0 where
   pub place_is : entry.place ≡ place
   pub wanted : entry.wanted ≡ true
 
--- the sources of the used moves before this turn are marked
-abbrev pub SourcesMarked : ℕ → ℕ → List ItemMove → Entries → Entries → ℕ → Type 0
-SourcesMarked from to items old new next = (move : UsedMove) → IsMoved old from to items move → turn_of move < next → IsSource new move.source
-
 -- an entry without its marks, nothing where it was a blank
 abbrev pub tidied : Option Entry → Option Entry
 tidied o = option_and_then (λ (e : Entry). option_map (λ (t : Standing). record e { wanted = false; stands = Some (plain t) }) e.stands) o
@@ -140,37 +134,15 @@ pub record Goes (Used : UsedMove → Type 0) (s : Entries) (key : ℕ) : Type 0 
 abbrev pub IsClearedAt : Type 0 → Option Entry → Option Entry → Type 0
 IsClearedAt Gone old new = (Gone × (new ≡ cut_off old)) ⊎ (¬ Gone × (new ≡ old))
 
--- a used move is out of the place
-abbrev pub IsSourceOf : (PageMove → Type 0) → LinkPlace → Type 0
-IsSourceOf Used place = (move : PageMove) × Used move × (place ≡ link_place move.source)
-
--- a used move is into the place
-abbrev pub IsTargetOf : (PageMove → Type 0) → LinkPlace → Type 0
-IsTargetOf Used place = (move : PageMove) × Used move × (place ≡ link_place move.target)
-
--- all that goes has gone, each target of a used move is a wanted blank, and each source is marked
-pub record Cleared (Used : PageMove → Type 0) (old new : Linked) : Type 0 where
-  pub spaces : new.spaces ≡ old.spaces
-  pub target : (move : PageMove) → Used move → (key : ℕ) × (entry_at new.entries key ≡ Some (record { place = link_place move.target; wanted = true; stands = None }))
-  pub source : (move : PageMove) → Used move → (key : ℕ) (e : Entry) (t : Standing) → entry_at old.entries key ≡ Some e → e.place ≡ link_place move.source → e.stands ≡ Some t
-      → entry_at new.entries key ≡ Some (record e { stands = Some (record t { source = true }) })
-  pub filled : (key : ℕ) (e : Entry) → entry_at old.entries key ≡ Some e → IsTargetOf Used e.place → entry_at new.entries key ≡ Some (record { place = e.place; wanted = true; stands = None })
-  pub stays : (key : ℕ) (e : Entry) → entry_at old.entries key ≡ Some e → ¬ (IsGone Used (mappings_of old) (map_place e.place)) → ¬ (IsSourceOf Used e.place) → entry_at new.entries key ≡ Some e
-  pub left : (key : ℕ) (e : Entry) (t : Standing) → entry_at old.entries key ≡ Some e → e.stands ≡ Some t → ¬ (IsGone Used (mappings_of old) (map_place e.place))
-      → (marked : Bool) × (entry_at new.entries key ≡ Some (record e { stands = Some (record t { source = marked }) }))
-  pub gone : (key : ℕ) (e : Entry) → entry_at old.entries key ≡ Some e → IsGone Used (mappings_of old) (map_place e.place) → (entry_at new.entries key ≡ None) ⊎ IsTargetOf Used e.place
-  pub only : (key : ℕ) (e : Entry) → entry_at old.entries key ≡ None → entry_at new.entries key ≡ Some e → (e ≡ record { place = e.place; wanted = true; stands = None }) × IsTargetOf Used e.place
-  pub decided : (key : ℕ) (e : Entry) → entry_at old.entries key ≡ Some e → IsGone Used (mappings_of old) (map_place e.place) ⊎ ¬ (IsGone Used (mappings_of old) (map_place e.place))
+-- each source of a used move is marked, and no other page is
+pub record AreMarked (Used : UsedMove → Type 0) (old new : Entries) : Type 0 where
+  pub marks : Marks Used old new
+  pub sources : (move : UsedMove) → Used move → IsSource new move.source
 
 -- each source of a used move is marked, each target is wanted, and no other page is
 pub record Roomed (Used : UsedMove → Type 0) (old new : Entries) : Type 0 where
-  pub marks : Marks Used old new
-  pub sources : (move : UsedMove) → Used move → IsSource new move.source
+  pub marked : AreMarked Used old new
   pub targets : (move : UsedMove) → Used move → IsWanted new move.target
-
--- the target of no used move has a key
-abbrev pub AreAbsent : (UsedMove → Type 0) → Entries → Type 0
-AreAbsent Used s = (move : UsedMove) → Used move → (key : ℕ) → ¬ (IsAt s move.target key)
 
 -- The used moves contradict each other; or they don't, and the target of one has no key.
 abbrev pub LacksKey : (UsedMove → Type 0) → Entries → Cause → Type 0

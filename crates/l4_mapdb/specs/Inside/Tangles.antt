@@ -29,15 +29,6 @@ module _ (Used : UsedMove → Type 0) where
     pub used : Used other
     pub above : (other.source ≡ key) ⊎ Descends s other.source key
 
-  -- a used move fills the page of what stands under the key, or of what it descends from
-  pub record IsTaken (s : Entries) (low : ℕ) : Type 0 where
-    pub key : ℕ
-    pub stands : IsStanding s key
-    pub other : UsedMove
-    pub used : Used other
-    pub at : IsAt s other.target key
-    pub above : (low ≡ key) ⊎ Descends s low key
-
   -- the other move fills the move's target, or is out of what the move grants
   abbrev pub Meets : UsedMove → UsedMove → Type 0
   Meets move other = (other.target ≡ move.target) ⊎ (IsTrue move.grant × (other.page ≡ move.page))
@@ -58,19 +49,11 @@ module _ (Used : UsedMove → Type 0) where
   abbrev pub Tangles : Entries → UsedMove → Type 0
   Tangles s move = Clashes move ⊎ Replaces s move.target
 
-  -- the same, where the move's source is seen to go
-  abbrev pub TanglesFrom : Entries → UsedMove → Type 0
-  TanglesFrom s move = Clashes move ⊎ IsTaken s move.source
-
   -- a used move tangles
   pub record HasTangle (s : Entries) : Type 0 where
     pub move : UsedMove
     pub used : Used move
     pub tangles : Tangles s move
-
--- no used move replaces a source or an ancestor of one
-abbrev pub NoneReplaced : (UsedMove → Type 0) → Entries → Type 0
-NoneReplaced Used s = (move : UsedMove) → Used move → ¬ (Replaces Used s move.target)
 
 -- the pages that the one item fills end before those that the other fills, and where one of them grants, so do those that it moves
 pub record EndsBefore (a b : ItemMove) : Type 0 where
@@ -89,8 +72,3 @@ pub record AboveSource (s : Entries) (place : LinkPlace) : Type 0 where
   pub low : ℕ
   pub source : IsSource s low
   pub above : (low ≡ key) ⊎ Descends s low key
-
--- the sources are those of the used moves
-pub record SourcesAre (Used : UsedMove → Type 0) (s : Entries) : Type 0 where
-  pub marked : (move : UsedMove) → Used move → IsSource s move.source
-  pub used : (key : ℕ) → IsSource s key → (move : UsedMove) × Used move × (move.source ≡ key)

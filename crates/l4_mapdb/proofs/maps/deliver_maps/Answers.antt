@@ -16,12 +16,18 @@ returns-in_default-clause-done c = λ _. delivered_now c.args.links.now c.args.f
     c.in_default.ensures.ok c.law_places.ensures
 
 pub refusal-requires : goal.refusal-requires
-refusal-requires c = lacks_still c.args.links.now c.requires.ground.clean c.args.from c.args.to c.args.items.now c.grow_children.new.links.entries c.in-Err.ensures.err
-    (c.in-Err.stop.used, c.in-Err.ensures.stop.0, c.in-Err.ensures.stop.1 c.if-stop.true)
+refusal-requires c = record {
+  clean = λ key e at. c.requires.ground.clean key e (sym (c.in-Err.ensures.err key) ∙ at);
+  lacks = lacks_still c.args.links.now c.requires.ground.clean c.args.from c.args.to c.args.items.now c.grow_children.new.links.entries c.in-Err.ensures.err
+      (c.in-Err.stop.used, c.in-Err.ensures.stop.0, c.in-Err.ensures.stop.1 c.if-stop.true);
+}
+
+pub returns-then-stop-clause-err : goal.returns-then-stop-clause-err
+returns-then-stop-clause-err c = λ key. c.refusal.ensures.same key ∙ c.in-Err.ensures.err key
 
 pub returns-then-stop-clause-cause : goal.returns-then-stop-clause-cause
 returns-then-stop-clause-cause c = cause_of c.args.links.now c.requires.ground.places c.requires.ground.trees c.args.from c.args.to c.args.items.now c.refusal.result
-    (lacks_same c.args.links.now c.requires.ground.clean c.args.from c.args.to c.args.items.now c.grow_children.new.links.entries c.in-Err.ensures.err c.refusal.result c.refusal.ensures)
+    (lacks_same c.args.links.now c.requires.ground.clean c.args.from c.args.to c.args.items.now c.grow_children.new.links.entries c.in-Err.ensures.err c.refusal.result c.refusal.ensures.cause)
 
 -- the second way begins where the first did
 clean_still : (c : goal.After-take_places-taken) → IsClean c.grow_children.new.links
