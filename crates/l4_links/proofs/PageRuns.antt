@@ -142,10 +142,11 @@ module _ (source target : Place) (rights : RightsSet) (apart : source.space ≢ 
             shared_none slots rights k e x at (subst (λ (z : ℕ). SharesNone z rights slots) (sym same_key) none) stands) (omega arith),
       )
 
-  -- tables were made before
-  pub part_made : (sources rows made new_rows : Rows) (page end : ℕ) (old new : Slots) → ((other : ℕ) → entry made other ≡ entry rows other) → AreWhole made → length made ≤ space_tables
-      → AddsPart source page end target rights sources made new_rows old new → AddsPart source page end target rights sources rows new_rows old new
-  part_made sources rows made new_rows page end old new same whole full b pages src first head stamp all g = b pages src first head stamp all (growing_made target.space pages rows made old first head stamp all same whole full g)
+  -- tables and room were made before
+  pub part_made : (sources rows made new_rows : Rows) (page end : ℕ) (old roomy new : Slots) → roomy ≡ old → ((other : ℕ) → entry made other ≡ entry rows other) → AreWhole made → length made ≤ space_tables
+      → AddsPart source page end target rights sources made new_rows roomy new → AddsPart source page end target rights sources rows new_rows old new
+  part_made sources rows made new_rows page end old roomy new still same whole full b = subst (λ (s : Slots). AddsPart source page end target rights sources rows new_rows s new) still
+      (λ pages src first head stamp all g. b pages src first head stamp all (growing_made target.space pages rows made roomy first head stamp all same whole full g))
 
   -- nothing has come yet
   pub part_first : (sources rows made : Rows) (page : ℕ) (slots : Slots) → ((other : ℕ) → entry made other ≡ entry rows other) → AreWhole made → length made ≤ space_tables → AddsPart source page page target rights sources rows made slots slots
@@ -219,18 +220,18 @@ module _ (source target : Place) (rights : RightsSet) (apart : source.space ≢ 
           (v.0, growing_back pages rows high other line new_row old new first head stamp all v.0 g v.1 v.2 (made_within rows other made_target), v.3)
 
       -- it stopped at this entry
-      pub run_halted : (pages : Tables) (first head : Option ℕ) (stamp : ℕ) (all : Tables) → AreTablesOf pages source.space sources → AreGrowing target.space pages rows old first head stamp all → (end key : ℕ) (refused : Bool)
-          → slice_index_or line (f + n) None ≡ Some key → IsHeld key rights (t + n) refused new new new_row new_row → source.page ≤ page → page + n < end → f + n < table_pages → t + n < table_pages
-          → IsHalted source end target rights (entries_of new) (record { page = page + n; key = key; refused = refused })
-      run_halted pages first head stamp all src g end key refused is h from before f_lt t_lt =
+      pub run_halted : (pages : Tables) (first head : Option ℕ) (stamp : ℕ) (all : Tables) → AreTablesOf pages source.space sources → AreGrowing target.space pages rows old first head stamp all → (end key : ℕ) → slice_index_or line (f + n) None ≡ Some key
+          → IsHeld key rights (t + n) new new new_row new_row → source.page ≤ page → page + n < end → f + n < table_pages → t + n < table_pages
+          → IsHalted source end target rights (entries_of new) (record { page = page + n; key = key; refused = false })
+      run_halted pages first head stamp all src g end key is h from before f_lt t_lt =
           let v = part_rows pages first head stamp all src g in
           let page_is : page + n ≡ high * table_pages + (f + n) = (let e = here_is in omega (arith, e)) in
           let goes : page + n - source.page + target.page ≡ other * table_pages + (t + n) = (let e = there_is in let d : place.page ≡ page - source.page + target.page = ap (λ (p : Place). p.page) place_is in omega (arith, e, d, from)) in
-          halted_at source end target rights new v.0 v.1.indexed (record { page = page + n; key = key; refused = refused })
+          halted_at source end target rights new v.0 v.1.indexed (record { page = page + n; key = key; refused = false })
           (ap (key_of v.0 source.space) page_is ∙ v.1.source_row.keys_are (f + n) f_lt ∙ is)
           h.shares (omega (arith, from)) before
-          (λ no none. h.taken no (sym (v.1.target_row.keys_are (t + n) t_lt) ∙ sym (ap (key_of v.0 target.space) goes) ∙ none))
-          (λ yes. ap (key_of v.0 target.space) goes ∙ v.1.target_row.keys_are (t + n) t_lt ∙ h.lacks yes)
+          (λ _ none. h.taken (sym (v.1.target_row.keys_are (t + n) t_lt) ∙ sym (ap (key_of v.0 target.space) goes) ∙ none))
+          (λ yes. absurd (let z : ◌≡◌ false true = yes in cc))
 
 -- the tables are back
 module _ (to : ℕ) (pages after later : Tables) (rows : Rows) (back : AreAside to rows pages after) (aside : AreAside to rows pages later) where

@@ -1,5 +1,5 @@
 -- A child at an entry of a table, while two tables are read and written.
-use Rattle.std.proofs.Common.{◌≡◌, ◌≢◌, ℕ, ◌+◌, ◌*◌, ◌-◌, ◌<◌, ◌≤◌, Bool, List, Option, Some, None, false, IsTrue, slice_index_or, refl, sym, ap, ◌∙◌, subst, inl, inr, arith}
+use Rattle.std.proofs.Common.{◌≡◌, ◌≢◌, ℕ, ◌+◌, ◌*◌, ◌-◌, ◌<◌, ◌≤◌, List, Option, Some, None, false, IsTrue, slice_index_or, refl, sym, ap, ◌∙◌, subst, inl, inr, arith}
 use Rattle.std.specs.Option.{option_map, option_and_then}
 use Rattle.std.specs.FinMap as map
 use Rattle.std.specs.FinSet as set
@@ -172,13 +172,12 @@ module _ (f t n : ℕ) (place : Place) (rights : RightsSet) (source old_row row 
   ]
 
   -- an entry at which it stops
-  pub run_held : (key : ℕ) (refused : Bool) (new : Slots) (new_row : List (Option ℕ)) → IsHeld key rights (t + n) refused now new row new_row → AddsRow f t n place rights source old_row new_row old new × IsHeld key rights (t + n) refused new new new_row new_row
-  run_held key refused new new_row h = (
+  pub run_held : (key : ℕ) (new : Slots) (new_row : List (Option ℕ)) → IsHeld key rights (t + n) now new row new_row → AddsRow f t n place rights source old_row new_row old new × IsHeld key rights (t + n) new new new_row new_row
+  run_held key new new_row h = (
     run_same new new_row h.same.0 h.same.1,
     record {
       shares = subst (λ (z : Slots). SharesSome key rights z) (sym h.same.0) h.shares;
       same = (refl, refl);
-      taken = λ no. subst (λ (z : List (Option ℕ)). slice_index_or z (t + n) None ≢ None) (sym h.same.1) (h.taken no);
-      lacks = λ yes. ap (λ (z : List (Option ℕ)). slice_index_or z (t + n) None) h.same.1 ∙ h.lacks yes;
+      taken = subst (λ (z : List (Option ℕ)). slice_index_or z (t + n) None ≢ None) (sym h.same.1) h.taken;
     },
   )

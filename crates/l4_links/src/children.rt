@@ -1,11 +1,11 @@
 //! Adds children for many pages, up to the first place that has a key. The tables of the places' space are aside meanwhile. Pages of one
 //! table whose places are in one table form a run.
 
-ghost use Rattle.std.specs.Prelude.{◌≡◌, ◌≢◌, ◌≤◌, ◌<◌, ◌+◌, ◌-◌, ◌*◌, ◌/◌, ◌%◌, ℕ, Option, List, length, MatchOption, IfOk, IfErr, OnErr, Some, None, true, false, slice_index_or};
+ghost use Rattle.std.specs.Prelude.{◌≡◌, ◌≢◌, ◌≤◌, ◌<◌, ◌+◌, ◌-◌, ◌*◌, ◌/◌, ◌%◌, ℕ, Option, List, length, MatchOption, OnOk, IfOk, IfErr, Some, None, true, false, slice_index_or};
 ghost use Rattle.l4_fpage.specs.Rights.{common, no_rights};
 ghost use Rattle.l4_spaces.specs.Tables.{Tables, IsPage, space_pages, space_tables, table_pages};
 ghost use Rattle.l4_spaces.specs.Rows.{entry, is_made, AreWhole, AreTablesOf};
-ghost use Rattle.l4_nodes.specs.Slots.{node_at};
+ghost use Rattle.l4_nodes.specs.Slots.{node_at, HasRoomFor};
 ghost use Rattle.l4_nodes.specs.declared.Place.{Place as APlace};
 ghost use Rattle.l4_links.specs.Inside.Nodes.{AreKeys, IsForest};
 ghost use Rattle.l4_links.specs.Entries.{IsHalted};
@@ -17,7 +17,7 @@ use crate::blocks::{Pages, place_from};
 use crate::lists::add_under;
 use l4_fpage::Rights;
 use l4_nodes::{Node, Place, Slots, node_of};
-use l4_spaces::tables::{TABLE_PAGES, is_ready, make_all, next_page};
+use l4_spaces::tables::{TABLE_PAGES, is_ready, key_in, make_all, next_page};
 use l4_spaces::{BLOCK, NoMemory, Row, Spaces};
 
 /// Entries of one table, and as many of another one.
@@ -45,7 +45,7 @@ pub(crate) fn sharing(nodes: &Slots, key: usize, rights: Rights) -> Option<Node>
 }
 
 /// Adds a child of the node under the key for the place, and names it at this entry of the table. Does nothing if there is no key, or if
-/// no right is shared. If the entry has a key, or if memory is refused, changes nothing, and returns the key and whether memory was refused.
+/// no right is shared. If the entry has a key, changes nothing, and returns the node's key.
 #[inline(always)]
 fn add_at(
     nodes: &mut Slots,
@@ -54,31 +54,30 @@ fn add_at(
     key: Option<usize>,
     place: Place,
     rights: Rights,
-) -> Option<(usize, bool)>
+) -> Option<usize>
     requires forest { (ks : List ℕ) × IsForest nodes.old.slots ks }
     requires few { AreKeys nodes.old.slots }
     requires fits { IsPage place.page }
     requires within { low < length target.old }
-    ensures { MatchOption result
+    requires room { HasRoomFor nodes.old 1 }
+    ensures enters { MatchOption result
         (Enters key place rights low nodes.old.slots nodes.new.slots target.old target.new)
-        (λ held. (key ≡ Some held.0)
-        × IsHeld held.0 rights low held.1 nodes.old.slots nodes.new.slots target.old target.new) }
+        (λ held. (key ≡ Some held)
+        × IsHeld held rights low nodes.old.slots nodes.new.slots target.old target.new) }
+    ensures room { (more : ℕ) → HasRoomFor nodes.old (more + 1) → HasRoomFor nodes.new more }
 {
     let key = key?;
     let above = sharing(nodes, key, rights)?;
     if let Some(_) = target.at(low) {
-        return Some((key, false));
-    }
-    if nodes.make_room(1).is_err() {
-        return Some((key, true));
+        return Some(key);
     }
     target.put(low, nodes.vacant_key());
     add_under(nodes, key, place, &above, rights);
     None
 }
 
-/// Adds children for the run, at the place and those after it, up to the first one that has a key, or for which memory is refused. Returns
-/// the number of entries before that one, with the key of its source, and whether memory was refused.
+/// Adds children for the run, at the place and those after it, up to the first one that has a key. Returns the number of entries before that
+/// one, with the key of its source.
 #[inline(never)]
 pub(crate) fn add_run(
     nodes: &mut Slots,
@@ -87,11 +86,12 @@ pub(crate) fn add_run(
     run: &Run,
     place: Place,
     rights: Rights,
-) -> Option<(usize, usize, bool)>
+) -> Option<(usize, usize)>
     requires source { run.now.from + run.now.entries ≤ length source.now }
     requires target { run.now.to + run.now.entries ≤ length target.old }
     requires short { run.now.entries ≤ table_pages }
     requires fits { place.page + run.now.entries ≤ space_pages }
+    requires room { HasRoomFor nodes.old run.now.entries }
     requires ready { (from high other : ℕ) × (first head : Option ℕ) × (stamp : ℕ)
         × (all : Tables) × AreRows from high place.space other source.now target.old
         nodes.old.slots first head stamp all
@@ -102,7 +102,7 @@ pub(crate) fn add_run(
         (λ held. AddsRow run.now.from run.now.to held.0 place rights source.now target.old
         target.new nodes.old.slots nodes.new.slots × (held.0 < run.now.entries)
         × (slice_index_or source.now (run.now.from + held.0) None ≡ Some held.1)
-        × IsHeld held.1 rights (run.now.to + held.0) held.2 nodes.new.slots
+        × IsHeld held.1 rights (run.now.to + held.0) nodes.new.slots
         nodes.new.slots target.new target.new) }
 {
     let from = run.from;
@@ -115,8 +115,8 @@ pub(crate) fn add_run(
             page: first + step as u32,
         };
         let key = source.at(from + step);
-        if let Some((key, refused)) = add_at(nodes, target, to + step, key, here, rights) {
-            return Some((step, key, refused));
+        if let Some(key) = add_at(nodes, target, to + step, key, here, rights) {
+            return Some((step, key));
         }
     }
     None
@@ -143,35 +143,29 @@ pub(crate) fn run_at(of: &Pages, page: u32) -> Run
     Run { from, to, entries }
 }
 
-/// Allocates the table of the page, if what is under the key shares a right with these. Returns whether the table exists.
-fn make_ready(
-    nodes: &Slots,
+/// Makes room for this many children, and allocates the table of the page.
+fn make_room(
+    nodes: &mut Slots,
     targets: &mut Vec<Row>,
-    key: usize,
     page: u32,
-    rights: Rights,
-) -> Result<bool, NoMemory>
+    children: usize,
+) -> Result<(), NoMemory>
     requires whole { AreWhole targets.old.items }
     requires full { length targets.old.items ≤ space_tables }
     requires fits { IsPage page }
-    ensures made { IfOk result (λ ready. ready ≡ true
-        → is_made targets.new.items (page / table_pages) ≡ true) }
-    ensures none { IfOk result (λ ready. ready ≡ false → SharesNone key rights nodes.now.slots) }
-    ensures lacks { OnErr result
-        (SharesSome key rights nodes.now.slots × (entry targets.old.items page ≡ None)) }
+    ensures made { OnOk result (is_made targets.new.items (page / table_pages) ≡ true) }
+    ensures room { OnOk result (HasRoomFor nodes.new children) }
+    ensures slots { nodes.new.slots ≡ nodes.old.slots }
     ensures same { (other : ℕ) → entry targets.new.items other ≡ entry targets.old.items other }
     ensures whole { AreWhole targets.new.items }
     ensures full { length targets.new.items ≤ space_tables }
 {
-    if is_ready(targets, page) {
-        return Ok(true);
+    nodes.make_room(children)?;
+    if !is_ready(targets, page) {
+        let alloc = *targets.allocator();
+        make_all(targets, alloc, &[page])?;
     }
-    let Some(_) = sharing(nodes, key, rights) else {
-        return Ok(false);
-    };
-    let alloc = *targets.allocator();
-    make_all(targets, alloc, &[page])?;
-    Ok(true)
+    Ok(())
 }
 
 /// Adds children for a page with this key, and for those after it in one run. Returns the page after them.
@@ -200,30 +194,34 @@ fn add_from(
         × IsHalted of.now.source of.now.end of.now.target of.now.rights
         (entries_of nodes.new.slots) halt) }
 {
-    let place = place_from(of.source, of.target, page);
-    let ready = match make_ready(nodes, targets, key, place.page, of.rights) {
-        Ok(ready) => ready,
-        Err(_) => {
-            return Err(Halt {
-                page,
-                key,
-                refused: true,
-            });
-        }
-    };
-    if !ready {
+    let Some(_) = sharing(nodes, key, of.rights) else {
         return Ok(page + 1);
+    };
+    let place = place_from(of.source, of.target, page);
+    if let Some(_) = key_in(targets, place.page) {
+        return Err(Halt {
+            page,
+            key,
+            refused: false,
+        });
     }
     let run = run_at(of, page);
+    let Ok(()) = make_room(nodes, targets, place.page, run.entries) else {
+        return Err(Halt {
+            page,
+            key,
+            refused: true,
+        });
+    };
     let source = &sources[(page / TABLE_PAGES) as usize];
     let target = &mut targets[(place.page / TABLE_PAGES) as usize];
-    let Some((step, key, refused)) = add_run(nodes, source, target, &run, place, of.rights) else {
+    let Some((step, key)) = add_run(nodes, source, target, &run, place, of.rights) else {
         return Ok(page + run.entries as u32);
     };
     Err(Halt {
         page: page + step as u32,
         key,
-        refused,
+        refused: false,
     })
 }
 

@@ -128,6 +128,7 @@ pub(crate) fn add_under(
     requires there { node_at nodes.old.slots parent ≡ Some above.now }
     requires fits { IsPage place.page }
     requires room { HasRoomFor nodes.old 1 }
+    ensures room { (more : ℕ) → HasRoomFor nodes.old (more + 1) → HasRoomFor nodes.new more }
     ensures few { IsKey nodes.old.vacant_key }
     ensures adds { AddsUnder parent place above.now rights nodes.old.slots nodes.new.slots
         nodes.old.vacant_key }

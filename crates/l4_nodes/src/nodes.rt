@@ -1,10 +1,10 @@
 //! The slots of the slab: the content of each, and the writes to a single one.
 
-ghost use Rattle.std.specs.Prelude.{◌≡◌, ◌+◌, ◌<◌, Some, None};
+ghost use Rattle.std.specs.Prelude.{◌≡◌, ◌+◌, ◌<◌, ℕ, Some, None};
 ghost use Rattle.std.specs.Option.{option_map};
 ghost use Rattle.l4_spaces.specs.Tables.{IsPage};
 ghost use Rattle.l4_nodes.specs.Keys.{IsKey};
-ghost use Rattle.l4_nodes.specs.Slots.{node_at, slot_at, spots, wanted_in, Writes, SetsWanted, SetsPlace, Gives, SetsNext, SetsPrev, SetsRights, Closes, Sees, SetsSource, SetsPlain, unnoted};
+ghost use Rattle.l4_nodes.specs.Slots.{node_at, slot_at, spots, wanted_in, HasRoomFor, Writes, SetsWanted, SetsPlace, Gives, SetsNext, SetsPrev, SetsRights, Closes, Sees, SetsSource, SetsPlain, unnoted};
 ghost use Rattle.l4_nodes.specs.declared.nodes.Slot.{Slot as ASlot};
 ghost use Rattle.l4_nodes.specs.declared.nodes.Node.{Node as ANode};
 
@@ -137,7 +137,8 @@ pub fn give(nodes: &mut Slots, key: usize, place: Place, rights: Rights)
 
 /// Sets the next key of the node that the link names.
 pub fn set_next(nodes: &mut Slots, at: Link, next: Link)
-    ensures { SetsNext at next nodes.old.slots nodes.new.slots }
+    ensures sets { SetsNext at next nodes.old.slots nodes.new.slots }
+    ensures room { (more : ℕ) → HasRoomFor nodes.old more → HasRoomFor nodes.new more }
 {
     let Some(key) = at.key() else {
         return;
@@ -150,7 +151,8 @@ pub fn set_next(nodes: &mut Slots, at: Link, next: Link)
 
 /// Sets the previous key of the node that the link names.
 pub fn set_prev(nodes: &mut Slots, at: Link, prev: Link)
-    ensures { SetsPrev at prev nodes.old.slots nodes.new.slots }
+    ensures sets { SetsPrev at prev nodes.old.slots nodes.new.slots }
+    ensures room { (more : ℕ) → HasRoomFor nodes.old more → HasRoomFor nodes.new more }
 {
     let Some(key) = at.key() else {
         return;

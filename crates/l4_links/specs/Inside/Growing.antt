@@ -1,5 +1,5 @@
 -- Children of the pages of one table, at places of another one. (this profile's own)
-use Rattle.std.specs.Prelude.{◌≡◌, ◌≢◌, ◌⊎◌, ◌+◌, ◌*◌, ℕ, Bool, true, false, List, Option, Some, None, IsTrue, slice_index_or, slice_set}
+use Rattle.std.specs.Prelude.{◌≡◌, ◌≢◌, ◌⊎◌, ◌+◌, ◌*◌, ℕ, List, Option, Some, None, IsTrue, slice_index_or, slice_set}
 use Rattle.std.specs.FinSet as set
 use Rattle.l4_fpage.specs.Rights.{RightsSet, common, no_rights}
 use Rattle.l4_spaces.specs.Tables.{Tables, key_of, table_pages}
@@ -64,12 +64,11 @@ abbrev pub Enters : Option ℕ → Place → RightsSet → ℕ → Slots → Slo
 Enters key place rights low old new row_old row_new =
     (((k : ℕ) → key ≡ Some k → SharesNone k rights old) × IsSameRow old new row_old row_new) ⊎ ((k : ℕ) × (key ≡ Some k) × AddsAt k place rights low old new row_old row_new)
 
--- No child has come, though a right is shared: the entry of the target's table names a key, or memory was refused. Nothing has changed.
-pub record IsHeld (key : ℕ) (rights : RightsSet) (low : ℕ) (refused : Bool) (old new : Slots) (row_old row_new : List (Option ℕ)) : Type 0 where
+-- No child has come, though a right is shared, as the entry of the target's table names a key. Nothing has changed.
+pub record IsHeld (key : ℕ) (rights : RightsSet) (low : ℕ) (old new : Slots) (row_old row_new : List (Option ℕ)) : Type 0 where
   pub shares : SharesSome key rights old
   pub same : IsSameRow old new row_old row_new
-  pub taken : refused ≡ false → slice_index_or row_old low None ≢ None
-  pub lacks : refused ≡ true → slice_index_or row_old low None ≡ None
+  pub taken : slice_index_or row_old low None ≢ None
 
 -- The nodes are trees. The tables of one space are aside, and with these back in place the tables name each page's key.
 pub record AreGrowing (to : ℕ) (pages : Tables) (targets : Rows) (slots : Slots) (first head : Option ℕ) (stamp : ℕ) (all : Tables) : Type 0 where

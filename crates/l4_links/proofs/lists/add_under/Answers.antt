@@ -37,10 +37,13 @@ returns-clause-adds c =
     let filled : slot_at put key ≡ Some (record { place = c.args.place; wanted = false; node = Some (child c.args.parent c.args.above.now c.args.rights) }) =
     c.insert_node-key.ensures.here ∙ ap (λ (n : Node). Some (record { place = c.args.place; wanted = false; node = Some (unnoted n) })) c.child_of-node.ensures in
     let after : SetsPrev c.args.above.now.next (Some key) put c.set_prev.new.nodes.slots =
-    subst (λ (o : Option ℕ). SetsPrev c.args.above.now.next o put c.set_prev.new.nodes.slots) c.to-at.ensures c.set_prev.ensures in
+    subst (λ (o : Option ℕ). SetsPrev c.args.above.now.next o put c.set_prev.new.nodes.slots) c.to-at.ensures c.set_prev.ensures.sets in
     let before : SetsNext (Some c.args.parent) (Some key) c.set_prev.new.nodes.slots c.set_next.new.nodes.slots =
     subst (λ (o : Option ℕ). SetsNext o (Some key) c.set_prev.new.nodes.slots c.set_next.new.nodes.slots) c.to.ensures
-    (subst (λ (o : Option ℕ). SetsNext c.to.result o c.set_prev.new.nodes.slots c.set_next.new.nodes.slots) c.to-at.ensures c.set_next.ensures) in
+    (subst (λ (o : Option ℕ). SetsNext c.to.result o c.set_prev.new.nodes.slots c.set_next.new.nodes.slots) c.to-at.ensures c.set_next.ensures.sets) in
     subst (λ (k : ℕ). AddsUnder c.args.parent c.args.place c.args.above.now c.args.rights old c.set_next.new.nodes.slots k) c.insert_node-key.ensures.key
     (added old put c.set_prev.new.nodes.slots c.set_next.new.nodes.slots c.args.parent key c.args.place c.args.above.now c.args.rights
     c.requires.there c.insert_node-key.ensures.was_vacant filled c.insert_node-key.ensures.others after before)
+
+pub returns-clause-room : goal.returns-clause-room
+returns-clause-room c more room = c.set_next.ensures.room more (c.set_prev.ensures.room more (c.insert_node-key.ensures.room more room))

@@ -30,7 +30,7 @@ written : (c : goal.After-set_prev) → Writes c.args.key (Some (root c.args.fra
 written c = subst (λ (o : Option ℕ). Writes c.args.key (Some (unnoted (root c.args.frame c.args.rights c.args.first o))) c.args.nodes.now.slots c.write.new.nodes.slots) c.none-none.ensures c.write.ensures
 
 before : (c : goal.After-set_prev) → SetsPrev c.args.first (Some c.args.key) c.write.new.nodes.slots c.set_prev.new.nodes.slots
-before c = subst (λ (o : Option ℕ). SetsPrev c.args.first o c.write.new.nodes.slots c.set_prev.new.nodes.slots) c.to-at.ensures c.set_prev.ensures
+before c = subst (λ (o : Option ℕ). SetsPrev c.args.first o c.write.new.nodes.slots c.set_prev.new.nodes.slots) c.to-at.ensures c.set_prev.ensures.sets
 
 pub returns-clause-rises : goal.returns-clause-rises
 returns-clause-rises c =

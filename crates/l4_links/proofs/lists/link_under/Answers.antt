@@ -33,12 +33,12 @@ written : (c : goal.After-set_next) → Writes c.args.key (Some (stands c)) c.ar
 written c = subst (λ (n : Node). Writes c.args.key (Some (unnoted n)) c.args.nodes.now.slots c.write.new.nodes.slots) c.child_of-node.ensures c.write.ensures
 
 after : (c : goal.After-set_next) → SetsPrev c.args.above.next (Some c.args.key) c.write.new.nodes.slots c.set_prev.new.nodes.slots
-after c = subst (λ (o : Option ℕ). SetsPrev c.args.above.next o c.write.new.nodes.slots c.set_prev.new.nodes.slots) c.to-at.ensures c.set_prev.ensures
+after c = subst (λ (o : Option ℕ). SetsPrev c.args.above.next o c.write.new.nodes.slots c.set_prev.new.nodes.slots) c.to-at.ensures c.set_prev.ensures.sets
 
 before : (c : goal.After-set_next) → SetsNext (Some c.args.parent) (Some c.args.key) c.set_prev.new.nodes.slots c.set_next.new.nodes.slots
 before c =
     subst (λ (o : Option ℕ). SetsNext o (Some c.args.key) c.set_prev.new.nodes.slots c.set_next.new.nodes.slots) c.to.ensures
-    (subst (λ (o : Option ℕ). SetsNext c.to.result o c.set_prev.new.nodes.slots c.set_next.new.nodes.slots) c.to-at.ensures c.set_next.ensures)
+    (subst (λ (o : Option ℕ). SetsNext c.to.result o c.set_prev.new.nodes.slots c.set_next.new.nodes.slots) c.to-at.ensures c.set_next.ensures.sets)
 
 pub returns-clause-sprouts : goal.returns-clause-sprouts
 returns-clause-sprouts c =

@@ -1,15 +1,25 @@
-use Rattle.std.proofs.Common.{ap, sym, ◌∙◌}
+use Rattle.std.proofs.Common.{ap, sym, ◌∙◌, subst}
 use Rattle.l4_nodes.specs.declared.nodes.Node.{Node}
-use Rattle.l4_nodes.specs.Slots.{Store}
-use Rattle.l4_nodes.proofs.Joining.{node_set, node_left, next_set}
+use Rattle.l4_nodes.specs.Slots.{Store, HasRoomFor}
+use Rattle.l4_nodes.specs.Inside.Joined.{store_shown}
+use Rattle.l4_nodes.proofs.Joining.{node_set, node_left, room_set, next_set}
 use Rattle.l4_nodes.proofs.nodes.set_next.Goals as goal
 
-pub returns-in_default-get_mut : goal.returns-in_default-get_mut
-returns-in_default-get_mut c =
+pub returns-in_default-get_mut-clause-sets : goal.returns-in_default-get_mut-clause-sets
+returns-in_default-get_mut-clause-sets c =
     next_set c.args.at c.args.next c.in-Some.key c.args.nodes.now.slots _ (sym c.key.ensures ∙ c.in-Some.is)
     (node_left c.nodes.inside.packed.slots c.nodes.inside.notes.items c.args.nodes.now.slots c.in-Some.key (λ (n : Node). record n { next = c.args.next }) (ap (λ (s : Store). s.slots) c.nodes.view_is) c.in_default-get_mut.ensures.value)
 
-pub returns : goal.returns
-returns c =
+pub returns-clause-sets : goal.returns-clause-sets
+returns-clause-sets c =
     next_set c.args.at c.args.next c.in-Some.key c.args.nodes.now.slots _ (sym c.key.ensures ∙ c.in-Some.is)
     (node_set c.nodes.inside.packed.slots c.nodes.inside.notes.items c.args.nodes.now.slots c.in-Some.key c.in-Some-get_mut.slot.now c.set_next.new.self (λ (n : Node). record n { next = c.args.next }) (ap (λ (s : Store). s.slots) c.nodes.view_is) c.in-Some-get_mut.ensures.value c.set_next.ensures)
+
+pub returns-clause-room : goal.returns-clause-room
+returns-clause-room c more room =
+    let r : HasRoomFor (store_shown c.nodes.inside) more = subst (λ (s : Store). HasRoomFor s more) (sym c.nodes.view_is) room in
+    record {
+      slots = room_set c.nodes.inside.packed.slots c.nodes.inside.notes.items c.in-Some.key c.in-Some-get_mut.slot.now c.set_next.new.self more c.nodes.inside.packed.capacity c.in-Some-get_mut.ensures.value r.slots;
+      notes = r.notes;
+      keys = r.keys;
+    }
