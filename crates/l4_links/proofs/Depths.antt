@@ -3,7 +3,7 @@ use Rattle.std.proofs.Common.{◌≡◌, ◌≢◌, ℕ, suc, zero, ◌+◌, ◌
 use Rattle.std.specs.Option.{option_map}
 use Rattle.l4_nodes.specs.declared.nodes.Node.{Node}
 use Rattle.l4_links.specs.Inside.Trees.{Limb, IsTree, SameOrder}
-use Rattle.l4_nodes.specs.Keys.{IsKey, no_key}
+use Rattle.l4_spaces.specs.Keys.{IsKey, no_key}
 use Rattle.l4_links.specs.Inside.Orders.{IsIn, position}
 use Rattle.l4_nodes.specs.Slots.{Slots, slot_at, node_at}
 use Rattle.l4_links.specs.Inside.Nodes.{limbs, AreKeys, IsForest}

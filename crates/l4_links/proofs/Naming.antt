@@ -17,7 +17,7 @@ use Rattle.l4_links.specs.declared.Entry.{Entry}
 use Rattle.l4_nodes.specs.declared.nodes.Node.{Node}
 use Rattle.l4_nodes.specs.declared.nodes.Slot.{Slot}
 use Rattle.l4_links.specs.Entries.{entry_at, IsAt, HasKey, NoKeyFrom, IsNextKey, NoKeyIn, IsNextKeyIn, IsKeyOf, HavePlaces}
-use Rattle.l4_nodes.specs.Keys.{IsKey}
+use Rattle.l4_spaces.specs.Keys.{IsKey}
 use Rattle.l4_nodes.specs.Slots.{Slots, Spot, slot_at, spots, SetsWanted, SetsPlace, Gives, spot_of}
 use Rattle.l4_links.specs.Inside.Nodes.{IsOf, TakesOver}
 use Rattle.l4_links.specs.Inside.Keeping.{entry_of, entries_of, IsIndexed}
@@ -396,6 +396,9 @@ slot_from slots k p is = elim (slot_at slots k) as (λ o. slot_at slots k ≡ o 
   | None ↦ λ _ e. no_place p e
   | Some s ↦ λ at e. (s, at, (let w : ◌≡◌ {A = Option Place} (Some s.place) (Some p) = e in cc))
 ] refl is
+
+pub place_key : (slots : Slots) (t : Tables) (k : ℕ) (p : Place) → IsIndexed slots t → option_map {T = Slot} (λ s. s.place) (slot_at slots k) ≡ Some p → IsKey k
+place_key slots t k p i e = let s = slot_from slots k p e in i.few k (spot_of s.0) (ap (option_map spot_of) s.1)
 
 -- a blank's page that was taken over
 module _ (old mid new : Slots) (key blank : ℕ) (from to : Place) (rights : RightsSet) (other : key ≢ blank) (was : option_map {T = Slot} (λ s. s.place) (slot_at old key) ≡ Some from)

@@ -4,7 +4,7 @@ use Rattle.std.proofs.lemmas.Bool.{cases_eq}
 use Rattle.std.specs.Option.{option_map, option_and_then}
 use Rattle.l4_nodes.specs.declared.nodes.Node.{Node}
 use Rattle.l4_nodes.specs.declared.nodes.Slot.{Slot}
-use Rattle.l4_nodes.specs.Keys.{IsKey}
+use Rattle.l4_spaces.specs.Keys.{IsKey}
 use Rattle.l4_nodes.specs.Slots.{Slots, Spot, slot_at, node_at, spots, spot_of}
 use Rattle.l4_links.specs.Inside.Nodes.{AreKeys, marks, Marks, Doom, IsStamped, Worth}
 use Rattle.l4_links.specs.Inside.Orders.{Link}

@@ -169,12 +169,13 @@ fn move_at(
     ensures { MovesAt place from to source.old source.new target.old target.new nodes.old.slots
         nodes.new.slots }
 {
-    let Some(key) = source.at(from) else {
+    let link = source.link(from);
+    let Some(key) = link.key() else {
         return;
     };
     set_place(nodes, key, place);
     source.clear(from);
-    target.put(to, key);
+    target.put(to, link);
 }
 
 /// Moves the pages of the run to the place and those after it.

@@ -9,8 +9,8 @@ ghost use Rattle.l4_links.specs.Inside.Stacks.{HasStack, Buries};
 
 use crate::lists::{remove, unlink};
 use l4_fpage::Rights;
-use l4_nodes::{Link, Node, Slots, node_of, set_rights};
-use l4_spaces::Spaces;
+use l4_nodes::{Node, Slots, node_of, set_rights};
+use l4_spaces::{Link, Spaces};
 
 /// Reduces the rights of the node to these rights. A node that loses its last right is put on the stack that begins with the key `doomed`.
 /// Returns the key with which the stack begins then.

@@ -71,8 +71,8 @@ fn add_at(
     if let Some(_) = target.at(low) {
         return Some(key);
     }
-    target.put(low, nodes.vacant_key());
-    add_under(nodes, key, place, &above, rights);
+    let child = add_under(nodes, key, place, &above, rights);
+    target.put(low, child);
     None
 }
 

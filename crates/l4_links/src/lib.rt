@@ -27,10 +27,10 @@ use holding::{holds_all, holds_at};
 use l4_fpage::Rights;
 pub use l4_nodes::Place;
 use l4_nodes::{
-    Link, Node, Slots, give, node_of, place_of, set_plain, set_rights, set_source, set_wanted,
+    Node, Slots, give, node_of, place_of, set_plain, set_rights, set_source, set_wanted,
 };
 pub use l4_spaces::NoMemory;
-use l4_spaces::Spaces;
+use l4_spaces::{Link, Spaces};
 use lists::remove;
 use std::alloc::Global;
 use std::marker::Model;
@@ -273,8 +273,7 @@ impl Links {
         self.stamp = fresh(self.stamp);
     }
 
-    /// Puts a child of the parent into the blank. The child has the parent's frame, and those of these rights that the parent has, which
-    /// must be at least one.
+    /// Puts a child of the parent into the blank, with the parent's frame and those of these rights that the parent has: at least one.
     pub fn stand_under(&mut self, parent: usize, key: usize, rights: Rights)
         requires there { IsStanding self.old.entries parent }
         requires blank { IsBlank self.old.entries key }
@@ -381,11 +380,10 @@ impl Links {
             key,
             refused: true,
         };
-        if self.nodes.make_room(1).is_err() {
+        let Ok(child) = self.nodes.make_key() else {
             halt.refused = self.find(target).is_none();
             return Some(halt);
-        }
-        let child = self.nodes.vacant_key();
+        };
         let claimed = match self.pages.claim(target.space, target.page, child) {
             Ok(claimed) => claimed,
             Err(_) => return Some(halt),

@@ -3,7 +3,7 @@
 ghost use Rattle.std.specs.Prelude.{◌≡◌, ◌≢◌, ◌<◌, ◌+◌, ◌^◌, ◌++◌, ◌∷◌, [], ℕ, List, Option, Some, None, false};
 ghost use Rattle.l4_fpage.specs.Rights.{common};
 ghost use Rattle.l4_spaces.specs.Tables.{IsPage};
-ghost use Rattle.l4_nodes.specs.Keys.{IsKey};
+ghost use Rattle.l4_spaces.specs.Keys.{IsKey};
 ghost use Rattle.l4_links.specs.Inside.Trees.{Sprouts, Rises};
 ghost use Rattle.l4_links.specs.Inside.Orders.{TakesOut, first_of};
 ghost use Rattle.l4_nodes.specs.Slots.{node_at, slot_at, spots, HasRoomFor};
@@ -13,9 +13,9 @@ ghost use Rattle.l4_links.specs.Inside.Keeping.{IsIndexed};
 use crate::burial::first_without;
 use l4_fpage::Rights;
 use l4_nodes::{
-    Link, Node, Place, Slots, empty, is_wanted, node_of, place_of, set_next, set_prev, write,
+    Node, Place, Slots, empty, is_wanted, node_of, place_of, set_next, set_prev, write,
 };
-use l4_spaces::Spaces;
+use l4_spaces::{Link, Spaces};
 
 /// Takes the node out of its list. Its slot stays, as a blank.
 pub(crate) fn unlink(nodes: &mut Slots, key: usize)
@@ -114,7 +114,7 @@ pub(crate) fn link_under(nodes: &mut Slots, parent: usize, key: usize, above: No
     set_next(nodes, Link::to(parent), at);
 }
 
-/// Puts a node for a page straight after its parent, into the slot of the vacant key, which there is room for.
+/// Puts a node for a page straight after its parent, into the slot of the vacant key, which there is room for. Returns the link to it.
 #[inline(always)]
 pub(crate) fn add_under(
     nodes: &mut Slots,
@@ -122,13 +122,14 @@ pub(crate) fn add_under(
     place: Place,
     above: &Node,
     rights: Rights,
-)
+) -> Link
     requires forest { (ks : List ℕ) × IsForest nodes.old.slots ks }
     requires few { AreKeys nodes.old.slots }
     requires there { node_at nodes.old.slots parent ≡ Some above.now }
     requires fits { IsPage place.page }
     requires room { HasRoomFor nodes.old 1 }
     ensures room { (more : ℕ) → HasRoomFor nodes.old (more + 1) → HasRoomFor nodes.new more }
+    ensures link { result ≡ Some nodes.old.vacant_key }
     ensures few { IsKey nodes.old.vacant_key }
     ensures adds { AddsUnder parent place above.now rights nodes.old.slots nodes.new.slots
         nodes.old.vacant_key }
@@ -138,6 +139,7 @@ pub(crate) fn add_under(
     let at = Link::to(key);
     set_prev(nodes, above.next, at);
     set_next(nodes, Link::to(parent), at);
+    at
 }
 
 /// Puts a root before all other nodes, into the blank of the key. Returns the key with which the list begins then.
@@ -209,8 +211,7 @@ pub(crate) fn cut_run(nodes: &mut Slots, pages: &mut Spaces, top: usize)
     }
 }
 
-/// Cuts off everything that descends from the node, and removes the node from the list. Its slot stays as a blank. Returns the key with
-/// which the list begins then.
+/// Cuts off everything that descends from the node, and leaves a blank in the node's slot. Returns the key with which the list then begins.
 pub(crate) fn clear(nodes: &mut Slots, pages: &mut Spaces, first: Link, top: usize) -> Link
     requires forest { (ks : List ℕ) × IsForest nodes.old.slots ks }
     requires few { AreKeys nodes.old.slots }

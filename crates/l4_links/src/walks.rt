@@ -13,7 +13,8 @@ ghost use Rattle.l4_links.specs.Inside.Keeping.{IsFresh, BeginsWalk, sources_wal
 use crate::NoMemory;
 use crate::burial::cap_at;
 use l4_fpage::Rights;
-use l4_nodes::{Link, Node, Slots, close, node_of, see};
+use l4_nodes::{Node, Slots, close, node_of, see};
+use l4_spaces::Link;
 use std::alloc::Global;
 
 /// Returns the link at which the walk continues: after the run of a node if it has visited that run, and otherwise at the next node.
@@ -29,8 +30,7 @@ fn onward(node: &Node, stamp: u32) -> Link
 }
 
 /// Reduces the rights of everything that descends from the node to these rights. A run that a walk of this stamp has visited is skipped.
-/// Nodes that lose their last right are put on the stack that begins with the key `doomed`. Returns the key with which the stack begins
-/// then.
+/// Nodes that lose their last right are put on the stack that begins with the key `doomed`. Returns the key with which it then begins.
 pub(crate) fn cap_below(
     nodes: &mut Slots,
     top: usize,

@@ -2,7 +2,7 @@
 use Rattle.std.specs.Prelude.{◌≡◌, ◌≢◌, ℕ, ◌+◌, ◌≤◌, ◌<◌, Bool, false, List, Option, Some, None, is_some, count_by, slice_index_or, option_and_then}
 use Rattle.std.specs.Option.{option_map}
 use Rattle.l4_fpage.specs.Rights.{RightsSet}
-use Rattle.l4_nodes.specs.Keys.{no_key}
+use Rattle.l4_spaces.specs.Keys.{no_key}
 use Rattle.l4_nodes.specs.declared.Place.{Place}
 use Rattle.l4_nodes.specs.declared.nodes.Node.{Node}
 use Rattle.l4_nodes.specs.declared.nodes.Slot.{Slot}

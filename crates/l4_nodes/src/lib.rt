@@ -2,12 +2,10 @@
 //! slot. Nodes name each other by keys. The crates above this one define their order and their trees.
 #![tactic(auto)]
 
-mod keys;
 mod nodes;
 mod packed;
 mod slots;
 
-pub use keys::Link;
 pub use nodes::{
     Node, Slot, close, empty, give, is_wanted, node_of, place_of, see, set_next, set_place,
     set_plain, set_prev, set_rights, set_source, set_wanted, write,

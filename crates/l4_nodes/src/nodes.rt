@@ -3,15 +3,15 @@
 ghost use Rattle.std.specs.Prelude.{◌≡◌, ◌+◌, ◌<◌, ℕ, Some, None};
 ghost use Rattle.std.specs.Option.{option_map};
 ghost use Rattle.l4_spaces.specs.Tables.{IsPage};
-ghost use Rattle.l4_nodes.specs.Keys.{IsKey};
+ghost use Rattle.l4_spaces.specs.Keys.{IsKey};
 ghost use Rattle.l4_nodes.specs.Slots.{node_at, slot_at, spots, wanted_in, HasRoomFor, Writes, SetsWanted, SetsPlace, Gives, SetsNext, SetsPrev, SetsRights, Closes, Sees, SetsSource, SetsPlain, unnoted};
 ghost use Rattle.l4_nodes.specs.declared.nodes.Slot.{Slot as ASlot};
 ghost use Rattle.l4_nodes.specs.declared.nodes.Node.{Node as ANode};
 
 use crate::Place;
-use crate::keys::Link;
 use crate::slots::{Note, Slots, clear_note, note_at, put_note};
 use l4_fpage::Rights;
+use l4_spaces::Link;
 
 /// The content of a page's slot. It is stored as a `Packed`, with a `Note` beside it.
 #[derive(Clone, Copy)]

@@ -5,7 +5,7 @@
 ghost use Rattle.std.specs.Prelude.{◌≡◌, ◌<◌, ℕ, false, Some, None, IfSome, if◌then◌else◌};
 ghost use Rattle.std.specs.Option.{option_map};
 ghost use Rattle.l4_spaces.specs.Tables.{IsPage};
-ghost use Rattle.l4_nodes.specs.Keys.{IsKey};
+ghost use Rattle.l4_spaces.specs.Keys.{IsKey};
 ghost use Rattle.l4_nodes.specs.Inside.Packed.{rights_shown, notes_shown, no_note, slot_shown, with_node, Turns};
 ghost use Rattle.l4_nodes.specs.Slots.{unnoted};
 ghost use Rattle.l4_nodes.specs.declared.nodes.Slot.{Slot as ASlot};
@@ -13,10 +13,10 @@ ghost use Rattle.l4_nodes.specs.declared.nodes.Node.{Node as ANode};
 ghost use Rattle.l4_nodes.specs.declared.slots.Note.{Note as ANote};
 
 use crate::Place;
-use crate::keys::Link;
 use crate::nodes::{Node, Slot};
 use crate::slots::Note;
 use l4_fpage::Rights;
+use l4_spaces::Link;
 use std::marker::Model;
 use std::mem::size_of;
 

@@ -3,15 +3,14 @@
 ghost use Rattle.std.specs.Prelude.{◌≡◌, ◌≢◌, ◌+◌, ◌<◌, ◌≤◌, ℕ, [], false, None, Some, length, slice_index_or, vec_capacity, IfOk, OnOk, OnErr};
 ghost use Rattle.std.specs.Option.{option_map};
 ghost use Rattle.l4_spaces.specs.Tables.{IsPage};
-ghost use Rattle.l4_nodes.specs.Keys.{IsKey, no_key};
+ghost use Rattle.l4_spaces.specs.Keys.{IsKey, no_key};
 ghost use Rattle.l4_nodes.specs.Slots.{slot_at, HasRoomFor, unnoted, unnoted_slot};
 ghost use Rattle.l4_nodes.specs.Inside.Packed.{no_note, slot_shown};
 
 use crate::Place;
-use crate::keys::{Link, NO_KEY};
 use crate::nodes::{Node, Slot};
 use crate::packed::Packed;
-use l4_spaces::NoMemory;
+use l4_spaces::{Link, NO_KEY, NoMemory};
 use slab::Slab;
 use std::alloc::{AllocError, Global};
 use std::marker::Model;
@@ -151,14 +150,6 @@ impl Slots {
         Some(slot.slot(note_at(&self.notes, key)))
     }
 
-    /// Returns the key of the next new slot.
-    pub fn vacant_key(&self) -> usize
-        ensures value { result ≡ self.now.vacant_key }
-        ensures vacant { slot_at self.now.slots result ≡ None }
-    {
-        self.packed.vacant_key()
-    }
-
     /// Allocates room for this many more slots, and for the records of walks beside them, at once. Then as many insertions find room, each
     /// with a key that a node can keep.
     ///
@@ -179,6 +170,21 @@ impl Slots {
             grow(&mut self.notes, keys)?;
         }
         Ok(())
+    }
+
+    /// Allocates room for one more slot, as `make_room` does, and returns the key that it will have.
+    #[inline]
+    pub fn make_key(&mut self) -> Result<usize, NoMemory>
+        ensures room { OnOk result (HasRoomFor self.new 1) }
+        ensures key { IfOk result (λ key. (key ≡ self.new.vacant_key) × IsKey key) }
+        ensures same { self.new.slots ≡ self.old.slots }
+    {
+        self.make_room(1)?;
+        let key = self.packed.vacant_key();
+        if key >= NO_KEY as usize {
+            return Err(NoMemory);
+        }
+        Ok(key)
     }
 
     /// Puts this into a new slot whose key has no record, and returns its key. There must be room for it.

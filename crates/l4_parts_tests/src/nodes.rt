@@ -1,8 +1,8 @@
 ghost use Rattle.std.specs.Prelude.{◌≡◌};
 
 use l4_fpage::Rights;
-use l4_nodes::{Link, Node, Place, Slots, node_of, place_of, see};
-use l4_spaces::NoMemory;
+use l4_nodes::{Node, Place, Slots, node_of, place_of, see};
+use l4_spaces::{Link, NoMemory};
 
 /// Returns the top of a tree that shows the frame with all rights, and has no neighbours.
 fn top(frame: u32) -> Node

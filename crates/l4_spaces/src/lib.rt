@@ -4,13 +4,15 @@
 ghost use Rattle.std.specs.Prelude.{◌≡◌, ◌≢◌, ◌∷◌, [], ◌<◌, ◌≤◌, ◌⊎◌, ℕ, List, All, length, true, false, IsTrue, IsOk, IfOk, OnOk, OnErr, IfSome, MatchOption, Some, None, codes};
 ghost use Rattle.std.specs.FinMap as map;
 ghost use Rattle.std.specs.FinSet as set;
+ghost use Rattle.l4_spaces.specs.Keys.{IsKey};
 ghost use Rattle.l4_spaces.specs.Inside.Seen.{has, IsOnce, StandsAt};
 
-mod copying;
+mod keys;
 mod numbers;
 mod row;
 pub mod tables;
 
+pub use keys::{Link, NO_KEY};
 pub use row::{BLOCK, Row};
 use std::alloc::{AllocError, AllocFailed, Global};
 use std::marker::Model;
@@ -140,6 +142,19 @@ impl Spaces {
         }
     }
 
+    /// Returns the same spaces with the same pages, in tables of their own. A change of one is not visible in the other.
+    ///
+    /// Returns `NoMemory` if an allocation fails.
+    pub fn copy(&self) -> Result<Spaces, NoMemory>
+        ensures { IfOk result (λ copy. copy ≡ self.now) }
+    {
+        let spaces = self.spaces.clone()?;
+        Ok(Spaces {
+            alloc: self.alloc,
+            spaces,
+        })
+    }
+
     /// Returns whether the space exists.
     pub fn has(&self, space: u64) -> bool
         ensures { result ≡ set.contains self.now.spaces space }
@@ -231,6 +246,7 @@ impl Spaces {
     pub fn claim(&mut self, space: u64, page: u32, key: usize) -> Result<bool, NoMemory>
         requires there { IsSpace self.old space }
         requires fits { IsPage page }
+        requires few { IsKey key }
         ensures spaces { self.new.spaces ≡ self.old.spaces }
         ensures claimed { IfOk result
             (λ done. done ≡ true → (key_of self.old space page ≡ None)
@@ -247,7 +263,7 @@ impl Spaces {
             unreachable!()
         };
         let alloc = self.alloc;
-        let absent = tables::claim(&mut self.spaces[at].1, alloc, page, key)?;
+        let absent = tables::claim(&mut self.spaces[at].1, alloc, page, Link::to(key))?;
         Ok(absent)
     }
 
@@ -255,6 +271,7 @@ impl Spaces {
     pub fn set(&mut self, space: u64, page: u32, key: usize)
         requires there { IsSpace self.old space }
         requires fits { IsPage page }
+        requires few { IsKey key }
         requires room { IsPresent self.old space page ⊎ (rest : List ℕ)
             × HasRoom self.old space (page ∷ rest) }
         ensures pages { self.new.pages ≡ map.insert self.old.pages (space, page) key }
@@ -271,6 +288,7 @@ impl Spaces {
     /// Writes the key of a page that is present or that there is room for. No table is taken by that, so all room is kept.
     fn fill(&mut self, space: u64, page: u32, key: usize)
         requires there { IsSpace self.old space }
+        requires few { IsKey key }
         requires room { IsPresent self.old space page ⊎ (rest : List ℕ)
             × HasRoom self.old space (page ∷ rest) }
         ensures pages { self.new.pages ≡ map.insert self.old.pages (space, page) key }
@@ -280,7 +298,7 @@ impl Spaces {
         let Some(at) = index_of(&self.spaces, space) else {
             return;
         };
-        tables::put(&mut self.spaces[at].1, page, key);
+        tables::put(&mut self.spaces[at].1, page, Link::to(key));
     }
 
     /// Makes a page absent. Changes nothing if it is absent.

@@ -1,16 +1,11 @@
-//! One table: a key or none for each of its pages, in four bytes for all but the largest keys.
+//! One table: a key or none for each of its pages, in four bytes each.
 
-ghost use Rattle.std.specs.Prelude.{◌≡◌, ◌≢◌, ◌<◌, ◌≤◌, ◌+◌, ◌*◌, ℕ, [], length, replicate, false, None, Some, IfOk, slice_index_or, slice_set, vec_capacity};
+ghost use Rattle.std.specs.Prelude.{◌≡◌, ◌<◌, ◌+◌, ◌*◌, [], length, replicate, false, None, IfOk, slice_index_or, slice_set};
 ghost use Rattle.l4_spaces.specs.Tables.{row_block, NoKeys};
 
+use crate::keys::Link;
 use std::alloc::{AllocError, Global};
 use std::marker::Model;
-
-/// Represents no key. It is half of all numbers, so that a test against it is one short instruction, even of eight bytes.
-const NO_KEY: u32 = 0x8000_0000;
-
-/// Represents a key that does not fit into four bytes.
-const LONG_KEY: u32 = NO_KEY + 1;
 
 /// The number of consecutive entries that form a block.
 pub const BLOCK: usize = 64;
@@ -19,12 +14,9 @@ pub const BLOCK: usize = 64;
 const BLOCKS: usize = 32;
 
 /// The keys of a table's pages. An absent table has none.
-#[derive(Drop)]
+#[derive(Clone, Drop)]
 pub struct Row {
-    /// Each key below `NO_KEY`.
-    short: Vec<u32>,
-    /// Each other key at its place. The room for all places is taken with the table, but nothing beyond the last such key is written.
-    long: Vec<usize>,
+    links: Vec<Link>,
     /// Of each block whether one of its places has had a key, so that walks step over the others.
     used: [bool; BLOCKS],
 }
@@ -34,40 +26,11 @@ impl Model for Row {
 
     ghost Value = { List (Option ℕ) };
 
-    ghost use Rattle.l4_spaces.specs.Inside.Row.{keys, IsNoted};
+    ghost use Rattle.l4_spaces.specs.Inside.Row.{IsNoted};
 
-    ghost view = { λ r. keys r.short.items r.long.items };
+    ghost view = { λ r. r.links.items };
 
-    ghost use Rattle.std.specs.Prelude.{◌≤◌, length, vec_capacity};
-
-    ghost invariant = { λ r. (length r.short.items ≤ vec_capacity r.long) × IsNoted (keys r.short.items r.long.items) r.used };
-}
-
-/// Returns the long key of this entry, or 0 beyond the end.
-#[cold]
-fn long_key(long: &Vec<usize>, low: usize) -> usize
-    ensures { result ≡ slice_index_or long.now.items low 0 }
-{
-    if low < long.len() {
-        return long[low];
-    }
-    0
-}
-
-/// Writes a key that does not fit into four bytes.
-#[cold]
-#[inline(never)]
-fn put_long(long: &mut Vec<usize>, low: usize, key: usize)
-    requires room { low < vec_capacity long.old }
-    ensures here { slice_index_or long.new.items low 0 ≡ key }
-    ensures others { (other : ℕ) → other ≢ low → slice_index_or long.new.items other 0
-        ≡ slice_index_or long.old.items other 0 }
-    ensures capacity { vec_capacity long.old ≤ vec_capacity long.new }
-{
-    for _ in long.len()..low + 1 {
-        let _ = long.push(0);
-    }
-    long[low] = key;
+    ghost invariant = { λ r. IsNoted r.links.items r.used };
 }
 
 impl Row {
@@ -76,8 +39,7 @@ impl Row {
         ensures { result ≡ [] }
     {
         Row {
-            short: Vec::new(alloc),
-            long: Vec::new(alloc),
+            links: Vec::new(alloc),
             used: [false; BLOCKS],
         }
     }
@@ -86,25 +48,27 @@ impl Row {
     pub(crate) fn whole(alloc: Global, pages: usize) -> Result<Row, AllocError>
         ensures { IfOk result (λ row. row ≡ replicate pages None) }
     {
-        let short = vec![in alloc; NO_KEY; pages]?;
-        let long = Vec::with_capacity(alloc, pages)?;
+        let links = vec![in alloc; Link::none(); pages]?;
         Ok(Row {
-            short,
-            long,
+            links,
             used: [false; BLOCKS],
         })
-    }
-
-    /// Returns the allocator of the row.
-    pub(crate) fn allocator(&self) -> Global {
-        *self.short.allocator()
     }
 
     /// Returns the number of entries.
     pub fn len(&self) -> usize
         ensures { result ≡ length self.now }
     {
-        self.short.len()
+        self.links.len()
+    }
+
+    /// Returns an entry.
+    #[inline]
+    pub fn link(&self, low: usize) -> Link
+        requires within { low < length self.now }
+        ensures { result ≡ slice_index_or self.now low None }
+    {
+        self.links[low]
     }
 
     /// Returns the key of an entry, if it has one.
@@ -113,14 +77,7 @@ impl Row {
         requires within { low < length self.now }
         ensures { result ≡ slice_index_or self.now low None }
     {
-        let number = self.short[low];
-        if number < NO_KEY {
-            return Some(number as usize);
-        }
-        if number == NO_KEY {
-            return None;
-        }
-        Some(long_key(&self.long, low))
+        self.link(low).key()
     }
 
     /// Returns whether an entry of the block of this number may have a key. The answer stays true after a key was removed.
@@ -143,19 +100,14 @@ impl Row {
         self.at(low)
     }
 
-    /// Gives a place that is there this key.
+    /// Sets an entry.
     #[inline]
-    pub fn put(&mut self, low: usize, key: usize)
+    pub fn put(&mut self, low: usize, link: Link)
         requires within { low < length self.old }
-        ensures { self.new ≡ slice_set self.old low (Some key) }
+        ensures { self.new ≡ slice_set self.old low link }
     {
         self.used[low / BLOCK % BLOCKS] = true;
-        if key < NO_KEY as usize {
-            self.short[low] = key as u32;
-            return;
-        }
-        self.short[low] = LONG_KEY;
-        put_long(&mut self.long, low, key);
+        self.links[low] = link;
     }
 
     /// Removes the key of the entry. Does nothing beyond the end.
@@ -163,8 +115,8 @@ impl Row {
     pub fn clear(&mut self, low: usize)
         ensures { self.new ≡ slice_set self.old low None }
     {
-        if low < self.short.len() {
-            self.short[low] = NO_KEY;
+        if low < self.links.len() {
+            self.links[low] = Link::none();
         }
     }
 }

@@ -5,6 +5,7 @@ ghost use Rattle.std.specs.Prelude.{◌≡◌, ◌≢◌, ◌<◌, ◌≤◌, �
 ghost use Rattle.l4_spaces.specs.Tables.{table_pages, space_tables, row_block, IsPage, NoKeys};
 ghost use Rattle.l4_spaces.specs.Rows.{entry, is_made, IsReady, AreWhole, AreMade, NoKeysInBlock, NoneIn, IsFirstIn, IsTableFrom, row};
 
+use crate::keys::Link;
 use crate::row::{BLOCK, Row};
 use std::alloc::{AllocError, Global};
 
@@ -28,10 +29,10 @@ pub fn key_in(tables: &Vec<Row>, page: u32) -> Option<usize>
     tables[high].key((page % TABLE_PAGES) as usize)
 }
 
-/// Sets the key of a page whose table is there.
-pub fn put(tables: &mut Vec<Row>, page: u32, key: usize)
+/// Sets the entry of a page whose table is there.
+pub fn put(tables: &mut Vec<Row>, page: u32, link: Link)
     requires ready { IsReady tables.old.items page }
-    ensures here { entry tables.new.items page ≡ Some key }
+    ensures here { entry tables.new.items page ≡ link }
     ensures others { (other : ℕ) → other ≢ page → entry tables.new.items other
         ≡ entry tables.old.items other }
     ensures long { (high : ℕ) → length (row tables.new.items high)
@@ -40,7 +41,7 @@ pub fn put(tables: &mut Vec<Row>, page: u32, key: usize)
 {
     let high = (page / TABLE_PAGES) as usize;
     let low = (page % TABLE_PAGES) as usize;
-    tables[high].put(low, key);
+    tables[high].put(low, link);
 }
 
 /// Removes the key of the page.
@@ -184,7 +185,7 @@ pub fn make_all(tables: &mut Vec<Row>, alloc: Global, pages: &[u32]) -> Result<(
     make_more(tables, alloc, pages)
 }
 
-/// Gives a page without a key this key, and creates its table if it has none. Returns whether the page had no key.
+/// Sets the entry of a page without a key, and creates its table if it has none. Returns whether the page had no key.
 ///
 /// An allocation can fail only if the table did not exist; a root that became longer then stays so.
 #[inline]
@@ -192,14 +193,14 @@ pub(crate) fn claim(
     tables: &mut Vec<Row>,
     alloc: Global,
     page: u32,
-    key: usize,
+    link: Link,
 ) -> Result<bool, AllocError>
     requires whole { AreWhole tables.old.items }
     requires full { length tables.old.items ≤ space_tables }
     requires fits { IsPage page }
     ensures claimed { IfOk result
         (λ done. done ≡ true → (entry tables.old.items page ≡ None)
-        × (entry tables.new.items page ≡ Some key)) }
+        × (entry tables.new.items page ≡ link)) }
     ensures present { IfOk result
         (λ done. done ≡ false → IsTrue (is_some (entry tables.old.items page))
         × (tables.new.items ≡ tables.old.items)) }
@@ -223,28 +224,28 @@ pub(crate) fn claim(
             if row.at(low).is_some() {
                 return Ok(false);
             }
-            row.put(low, key);
+            row.put(low, link);
             return Ok(true);
         }
     }
-    claim_more(tables, alloc, page, key)
+    claim_more(tables, alloc, page, link)
 }
 
-/// Gives a page without a key this key, and makes its table before. Where memory is refused, a root that grew stays.
+/// Sets the entry of a page without a key, and makes its table before. Where memory is refused, a root that grew stays.
 #[cold]
 #[inline(never)]
 fn claim_more(
     tables: &mut Vec<Row>,
     alloc: Global,
     page: u32,
-    key: usize,
+    link: Link,
 ) -> Result<bool, AllocError>
     requires whole { AreWhole tables.old.items }
     requires full { length tables.old.items ≤ space_tables }
     requires fits { IsPage page }
     requires absent { entry tables.old.items page ≡ None }
     ensures done { IfOk result (λ done. done ≡ true) }
-    ensures ok { OnOk result (entry tables.new.items page ≡ Some key) }
+    ensures ok { OnOk result (entry tables.new.items page ≡ link) }
     ensures err { OnErr result (entry tables.new.items page ≡ None) }
     ensures others { (other : ℕ) → other ≢ page → entry tables.new.items other
         ≡ entry tables.old.items other }
@@ -257,7 +258,7 @@ fn claim_more(
     ensures succeeds { AreMade tables.old.items (page ∷ []) 1 → IsOk result }
 {
     make_more(tables, alloc, &[page])?;
-    put(tables, page, key);
+    put(tables, page, link);
     Ok(true)
 }
 

@@ -6,7 +6,7 @@ use Rattle.l4_nodes.specs.declared.Place.{Place}
 use Rattle.l4_nodes.specs.declared.nodes.Node.{Node}
 use Rattle.l4_nodes.specs.declared.nodes.Slot.{Slot}
 use Rattle.l4_links.specs.Leads.{Leads}
-use Rattle.l4_nodes.specs.Keys.{IsKey}
+use Rattle.l4_spaces.specs.Keys.{IsKey}
 use Rattle.l4_nodes.specs.Slots.{Slots, Spot, slot_at, node_at, spots, SetsNext, SetsPrev}
 use Rattle.l4_links.specs.Inside.Trees.{Limb, IsTree, Sprouts, parent_at}
 use Rattle.l4_links.specs.Inside.Orders.{Link, IsOnce, IsIn, IsLinked, first_of, position}

@@ -5,7 +5,7 @@ use Rattle.l4_links.specs.Entries.{Linked, IsStanding, IsBlank, TakesOver}
 use Rattle.l4_links.specs.Inside.Keeping.{entries_of, standing_of}
 use Rattle.l4_links.specs.Inside.Nodes.{TakesOver as TakesSlot}
 use Rattle.l4_links.proofs.Seen.{blank_node, standing_is}
-use Rattle.l4_links.proofs.Naming.{place_there, place_fits, place_present, taken, indexed_taken}
+use Rattle.l4_links.proofs.Naming.{place_there, place_fits, place_key, place_present, taken, indexed_taken}
 use Rattle.l4_links.proofs.Noting.{quiet_taken, less_taken, sound_quiet}
 use Rattle.l4_links.proofs.Views.{view_takes}
 use Rattle.l4_links.proofs.Stacking.{stack_quiet}
@@ -31,6 +31,9 @@ set-requires-clause-fits c = place_fits c.self.inside.nodes.slots c.self.inside.
 
 pub set-requires-clause-room : goal.set-requires-clause-room
 set-requires-clause-room c = inl (place_present c.self.inside.nodes.slots c.self.inside.pages c.args.blank c.in-Some-place_of.to c.self.invariant.indexed (sym c.place_of-2.ensures ∙ c.in-Some-place_of.is))
+
+pub set-requires-clause-few : goal.set-requires-clause-few
+set-requires-clause-few c = place_key c.self.inside.nodes.slots c.self.inside.pages c.args.key c.in-Some.from c.self.invariant.indexed (sym c.place_of.ensures ∙ c.in-Some.is)
 
 pub give-requires : goal.give-requires
 give-requires c = place_fits c.self.inside.nodes.slots c.self.inside.pages c.args.blank c.in-Some-place_of.to c.self.invariant.indexed (sym c.place_of-2.ensures ∙ c.in-Some-place_of.is)

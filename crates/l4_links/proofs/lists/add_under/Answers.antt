@@ -1,6 +1,6 @@
 use Rattle.std.proofs.Common.{◌≡◌, ◌+◌, ℕ, arith, ap, sym, subst, Option, Some, false, ◌∙◌}
 use Rattle.l4_nodes.specs.declared.nodes.Node.{Node}
-use Rattle.l4_nodes.specs.Keys.{IsKey}
+use Rattle.l4_spaces.specs.Keys.{IsKey}
 use Rattle.l4_nodes.specs.Slots.{slot_at, SetsNext, SetsPrev, unnoted}
 use Rattle.l4_links.specs.Inside.Nodes.{child, AddsUnder}
 use Rattle.l4_links.proofs.Adding.{added}

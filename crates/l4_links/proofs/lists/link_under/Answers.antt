@@ -1,6 +1,6 @@
 use Rattle.std.proofs.Common.{ℕ, arith, refl, sym, subst, Option, Some}
 use Rattle.l4_nodes.specs.declared.nodes.Node.{Node}
-use Rattle.l4_nodes.specs.Keys.{IsKey}
+use Rattle.l4_spaces.specs.Keys.{IsKey}
 use Rattle.l4_links.specs.Inside.Nodes.{child}
 use Rattle.l4_nodes.specs.Slots.{Writes, SetsNext, SetsPrev, unnoted}
 use Rattle.l4_links.proofs.Depths.{depth_fits, depth_is_key}

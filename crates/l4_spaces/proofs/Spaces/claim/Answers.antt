@@ -44,7 +44,7 @@ returns-clause-claimed c done =
     let w = (wrote c.self.inside.spaces.items c.args.space c.in-Some.at c.index_mut.result.now c.claim.new.tables c.in-Some.ensures.at c.index_mut.ensures.value) in
     let h = c.in_ok-absent.ensures.claimed done in (
       found_in c.self.inside.spaces.items c.args.self.now c.args.space c.args.page _ c.self.view_is w.was ∙ h.0,
-      pages_set c.self.inside.spaces.items _ c.args.self.now (c.args.space, c.args.page) c.args.key c.self.view_is (keys_put c.args.page (Some c.args.key) w h.1 c.claim.ensures.others),
+      pages_set c.self.inside.spaces.items _ c.args.self.now (c.args.space, c.args.page) c.args.key c.self.view_is (keys_put c.args.page (Some c.args.key) w (h.1 ∙ c.to.ensures) c.claim.ensures.others),
     )
 
 pub returns-clause-present : goal.returns-clause-present

@@ -24,7 +24,7 @@ invariant_of-self c = laid (wrote c.self.inside.spaces.items c.args.space c.in-S
 
 pub returns-clause-pages : goal.returns-clause-pages
 returns-clause-pages c =
-    pages_set c.self.inside.spaces.items _ c.args.self.now (c.args.space, c.args.page) c.args.key c.self.view_is (keys_put c.args.page (Some c.args.key) (wrote c.self.inside.spaces.items c.args.space c.in-Some.at c.index_mut.result.now c.put.new.tables c.in-Some.ensures.at c.index_mut.ensures.value) c.put.ensures.here c.put.ensures.others)
+    pages_set c.self.inside.spaces.items _ c.args.self.now (c.args.space, c.args.page) c.args.key c.self.view_is (keys_put c.args.page (Some c.args.key) (wrote c.self.inside.spaces.items c.args.space c.in-Some.at c.index_mut.result.now c.put.new.tables c.in-Some.ensures.at c.index_mut.ensures.value) (c.put.ensures.here ∙ c.to.ensures) c.put.ensures.others)
 
 pub returns-clause-spaces : goal.returns-clause-spaces
 returns-clause-spaces c = ap (λ (ks : List ℕ). set.from_list {R = nat_cmp} ks) (wrote c.self.inside.spaces.items c.args.space c.in-Some.at c.index_mut.result.now c.put.new.tables c.in-Some.ensures.at c.index_mut.ensures.value).same ∙ ap (λ (s : Tables). s.spaces) c.self.view_is

@@ -1,12 +1,12 @@
-//! The keys that a node keeps, in four bytes each.
+//! A key or none, in four bytes. Page tables and nodes store keys in this form.
 
 ghost use Rattle.std.specs.Prelude.{◌≡◌, Some, None};
-ghost use Rattle.l4_nodes.specs.Keys.{IsKey};
+ghost use Rattle.l4_spaces.specs.Keys.{IsKey};
 
 use std::marker::Model;
 
 /// The number that represents no key. All keys are below it.
-pub(crate) const NO_KEY: u32 = u32::MAX;
+pub const NO_KEY: u32 = u32::MAX;
 
 /// A key or none, in four bytes.
 #[derive(Clone, Copy)]
@@ -22,7 +22,7 @@ impl Model for Link {
 
     ghost coded = { coded_option coded_ℕ };
 
-    ghost use Rattle.l4_nodes.specs.Inside.Keys.{key_shown, shows_as, gives_back};
+    ghost use Rattle.l4_spaces.specs.Inside.Keys.{key_shown, shows_as, gives_back};
 
     ghost view = { key_shown };
 

@@ -2,8 +2,8 @@
 use Rattle.std.specs.Prelude.{◌≡◌, ℕ, eqb, Bool, true, false, Option, Some, None, if◌then◌else◌, refl}
 use Rattle.std.proofs.Common.{ap, sym}
 use Rattle.std.proofs.lemmas.Bool.{eqb-true}
-use Rattle.l4_nodes.specs.Keys.{no_key}
-use Rattle.l4_nodes.specs.declared.keys.Link.TheInside.{Inside}
+use Rattle.l4_spaces.specs.Keys.{no_key}
+use Rattle.l4_spaces.specs.declared.keys.Link.TheInside.{Inside}
 
 -- the key that is kept, if it is one
 abbrev pub key_shown : Inside → Option ℕ
