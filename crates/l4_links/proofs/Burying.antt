@@ -13,25 +13,21 @@ use Rattle.l4_links.specs.Inside.Nodes.{limbs, Doom, dooms, IsOrder, IsForest, T
 use Rattle.l4_links.specs.Inside.Stacks.{IsStack, HasStack, IsBuried, IsLeft, Buries}
 use Rattle.l4_links.specs.Inside.Keeping.{standing_of, entries_of, IsWithin, IsFresh, IsSound}
 use Rattle.l4_links.specs.Entries as entries
-use Rattle.l4_links.proofs.Writes.{no_slot, doom_of, limb_of, worth_of, marks_of}
-use Rattle.l4_links.proofs.Linking.{parted, last_some}
+use Rattle.l4_links.proofs.Writes.{no_some, same_some, map_from, no_slot, doom_of, limb_of, worth_of, marks_of}
+use Rattle.l4_links.proofs.Linking.{parted, first_in, begins_with, last_some}
 use Rattle.l4_links.proofs.Positions.{same_order_out}
 use Rattle.l4_links.proofs.Neighbours.{neighbours_at}
 use Rattle.l4_links.proofs.Growing.{tree_sheds}
 use Rattle.l4_links.proofs.Cutting.{once_fits, node_within}
 use Rattle.l4_links.proofs.Depths.{order_on}
-use Rattle.l4_links.proofs.Walking.{node_from_limb}
 use Rattle.l4_links.proofs.Kept.{first_unique, within_kept, sound_fresh}
 use Rattle.l4_links.proofs.Seen.{entry_same, standing_is, standing_node}
 use Rattle.l4_links.proofs.Views.{view_gone}
-use Rattle.l4_links.proofs.Stacking.{common_none, doom_node, doom_at, same_doom, stacked_none, stack_popped}
+use Rattle.l4_links.proofs.Stacking.{common_none, doom_at, stacked_none, stack_popped}
 
 -- what a piece of a slot that has gone is
 piece_gone : {X : Type 0} (F : Node → X) (slots : Slots) (k : ℕ) → slot_at slots k ≡ None → option_map F (node_at slots k) ≡ None
 piece_gone F slots k gone = ap (λ (o : Option Slot). option_map F (option_and_then (λ (z : Slot). z.node) o)) gone
-
-no_some : {X Y : Type 0} (x : X) → ◌≡◌ {A = Option X} None (Some x) → Y
-no_some {X} x e = absurd (let w : ◌≡◌ {A = Option X} None (Some x) = e in cc)
 
 -- the first keys of the stack have been buried, and it goes on at this key
 pub record BuriedSoFar (old cur : Slots) (first begin at : Option ℕ) (count : ℕ) : Type 0 where
@@ -71,16 +67,8 @@ buried_first old ks first doomed forest within s = record {
 -- the key of the loop has a node
 pub buried_there : (old cur : Slots) (first begin : Option ℕ) (count key : ℕ) → BuriedSoFar old cur first begin (Some key) count → node_at cur key ≢ None
 buried_there old cur first begin count key c none =
-    let d = head_doom cur c.stack key c.is_stack c.at_is in
-    let w : ◌≡◌ {A = Option Doom} None (Some d.0) = sym (ap (option_map doom_of) none) ∙ d.1 in cc
-  where
-    head_doom : (cur : Slots) (ks : List ℕ) (key : ℕ) → IsStack (dooms cur) ks → first_of ks None ≡ Some key → (d : Doom) × (dooms cur key ≡ Some d)
-    head_doom cur [] key s e = absurd (let w : ◌≡◌ {A = Option ℕ} None (Some key) = e in cc)
-    head_doom cur (k ∷ ks) key s e =
-        let w : ◌≡◌ {A = Option ℕ} (Some k) (Some key) = e in
-        let kk : k ≡ key = cc in
-        let n = stacked_none (dooms cur) (k ∷ ks) s.stacked key (inl kk) in
-        (n.0, n.1)
+    let n = stacked_none (dooms cur) c.stack c.is_stack.stacked key (first_in c.stack key c.at_is) in
+    no_some n.0 (sym (ap (option_map doom_of) none) ∙ n.1)
 
 -- where the list begins without a key
 first_left : (front back : List ℕ) (key : ℕ) (prev next begin after : Option ℕ) → prev ≡ last_of None front → next ≡ first_of back None → (prev ≡ None → after ≡ next) → (prev ≢ None → after ≡ begin)
@@ -89,12 +77,14 @@ first_left [] back key prev next begin after p n onto stay f = sym n ∙ sym (on
 first_left (x ∷ xs) back key prev next begin after p n onto stay f = f ∙ sym (stay (λ none. last_some x xs (sym p ∙ none)))
 
 -- one more node is buried
-buried_step : (old cur new : Slots) (first begin after at : Option ℕ) (count key : ℕ) (node : Node) (c : BuriedSoFar old cur first begin at count) (rest : List ℕ) → c.stack ≡ key ∷ rest → node_at cur key ≡ Some node
+pub buried_more : (old cur new : Slots) (first begin after : Option ℕ) (count key : ℕ) (node : Node) → BuriedSoFar old cur first begin (Some key) count → node_at cur key ≡ Some node
     → (node.prev ≡ None → after ≡ node.next) → (node.prev ≢ None → after ≡ begin) → ((xs ys : List ℕ) → IsOrder cur (xs ++ key ∷ ys) → IsOrder new (xs ++ ys)) → TakesSlot key cur new
     → BuriedSoFar old new first after node.doomed (count + 1)
-buried_step old cur new first begin after at count key node c rest e is_key onto stay out t =
+buried_more old cur new first begin after count key node c is_key onto stay out t =
+    let rest = (begins_with c.stack key c.at_is).0 in
+    let e : c.stack ≡ key ∷ rest = (begins_with c.stack key c.at_is).1 in
     let st : IsStack (dooms cur) (key ∷ rest) = subst (λ (z : List ℕ). IsStack (dooms cur) z) e c.is_stack in
-    let doom_is : doom_of node ≡ record { rights = no_rights; next = first_of rest None } = same_doom (sym (doom_at cur key node is_key) ∙ st.stacked.0) in
+    let doom_is : doom_of node ≡ record { rights = no_rights; next = first_of rest None } = same_some (sym (doom_at cur key node is_key) ∙ st.stacked.0) in
     let p = parted c.left key (c.order.all key node is_key) in
     let here : IsOrder cur (p.front ++ key ∷ p.back) = subst (λ (z : List ℕ). IsOrder cur z) p.is c.order in
     let near = neighbours_at cur p.front key p.back node here is_key in
@@ -137,18 +127,6 @@ buried_step old cur new first begin after at count key node c rest e is_key onto
       ];
     }
 
-pub buried_more : (old cur new : Slots) (first begin after : Option ℕ) (count key : ℕ) (node : Node) → BuriedSoFar old cur first begin (Some key) count → node_at cur key ≡ Some node
-    → (node.prev ≡ None → after ≡ node.next) → (node.prev ≢ None → after ≡ begin) → ((xs ys : List ℕ) → IsOrder cur (xs ++ key ∷ ys) → IsOrder new (xs ++ ys)) → TakesSlot key cur new
-    → BuriedSoFar old new first after node.doomed (count + 1)
-buried_more old cur new first begin after count key node c is_key onto stay out t =
-    elim c.stack as (λ (ks : List ℕ). c.stack ≡ ks → BuriedSoFar old new first after node.doomed (count + 1)) [
-      | [] ↦ λ e. no_some key (sym (ap (λ (z : List ℕ). first_of z None) e) ∙ c.at_is)
-      | k ∷ ks ↦ λ e.
-          let w : ◌≡◌ {A = Option ℕ} (Some k) (Some key) = sym (ap (λ (z : List ℕ). first_of z None) e) ∙ c.at_is in
-          let kk : k ≡ key = cc in
-          buried_step old cur new first begin after (Some key) count key node c ks (e ∙ ap (λ (z : ℕ). z ∷ ks) kk) is_key onto stay out t
-    ] refl
-
 -- what lies within no rights has none
 within_none : (low high : RightsSet) → common low high ≡ low → high ≡ no_rights → low ≡ no_rights
 within_none low high e none = sym e ∙ ap (λ (z : RightsSet). common low z) none ∙ common_none low
@@ -165,8 +143,8 @@ buried_done old cur first begin count c =
           | inl g ↦ no_some x (sym (piece_gone limb_of cur a g.gone) ∙ is)
           | inr l ↦
               let was : limbs old a ≡ Some x = sym l.limb ∙ is in
-              let n = node_from_limb old a x was in
-              let m = doom_node old p b.doom b.was in
+              let n = map_from limb_of (node_at old a) x was in
+              let m = map_from doom_of (node_at old p) b.doom b.was in
               let lies = c.within a p x (worth_of n.0) (worth_of m.0) was up (ap (option_map worth_of) n.1) (ap (option_map worth_of) m.1) in
               let none : n.0.rights ≡ no_rights = within_none n.0.rights m.0.rights lies.rights (ap (λ (z : Doom). z.rights) m.2 ∙ b.none) in
               empty a (doom_of n.0) (l.doom ∙ doom_at old a n.0 n.1) none
@@ -185,14 +163,14 @@ buried_done old cur first begin count c =
   where
     none_in : (ks : List ℕ) (k : ℕ) → IsIn ks k → first_of ks None ≡ None → ⊥
     none_in [] k i e = i
-    none_in (x ∷ xs) k i e = let w : ◌≡◌ {A = Option ℕ} (Some x) None = e in absurd (let z : ◌≡◌ {A = Option ℕ} (Some x) None = w in cc)
+    none_in (x ∷ xs) k i e = no_some x (sym e)
 
 -- after as many steps as there are slots nothing is left of the stack
 pub buried_ends : (old cur : Slots) (first begin at : Option ℕ) (count : ℕ) → BuriedSoFar old cur first begin at count → length old ≤ count → at ≡ None
 buried_ends old cur first begin at count c all =
     let fit = once_fits (length old) c.all c.was_stack.once (λ k i.
     let d = stacked_none (dooms old) c.all c.was_stack.stacked k i in
-    let n = doom_node old k d.0 d.1 in
+    let n = map_from doom_of (node_at old k) d.0 d.1 in
     node_within old k n.0 n.1) in
     let n = c.count_is in
     sym c.at_is ∙ none_left c.stack (omega (arith, fit, n, all))
@@ -216,7 +194,7 @@ view_buries old new first after b = record {
     | inr l ↦ absurd (let n = standing_node old k t at in b.empty k (doom_of n.0) (l.doom ∙ doom_at old k n.0 n.1) (ap (λ (z : Standing). z.rights) n.2 ∙ none))
   ];
   kept = λ k some. elim (b.each k) [
-    | inl g ↦ absurd (let n = doom_node old k g.doom g.was in some (standing_of n.0) (standing_is old k ∙ ap (option_map standing_of) n.1) (ap (λ (z : Doom). z.rights) n.2 ∙ g.none))
+    | inl g ↦ absurd (let n = map_from doom_of (node_at old k) g.doom g.was in some (standing_of n.0) (standing_is old k ∙ ap (option_map standing_of) n.1) (ap (λ (z : Doom). z.rights) n.2 ∙ g.none))
     | inr l ↦ entry_same old new k l.spot l.limb l.value
   ];
 }

@@ -1,5 +1,5 @@
 -- A cap of a node's rights, after that of all that descends from it.
-use Rattle.std.proofs.Common.{◌≡◌, ◌≢◌, ℕ, Bool, true, false, ◌&&◌, List, Option, Some, None, refl, sym, ap, ◌∙◌, subst, inl, inr}
+use Rattle.std.proofs.Common.{◌≡◌, ◌≢◌, ℕ, List, Option, Some, None, refl, sym, ap, ◌∙◌, subst, inl, inr}
 use Rattle.std.proofs.lemmas.Bool.{cases_eq}
 use Rattle.std.specs.Option.{option_map, option_and_then}
 use Rattle.l4_fpage.specs.Rights.{RightsSet, common, bits_of}
@@ -9,56 +9,43 @@ use Rattle.l4_nodes.specs.declared.nodes.Slot.{Slot}
 use Rattle.l4_links.specs.Leads.{Leads, step}
 use Rattle.l4_links.specs.Inside.Trees.{Limb, parent_at}
 use Rattle.l4_nodes.specs.Slots.{Slots, Spot, slot_at, node_at, spots, spot_of}
-use Rattle.l4_links.specs.Inside.Nodes.{limbs, values, Worth, capped_worth, IsForest, IsLow, IsStamped, HasMarks, Caps, CapsBelow}
-use Rattle.l4_links.specs.Inside.Nodes as nodes
+use Rattle.l4_links.specs.Inside.Nodes.{limbs, values, Worth, capped_worth, IsForest, IsLow, IsStamped, HasLow, HasMarks, Caps, CapsBelow}
 use Rattle.l4_links.specs.Entries.{entry_at, CapsTree, capped}
 use Rattle.l4_links.specs.Inside.Keeping.{standing_of, entry_of, entries_of, IsWithin, LiesWithin, IsSound}
-use Rattle.l4_links.proofs.Writes.{map_at, stamped_same, marks_of, limb_of, worth_of}
+use Rattle.l4_links.proofs.Writes.{map_from, stamped_same, marks_of, limb_of, link_of, worth_of}
+use Rattle.l4_links.proofs.Neighbours.{forest_links}
 use Rattle.l4_links.proofs.Runs.{parent_is}
-use Rattle.l4_links.proofs.Walking.{low_of_common, low_stays, node_from_limb, caps_lowers, forest_same, done_same, marks_capped, values_capped}
+use Rattle.l4_links.proofs.Walking.{common_over, low_of_common, low_stays, marks_same, capped_same, capped_keeps, capped_low, values_capped}
 use Rattle.l4_links.proofs.Clearing.{apart}
 use Rattle.l4_links.proofs.Kept.{parent_stands, same_worth, bits_back, no_sources_walk, sound_capped}
 use Rattle.l4_links.proofs.Seen.{joined, at_seen, shown_is, entry_same, leads_of, descends_of, capped_joined}
 use Rattle.l4_links.proofs.Views.{nothing_below}
 
-all_over : (l h c : Bool) → l && (h && c) ≡ (l && h) && c
-all_over false h c = refl
-all_over true h c = refl
-
 -- rights within two sets lie within what these share
 low_two : (l h c : RightsSet) → IsLow h l → IsLow c l → IsLow (common h c) l
 low_two l h c low_h low_c =
-    let over : common l (common h c) ≡ common (common l h) c = λ i. record { r = all_over l.r h.r c.r i; w = all_over l.w h.w c.w i; x = all_over l.x h.x c.x i } in
-    over ∙ ap (λ (z : RightsSet). common z c) low_h ∙ low_c
+    common_over l h c ∙ ap (λ (z : RightsSet). common z c) low_h ∙ low_c
 
 -- what was capped is low
-capped_low : (cap : RightsSet) (o : Option Worth) (w : Worth) → ◌≡◌ {A = Option Worth} (Some w) (option_map (capped_worth cap) o) → IsLow cap w.rights
-capped_low cap None w e = absurd (let z : ◌≡◌ {A = Option Worth} (Some w) None = e in cc)
-capped_low cap (Some v) w e =
-    let f : capped_worth cap v ≡ w = same_worth (sym e) in
-    subst (λ (z : Worth). IsLow cap z.rights) f (low_of_common v.rights cap)
+worth_low : (cap : RightsSet) (o : Option Worth) (w : Worth) → ◌≡◌ {A = Option Worth} (Some w) (option_map (capped_worth cap) o) → IsLow cap w.rights
+worth_low cap o w e =
+    let v = map_from (capped_worth cap) o w (sym e) in
+    subst (λ (z : Worth). IsLow cap z.rights) v.2 (low_of_common v.0.rights cap)
 
 -- the marks stay right
-pub marks_tree : (mid new : Slots) (top : ℕ) (cap : RightsSet) (stamp : ℕ) → HasMarks cap stamp mid → Caps top cap mid new → HasMarks cap stamp new
+pub marks_tree : (mid new : Slots) (top : ℕ) (cap : RightsSet) (stamp : ℕ) → HasMarks (HasLow cap mid) stamp mid → Caps top cap mid new → HasMarks (HasLow cap new) stamp new
 marks_tree mid new top cap stamp m w =
-    let l = caps_lowers top cap mid new w in
-    record {
-      keys = m.keys;
-      forest = forest_same mid new m.keys l m.forest;
-      marked = λ k n is mark.
-          let v = marks_capped top cap mid new w k n is in
-          let d : nodes.IsDone new m.keys cap k v.0.depth v.0.end = done_same mid new m.keys cap k v.0.depth v.0.end l (m.marked k v.0 v.1 (record { same = sym v.2 ∙ mark.same; some = mark.some })) in
-          subst (λ (e : Option ℕ). nodes.IsDone new m.keys cap k n.depth e) (sym v.3) (subst (λ (e : ℕ). nodes.IsDone new m.keys cap k e v.0.end) (sym v.4) d);
-    }
+    marks_same (HasLow cap mid) (HasLow cap new) mid new (capped_same limb_of top cap mid new w (λ n. refl)) (capped_low top cap cap mid new w) stamp (capped_same link_of top cap mid new w (λ n. refl))
+    (capped_keeps top stamp cap mid new w) m
 
 -- the children of the node stay within it
 within_tree : (old mid new : Slots) (ks : List ℕ) (top : ℕ) (cap : RightsSet) → IsForest mid ks → IsWithin mid → CapsBelow top cap old mid → Caps top cap mid new → IsWithin new
 within_tree old mid new ks top cap f within c w k p x l h is up v u =
-    let limbs_same : (j : ℕ) → limbs new j ≡ limbs mid j = map_at limb_of (λ (n : Node). record n { rights = common n.rights cap; doomed = w.doomed }) (λ n. refl) top mid new w.here w.others in
+    let limbs_same : (j : ℕ) → limbs new j ≡ limbs mid j = capped_same limb_of top cap mid new w (λ n. refl) in
     let was : limbs mid k ≡ Some x = sym (limbs_same k) ∙ is in
     let above = parent_stands mid ks f k p x was up in
-    let n = node_from_limb mid k x was in
-    let m = node_from_limb mid p above.0 above.1 in
+    let n = map_from limb_of (node_at mid k) x was in
+    let m = map_from limb_of (node_at mid p) above.0 above.1 in
     let lo : values mid k ≡ Some (worth_of n.0) = ap (option_map worth_of) n.1 in
     let hi : values mid p ≡ Some (worth_of m.0) = ap (option_map worth_of) m.1 in
     let base = within k p x (worth_of n.0) (worth_of m.0) was up lo hi in
@@ -79,27 +66,26 @@ within_tree old mid new ks top cap f within c w k p x l h is up v u =
                 let old_up : Leads (parent_at (limbs old)) k top = subst (λ (g : ℕ → Option Limb). Leads (parent_at g) k top) (λ i j. c.limbs_same j i) (step (up_k ∙ ap (λ (z : ℕ). Some z) pt)) in
                 let was_low : values mid k ≡ option_map (capped_worth cap) (values old k) = c.capped k old_up in
                 put (worth_of n.0) (capped_worth cap (worth_of m.0)) low_is high_is
-                (record { rights = low_two n.0.rights m.0.rights cap base.rights (capped_low cap (values old k) (worth_of n.0) (sym lo ∙ was_low)); frame = base.frame })
+                (record { rights = low_two n.0.rights m.0.rights cap base.rights (worth_low cap (values old k) (worth_of n.0) (sym lo ∙ was_low)); frame = base.frame })
           ]
     ]
 
-pub sound_tree : (old mid new : Slots) (first : Option ℕ) (stamp walk later top : ℕ) (cap : RightsSet) → IsSound old first stamp walk → CapsBelow top cap old mid → HasMarks cap later mid → IsStamped later mid → Caps top cap mid new → IsSound new first later (bits_of cap)
+pub sound_tree : (old mid new : Slots) (first : Option ℕ) (stamp walk later top : ℕ) (cap : RightsSet) → IsSound old first stamp walk → CapsBelow top cap old mid → HasMarks (HasLow cap mid) later mid → IsStamped later mid → Caps top cap mid new → IsSound new first later (bits_of cap)
 sound_tree old mid new first stamp walk later top cap s c m t w =
     let g = sound_capped old mid first stamp walk later top cap s c m t in
-    let l = caps_lowers top cap mid new w in
     record {
       keys = g.keys;
-      forest = forest_same mid new g.keys l g.forest;
+      forest = forest_links mid new g.keys (capped_same limb_of top cap mid new w (λ n. refl)) (capped_same link_of top cap mid new w (λ n. refl)) g.forest;
       first_is = g.first_is;
       within = within_tree old mid new g.keys top cap g.forest g.within c w;
-      stamped = stamped_same later mid new (map_at marks_of (λ (n : Node). record n { rights = common n.rights cap; doomed = w.doomed }) (λ n. refl) top mid new w.here w.others) g.stamped;
-      capped = λ _. subst (λ (z : RightsSet). HasMarks z later new) (sym (bits_back cap)) (marks_tree mid new top cap later m w);
+      stamped = stamped_same later mid new (capped_same marks_of top cap mid new w (λ n. refl)) g.stamped;
+      capped = λ _. subst (λ (z : RightsSet). HasMarks (HasLow z new) later new) (sym (bits_back cap)) (marks_tree mid new top cap later m w);
       sought = λ e. absurd (no_sources_walk cap e);
     }
 
 pub view_tree : (old mid new : Slots) (first : Option ℕ) (stamp walk top : ℕ) (cap : RightsSet) → IsSound old first stamp walk → CapsBelow top cap old mid → Caps top cap mid new → CapsTree top cap (entries_of old) (entries_of new)
 view_tree old mid new first stamp walk top cap s c w =
-    let limbs_same : (j : ℕ) → limbs new j ≡ limbs old j = λ j. map_at limb_of (λ (n : Node). record n { rights = common n.rights cap; doomed = w.doomed }) (λ n. refl) top mid new w.here w.others j ∙ c.limbs_same j in
+    let limbs_same : (j : ℕ) → limbs new j ≡ limbs old j = λ j. capped_same limb_of top cap mid new w (λ n. refl) j ∙ c.limbs_same j in
     let spots_same : (j : ℕ) → spots new j ≡ spots old j = λ j. w.spots_same j ∙ c.spots_same j in
     let off_top : ¬ (Leads (parent_at (limbs old)) top top) = apart old s.keys s.forest top in
     let top_value : values new top ≡ option_map (capped_worth cap) (values old top) = values_capped top cap mid new w ∙ ap (option_map (capped_worth cap)) (c.kept top off_top) in

@@ -1,21 +1,21 @@
 -- A run of deeper keys that is taken out is what descends from the key before it.
-use Rattle.std.proofs.Common.{◌≡◌, ◌≢◌, ◌↔◌, ℕ, suc, zero, ◌+◌, ◌<◌, ◌≤◌, List, [], ◌∷◌, ◌++◌, length, Option, Some, None, refl, sym, ap, ◌∙◌, subst, arith, inl, inr, ◌⊎◌, length-append}
+use Rattle.std.proofs.Common.{◌≡◌, ◌≢◌, ◌↔◌, ℕ, suc, zero, ◌+◌, ◌<◌, ◌≤◌, List, [], ◌∷◌, ◌++◌, length, Option, Some, None, refl, sym, ap, ◌∙◌, subst, arith, inl, inr, ◌⊎◌, append_assoc, length-append}
 use Rattle.std.proofs.lemmas.Bool.{cases_eq, cases_lt}
 use Rattle.std.proofs.lemmas.List.{get_or_past}
 use Rattle.std.specs.Option.{option_map, option_and_then}
 use Rattle.l4_nodes.specs.declared.nodes.Node.{Node}
 use Rattle.l4_nodes.specs.declared.nodes.Slot.{Slot}
 use Rattle.l4_links.specs.Leads.{Leads, steps}
-use Rattle.l4_links.specs.Inside.Trees.{Limb, IsInRun, parent_at, Sheds, SameOrder}
+use Rattle.l4_links.specs.Inside.Trees.{Limb, IsInRun, parent_at, Sheds}
 use Rattle.l4_links.specs.Inside.Orders.{IsIn, IsOnce, first_of, position}
 use Rattle.l4_nodes.specs.Slots.{Slots, node_at, spots}
-use Rattle.l4_links.specs.Inside.Nodes.{limbs, values, marks, IsOrder, IsForest, left_spot, Prunes}
-use Rattle.l4_links.proofs.Linking.{in_left, in_right, in_parts, once_front, once_back, once_out, parted}
-use Rattle.l4_links.proofs.Positions.{position_here, position_further, position_within}
-use Rattle.l4_links.proofs.Neighbours.{once_apart, in_list}
+use Rattle.l4_links.specs.Inside.Nodes.{limbs, values, marks, IsOrder, IsForest, Stops, left_spot, Prunes}
+use Rattle.l4_links.proofs.Linking.{in_left, in_right, in_parts, once_front, once_back, once_out, parted, first_in, begins_with}
+use Rattle.l4_links.proofs.Positions.{position_here, position_further, position_within, order_back}
+use Rattle.l4_links.proofs.Neighbours.{once_apart, in_list, limb_in, neighbours_at}
 use Rattle.l4_links.proofs.Runs.{descendants, one_limb, parent_is}
 use Rattle.l4_links.proofs.Growing.{tree_sheds}
-use Rattle.l4_links.proofs.Writes.{limb_of}
+use Rattle.l4_links.proofs.Writes.{no_some, limb_of}
 
 pub is_in_or : (ks : List ℕ) (k : ℕ) → IsIn ks k ⊎ ¬ (IsIn ks k)
 is_in_or [] k = inr (λ i. i)
@@ -71,7 +71,7 @@ once_fits (suc n) ks once each = elim (is_in_or ks n) [
 pub node_within : (slots : Slots) (k : ℕ) (n : Node) → node_at slots k ≡ Some n → k < length slots
 node_within slots k n at = elim (cases_lt k (length slots)) [
   | inl lt ↦ lt
-  | inr le ↦ absurd (let w : ◌≡◌ {A = Option Node} None (Some n) = sym (ap (option_and_then (λ (s : Slot). s.node)) (get_or_past slots k None le)) ∙ at in cc)
+  | inr le ↦ no_some n (sym (ap (option_and_then (λ (s : Slot). s.node)) (get_or_past slots k None le)) ∙ at)
 ]
 
 pub order_fits : (slots : Slots) (ks : List ℕ) → IsOrder slots ks → length ks ≤ length slots
@@ -138,207 +138,192 @@ stands front top run back k i = elim (in_parts front (top ∷ (run ++ back)) k i
   ]
 ]
 
--- a key with a limb is in the list
-pub limb_in : (slots : Slots) (ks : List ℕ) → IsOrder slots ks → (k : ℕ) (x : Limb) → limbs slots k ≡ Some x → IsIn ks k
-limb_in slots ks order k x is = elim (node_at slots k) as (λ o. node_at slots k ≡ o → option_map limb_of o ≡ Some x → IsIn ks k) [
-  | None ↦ λ e w. absurd (let z : ◌≡◌ {A = Option Limb} None (Some x) = w in cc)
-  | Some n ↦ λ e w. order.all k n e
-] refl is
-
--- a walk has passed the run of deeper keys after the top, and has come to a key that is not deeper, or to the end
-pub record PassesRun (slots : Slots) (top depth : ℕ) (at : Option ℕ) (front run back : List ℕ) : Type 0 where
+-- a walk has passed these keys, which are deeper than the top, and comes to this one
+pub record HasPassed (slots : Slots) (top depth : ℕ) (at : Option ℕ) (run : List ℕ) : Type 0 where
+  pub front : List ℕ
+  pub back : List ℕ
   pub forest : IsForest slots (front ++ top ∷ (run ++ back))
   pub at_is : at ≡ first_of back None
   pub deeper : (k : ℕ) (x : Limb) → IsIn run k → limbs slots k ≡ Some x → depth < x.depth
-  pub stops : (b : ℕ) (x : Limb) → at ≡ Some b → limbs slots b ≡ Some x → x.depth ≤ depth
-  pub limb : Limb
-  pub at_top : limbs slots top ≡ Some limb
-  pub depth_is : limb.depth ≡ depth
 
--- a key of the run is of the top's run, in the order of the list
-run_is_run : (slots : Slots) (top depth : ℕ) (at : Option ℕ) (front run back : List ℕ) (h : PassesRun slots top depth at front run back) (k : ℕ)
-    → IsIn run k → IsInRun (limbs slots) (position (front ++ top ∷ (run ++ back))) top k
-run_is_run slots top depth at front run back h k i =
-    let once = h.forest.order.once in
-    let n = in_list slots (front ++ top ∷ (run ++ back)) h.forest.order k (in_right front (top ∷ (run ++ back)) k (inr (in_left run back k i))) in
-    let t = pos_top front top run back once in
-    let r = pos_run front top run back once k i in
-    let r0 = r.0 in
-    let r1 = r.1 in
-    let is_k : limbs slots k ≡ Some (limb_of n.0) = ap (option_map limb_of) n.1 in
-    let d : depth < n.0.depth = h.deeper k (limb_of n.0) i is_k in
-    let di = h.depth_is in
+-- the walk before its first step
+pub passed_first : (slots : Slots) (ks : List ℕ) (top : ℕ) (node : Node) → IsForest slots ks → node_at slots top ≡ Some node → HasPassed slots top node.depth node.next []
+passed_first slots ks top node forest at =
+    let p = parted ks top (forest.order.all top node at) in
+    let f : IsForest slots (p.front ++ top ∷ p.back) = subst (λ (z : List ℕ). IsForest slots z) p.is forest in
+    record { front = p.front; back = p.back; forest = f; at_is = (neighbours_at slots p.front top p.back node f.order at).1; deeper = λ k x i. absurd i }
+
+-- one key more
+pub passed_more : (slots : Slots) (top depth key : ℕ) (at : Option ℕ) (node : Node) (run : List ℕ) → HasPassed slots top depth at run → at ≡ Some key → node_at slots key ≡ Some node → depth < node.depth
+    → HasPassed slots top depth node.next (run ++ key ∷ [])
+passed_more slots top depth key at node run c is_key at_key deep =
+    let r = begins_with c.back key (sym c.at_is ∙ is_key) in
+    let near : IsOrder slots ((c.front ++ top ∷ run) ++ key ∷ r.0) =
+    subst (λ (z : List ℕ). IsOrder slots z) (ap (λ (z : List ℕ). c.front ++ top ∷ (run ++ z)) r.1 ∙ sym (append_assoc c.front (top ∷ run) (key ∷ r.0))) c.forest.order in
     record {
-      top = h.limb;
-      at_top = h.at_top;
-      limb = limb_of n.0;
-      at_limb = is_k;
-      after = omega (arith, t, r0);
-      deeper = omega (arith, d, di);
-      between = λ b y is lo hi. elim (stands front top run back b (limb_in slots (front ++ top ∷ (run ++ back)) h.forest.order b y is)) [
-        | in_front j ↦ absurd (let q = pos_front front top run back once b j in omega (arith, q, lo, t))
-        | is_top e ↦ absurd (
-            let q : position (front ++ top ∷ (run ++ back)) top ≡ position (front ++ top ∷ (run ++ back)) b = ap (position (front ++ top ∷ (run ++ back))) e in
-            omega (arith, q, lo))
-        | in_run j ↦ (let q = h.deeper b y j is in omega (arith, q, di))
-        | in_back j ↦ absurd (let q = pos_back front top run back once b j in omega (arith, q, hi, r1))
+      front = c.front;
+      back = r.0;
+      forest = subst (λ (z : List ℕ). IsForest slots (c.front ++ top ∷ z)) (ap (λ (z : List ℕ). run ++ z) r.1 ∙ sym (append_assoc run (key ∷ []) r.0)) c.forest;
+      at_is = (neighbours_at slots (c.front ++ top ∷ run) key r.0 node near at_key).1;
+      deeper = λ k x i is. elim (in_parts run (key ∷ []) k i) [
+        | inl l ↦ c.deeper k x l is
+        | inr here ↦ elim here [
+          | inl ke ↦ (let d : x.depth ≡ node.depth = ap (λ (z : Limb). z.depth) (one_limb (limbs slots) k is (sym (ap (limbs slots) ke) ∙ ap (option_map limb_of) at_key)) in omega (arith, d, deep))
+          | inr none ↦ absurd none
+        ]
       ];
     }
 
--- and the other way round
-run_from_run : (slots : Slots) (top depth : ℕ) (at : Option ℕ) (front run back : List ℕ) (h : PassesRun slots top depth at front run back) (k : ℕ)
-    → IsInRun (limbs slots) (position (front ++ top ∷ (run ++ back))) top k → IsIn run k
-run_from_run slots top depth at front run back h k r =
-    let once = h.forest.order.once in
-    let t = pos_top front top run back once in
-    let after = r.after in
-    let di = h.depth_is in
-    let same_top : r.top ≡ h.limb = one_limb (limbs slots) top r.at_top h.at_top in
-    let dt : r.top.depth ≡ h.limb.depth = ap (λ (z : Limb). z.depth) same_top in
-    let rd = r.deeper in
-    elim (stands front top run back k (limb_in slots (front ++ top ∷ (run ++ back)) h.forest.order k r.limb r.at_limb)) [
-      | in_front j ↦ absurd (let q = pos_front front top run back once k j in omega (arith, q, after, t))
-      | is_top e ↦ absurd (
-          let q : position (front ++ top ∷ (run ++ back)) top ≡ position (front ++ top ∷ (run ++ back)) k = ap (position (front ++ top ∷ (run ++ back))) e in
-          omega (arith, q, after))
-      | in_run j ↦ j
-      | in_back j ↦ absurd (
-          elim back as (λ (bs : List ℕ). back ≡ bs → ⊥) [
-            | [] ↦ λ e. subst (λ (z : List ℕ). IsIn z k) e j
-            | b ∷ bs ↦ λ e.
-                let i_b : IsIn back b = subst (λ (z : List ℕ). IsIn z b) (sym e) (inl refl) in
-                let nb = in_list slots (front ++ top ∷ (run ++ back)) h.forest.order b (in_right front (top ∷ (run ++ back)) b (inr (in_right run back b i_b))) in
-                let is_b : limbs slots b ≡ Some (limb_of nb.0) = ap (option_map limb_of) nb.1 in
-                let s : nb.0.depth ≤ depth = h.stops b (limb_of nb.0) (h.at_is ∙ ap (λ (z : List ℕ). first_of z None) e) is_b in
-                let pb = pos_back front top run back once b i_b in
-                let pk = pos_back front top run back once k j in
-                let b_here : position back b ≡ 0 = ap (λ (z : List ℕ). position z b) e ∙ position_here b bs b refl in
-                elim (cases_eq b k) [
-                  | inl bk ↦
-                      let same : limb_of nb.0 ≡ r.limb = one_limb (limbs slots) b is_b (ap (limbs slots) bk ∙ r.at_limb) in
-                      let ds : nb.0.depth ≡ r.limb.depth = ap (λ (z : Limb). z.depth) same in
-                      omega (arith, s, ds, rd, dt, di)
-                  | inr ne ↦
-                      let k_there : position back k ≡ position bs k + 1 = ap (λ (z : List ℕ). position z k) e ∙ position_further b bs k ne in
-                      let q = r.between b (limb_of nb.0) is_b (omega (arith, t, pb)) (omega (arith, pb, pk, b_here, k_there)) in
-                      omega (arith, q, s, dt, di)
-                ]
-          ] refl)
-    ]
+-- the walk has passed fewer keys than there are slots
+pub passed_ends : (slots : Slots) (top depth : ℕ) (at : Option ℕ) (run : List ℕ) → HasPassed slots top depth at run → length run < length slots
+passed_ends slots top depth at run c =
+    let fit = order_fits slots (c.front ++ top ∷ (run ++ c.back)) c.forest.order in
+    let l : length (c.front ++ top ∷ (run ++ c.back)) ≡ length c.front + length (top ∷ (run ++ c.back)) = length-append c.front (top ∷ (run ++ c.back)) in
+    let m : length (top ∷ (run ++ c.back)) ≡ length (run ++ c.back) + 1 = omega arith in
+    let n : length (run ++ c.back) ≡ length run + length c.back = length-append run c.back in
+    omega (arith, fit, l, m, n)
 
--- what the walk has passed is what descends from the top
-pub run_leads : (slots : Slots) (top depth : ℕ) (at : Option ℕ) (front run back : List ℕ) → PassesRun slots top depth at front run back → (k : ℕ) → Leads (parent_at (limbs slots)) k top ↔ IsIn run k
-run_leads slots top depth at front run back h k =
-    let d = descendants (limbs slots) (position (front ++ top ∷ (run ++ back))) h.forest.tree top k in (
-      λ l. run_from_run slots top depth at front run back h k (d.0 l),
-      λ i. d.1 (run_is_run slots top depth at front run back h k i),
-    )
+-- the next key has its node
+pub passed_there : (slots : Slots) (top depth key : ℕ) (at : Option ℕ) (run : List ℕ) → HasPassed slots top depth at run → at ≡ Some key → node_at slots key ≢ None
+passed_there slots top depth key at run c is_key none =
+    let i : IsIn c.back key = first_in c.back key (sym c.at_is ∙ is_key) in
+    let n = in_list slots (c.front ++ top ∷ (run ++ c.back)) c.forest.order key (in_right c.front (top ∷ (run ++ c.back)) key (inr (in_right run c.back key i))) in
+    no_some n.0 (sym none ∙ n.1)
+
+-- the walk has come to a key that is not deeper, or to the end
+module _ (slots : Slots) (top : ℕ) (at : Option ℕ) (run : List ℕ) (head : Limb) (c : HasPassed slots top head.depth at run) (stops : Stops (limbs slots) head.depth at) (at_top : limbs slots top ≡ Some head) where
+  abbrev all : List ℕ
+  all = c.front ++ top ∷ (run ++ c.back)
+
+  -- a key of the run is of the top's run, in the order of the list
+  run_is_run : (k : ℕ) → IsIn run k → IsInRun (limbs slots) (position all) top k
+  run_is_run k i =
+      let once = c.forest.order.once in
+      let n = in_list slots all c.forest.order k (in_right c.front (top ∷ (run ++ c.back)) k (inr (in_left run c.back k i))) in
+      let t = pos_top c.front top run c.back once in
+      let r = pos_run c.front top run c.back once k i in
+      let r0 = r.0 in
+      let r1 = r.1 in
+      let is_k : limbs slots k ≡ Some (limb_of n.0) = ap (option_map limb_of) n.1 in
+      record {
+        top = head;
+        at_top = at_top;
+        limb = limb_of n.0;
+        at_limb = is_k;
+        after = omega (arith, t, r0);
+        deeper = c.deeper k (limb_of n.0) i is_k;
+        between = λ b y is lo hi. elim (stands c.front top run c.back b (limb_in slots all c.forest.order b y is)) [
+          | in_front j ↦ absurd (let q = pos_front c.front top run c.back once b j in omega (arith, q, lo, t))
+          | is_top e ↦ absurd (let q : position all top ≡ position all b = ap (position all) e in omega (arith, q, lo))
+          | in_run j ↦ c.deeper b y j is
+          | in_back j ↦ absurd (let q = pos_back c.front top run c.back once b j in omega (arith, q, hi, r1))
+        ];
+      }
+
+  -- and the other way round
+  run_from_run : (k : ℕ) → IsInRun (limbs slots) (position all) top k → IsIn run k
+  run_from_run k r =
+      let once = c.forest.order.once in
+      let t = pos_top c.front top run c.back once in
+      let after = r.after in
+      let dt : r.top.depth ≡ head.depth = ap (λ (z : Limb). z.depth) (one_limb (limbs slots) top r.at_top at_top) in
+      let rd = r.deeper in
+      elim (stands c.front top run c.back k (limb_in slots all c.forest.order k r.limb r.at_limb)) [
+        | in_front j ↦ absurd (let q = pos_front c.front top run c.back once k j in omega (arith, q, after, t))
+        | is_top e ↦ absurd (let q : position all top ≡ position all k = ap (position all) e in omega (arith, q, after))
+        | in_run j ↦ j
+        | in_back j ↦ absurd (
+            elim c.back as (λ (bs : List ℕ). c.back ≡ bs → ⊥) [
+              | [] ↦ λ e. subst (λ (z : List ℕ). IsIn z k) e j
+              | b ∷ bs ↦ λ e.
+                  let i_b : IsIn c.back b = subst (λ (z : List ℕ). IsIn z b) (sym e) (inl refl) in
+                  let nb = in_list slots all c.forest.order b (in_right c.front (top ∷ (run ++ c.back)) b (inr (in_right run c.back b i_b))) in
+                  let is_b : limbs slots b ≡ Some (limb_of nb.0) = ap (option_map limb_of) nb.1 in
+                  let s : nb.0.depth ≤ head.depth = stops b (limb_of nb.0) (c.at_is ∙ ap (λ (z : List ℕ). first_of z None) e) is_b in
+                  let pb = pos_back c.front top run c.back once b i_b in
+                  let pk = pos_back c.front top run c.back once k j in
+                  let b_here : position c.back b ≡ 0 = ap (λ (z : List ℕ). position z b) e ∙ position_here b bs b refl in
+                  elim (cases_eq b k) [
+                    | inl bk ↦
+                        let ds : nb.0.depth ≡ r.limb.depth = ap (λ (z : Limb). z.depth) (one_limb (limbs slots) b is_b (ap (limbs slots) bk ∙ r.at_limb)) in
+                        omega (arith, s, ds, rd, dt)
+                    | inr ne ↦
+                        let k_there : position c.back k ≡ position bs k + 1 = ap (λ (z : List ℕ). position z k) e ∙ position_further b bs k ne in
+                        let q = r.between b (limb_of nb.0) is_b (omega (arith, t, pb)) (omega (arith, pb, pk, b_here, k_there)) in
+                        omega (arith, q, s, dt)
+                  ]
+            ] refl)
+      ]
+
+  -- what the walk has passed is what descends from the top
+  pub run_leads : (k : ℕ) → Leads (parent_at (limbs slots)) k top ↔ IsIn run k
+  run_leads k =
+      let d = descendants (limbs slots) (position all) c.forest.tree top k in
+      (λ l. run_from_run k (d.0 l), λ i. d.1 (run_is_run k i))
 
 -- the deeper keys after the top are taken out up to this one
-pub record CutSoFar (old cur : Slots) (top depth : ℕ) (at : Option ℕ) (count : ℕ) : Type 0 where
-  pub front : List ℕ
+pub record CutSoFar (old cur : Slots) (top depth : ℕ) (at : Option ℕ) : Type 0 where
   pub run : List ℕ
-  pub back : List ℕ
-  pub forest : IsForest old (front ++ top ∷ (run ++ back))
-  pub order : IsOrder cur (front ++ top ∷ back)
-  pub at_is : at ≡ first_of back None
-  pub count_is : length run ≡ count
+  pub passed : HasPassed old top depth at run
+  pub order : IsOrder cur (passed.front ++ top ∷ passed.back)
   pub gone : (k : ℕ) → IsIn run k → node_at cur k ≡ None
   pub limbs_same : (k : ℕ) → ¬ (IsIn run k) → limbs cur k ≡ limbs old k
   pub spots_gone : (k : ℕ) → IsIn run k → spots cur k ≡ left_spot (spots old k)
   pub values_same : (k : ℕ) → ¬ (IsIn run k) → values cur k ≡ values old k
   pub marks_same : (k : ℕ) → ¬ (IsIn run k) → marks cur k ≡ marks old k
   pub spots_same : (k : ℕ) → ¬ (IsIn run k) → spots cur k ≡ spots old k
-  pub deeper : (k : ℕ) (x : Limb) → IsIn run k → limbs old k ≡ Some x → depth < x.depth
 
--- the walk has come to a key that is not deeper, or to the end
-pub record HasCut (old cur : Slots) (top depth : ℕ) (at : Option ℕ) (count : ℕ) : Type 0 where
-  pub cut : CutSoFar old cur top depth at count
-  pub stops : (b : ℕ) (x : Limb) → at ≡ Some b → limbs old b ≡ Some x → x.depth ≤ depth
-  pub limb : Limb
-  pub at_top : limbs old top ≡ Some limb
-  pub depth_is : limb.depth ≡ depth
-
--- what was taken out is what descends from the top
-pub cut_is : (old cur : Slots) (top depth : ℕ) (at : Option ℕ) (count : ℕ) (h : HasCut old cur top depth at count) (k : ℕ) → Leads (parent_at (limbs old)) k top ↔ IsIn h.cut.run k
-cut_is old cur top depth at count h k =
-    run_leads old top depth at h.cut.front h.cut.run h.cut.back
-    (record { forest = h.cut.forest; at_is = h.cut.at_is; deeper = h.cut.deeper; stops = h.stops; limb = h.limb; at_top = h.at_top; depth_is = h.depth_is }) k
-
--- and the rest is a forest
-pub cut_forest : (old cur : Slots) (top depth : ℕ) (at : Option ℕ) (count : ℕ) (h : HasCut old cur top depth at count) → IsForest cur (h.cut.front ++ top ∷ h.cut.back)
-cut_forest old cur top depth at count h =
-    let c = h.cut in
-    let once = c.forest.order.once in
-    let once_cur = c.order.once in
+-- what was taken out is what descends from the top, and the rest is a forest
+pub pruned : (old cur : Slots) (top : ℕ) (at : Option ℕ) (head : Node) → CutSoFar old cur top head.depth at → Stops (limbs old) head.depth at → node_at old top ≡ Some head → Prunes top old cur
+pruned old cur top at head c stops at_top =
+    let front = c.passed.front in
+    let back = c.passed.back in
+    let once = c.passed.forest.order.once in
+    let leads = run_leads old top at c.run (limb_of head) c.passed stops (ap (option_map limb_of) at_top) in
     let sheds : Sheds (limbs old) (limbs cur) = record {
       left = λ a. elim (is_in_or c.run a) [ inl i ↦ inl (ap (option_map limb_of) (c.gone a i)) | inr out ↦ inr (c.limbs_same a out) ];
       closed = λ a p x is up. elim (is_in_or c.run p) [
         | inl i ↦ absurd (
             elim (is_in_or c.run a) [
-              | inl ia ↦ (let w : ◌≡◌ {A = Option Limb} None (Some x) = sym (ap (option_map limb_of) (c.gone a ia)) ∙ is in cc)
-              | inr out ↦
-                  let was : limbs old a ≡ Some x = sym (c.limbs_same a out) ∙ is in
-                  let up_a : parent_at (limbs old) a ≡ Some p = parent_is (limbs old) a x was ∙ up in
-                  out ((cut_is old cur top depth at count h a).0 (steps up_a ((cut_is old cur top depth at count h p).1 i)))
+              | inl ia ↦ no_some x (sym (ap (option_map limb_of) (c.gone a ia)) ∙ is)
+              | inr out ↦ out ((leads a).0 (steps (parent_is (limbs old) a x (sym (c.limbs_same a out) ∙ is) ∙ up) ((leads p).1 i)))
             ])
         | inr out ↦ c.limbs_same p out
       ];
     } in
     let moved : (a : ℕ) (x : Limb) → limbs cur a ≡ Some x
-    → ((position (c.front ++ top ∷ (c.run ++ c.back)) a ≤ length c.front) × (position (c.front ++ top ∷ c.back) a ≡ position (c.front ++ top ∷ (c.run ++ c.back)) a))
-    ⊎ ((length c.front + length c.run < position (c.front ++ top ∷ (c.run ++ c.back)) a) × (position (c.front ++ top ∷ c.back) a + length c.run ≡ position (c.front ++ top ∷ (c.run ++ c.back)) a)) =
-    λ a x is. elim (in_parts c.front (top ∷ c.back) a (limb_in cur (c.front ++ top ∷ c.back) c.order a x is)) [
+    → ((position (front ++ top ∷ (c.run ++ back)) a < length front + 1) × (position (front ++ top ∷ back) a ≡ position (front ++ top ∷ (c.run ++ back)) a))
+    ⊎ ((length front + 1 + length c.run ≤ position (front ++ top ∷ (c.run ++ back)) a) × (position (front ++ top ∷ back) a + length c.run ≡ position (front ++ top ∷ (c.run ++ back)) a)) =
+    λ a x is. elim (in_parts front (top ∷ back) a (limb_in cur (front ++ top ∷ back) c.order a x is)) [
       | inl i ↦
-          let p = pos_front c.front top c.run c.back once a i in
-          inl (omega (arith, p), position_left c.front (top ∷ c.back) a i ∙ sym (position_left c.front (top ∷ (c.run ++ c.back)) a i))
+          let p = pos_front front top c.run back once a i in
+          inl (omega (arith, p), position_left front (top ∷ back) a i ∙ sym (position_left front (top ∷ (c.run ++ back)) a i))
       | inr r ↦ elim r [
         | inl e ↦
-            let p : position (c.front ++ top ∷ (c.run ++ c.back)) a ≡ length c.front = sym (ap (position (c.front ++ top ∷ (c.run ++ c.back))) e) ∙ pos_top c.front top c.run c.back once in
-            let q : position (c.front ++ top ∷ c.back) a ≡ length c.front = sym (ap (position (c.front ++ top ∷ c.back)) e) ∙ pos_top c.front top [] c.back once_cur in
+            let p : position (front ++ top ∷ (c.run ++ back)) a ≡ length front = sym (ap (position (front ++ top ∷ (c.run ++ back))) e) ∙ pos_top front top c.run back once in
+            let q : position (front ++ top ∷ back) a ≡ length front = sym (ap (position (front ++ top ∷ back)) e) ∙ pos_top front top [] back c.order.once in
             inl (omega (arith, p), q ∙ sym p)
         | inr j ↦
-            let p = pos_back c.front top c.run c.back once a j in
-            let q = pos_back c.front top [] c.back once_cur a j in
+            let p = pos_back front top c.run back once a j in
+            let q = pos_back front top [] back c.order.once a j in
             inr (omega (arith, p), omega (arith, p, q))
       ]
     ] in
-    let same : SameOrder (limbs cur) (position (c.front ++ top ∷ (c.run ++ c.back))) (position (c.front ++ top ∷ c.back)) = record {
-      onward = λ a b x y is_a is_b lt. elim (moved a x is_a) [
-        | inl r ↦ (let r0 = r.0 in let r1 = r.1 in elim (moved b y is_b) [ inl q ↦ (let q0 = q.0 in let q1 = q.1 in omega (arith, lt, r0, r1, q0, q1)) | inr q ↦ (let q0 = q.0 in let q1 = q.1 in omega (arith, lt, r0, r1, q0, q1)) ])
-        | inr r ↦ (let r0 = r.0 in let r1 = r.1 in elim (moved b y is_b) [ inl q ↦ (let q0 = q.0 in let q1 = q.1 in omega (arith, lt, r0, r1, q0, q1)) | inr q ↦ (let q0 = q.0 in let q1 = q.1 in omega (arith, lt, r0, r1, q0, q1)) ])
-      ];
-      back = λ a b x y is_a is_b lt. elim (moved a x is_a) [
-        | inl r ↦ (let r0 = r.0 in let r1 = r.1 in elim (moved b y is_b) [ inl q ↦ (let q0 = q.0 in let q1 = q.1 in omega (arith, lt, r0, r1, q0, q1)) | inr q ↦ (let q0 = q.0 in let q1 = q.1 in omega (arith, lt, r0, r1, q0, q1)) ])
-        | inr r ↦ (let r0 = r.0 in let r1 = r.1 in elim (moved b y is_b) [ inl q ↦ (let q0 = q.0 in let q1 = q.1 in omega (arith, lt, r0, r1, q0, q1)) | inr q ↦ (let q0 = q.0 in let q1 = q.1 in omega (arith, lt, r0, r1, q0, q1)) ])
-      ];
-    } in
     record {
-      order = c.order;
-      tree = tree_sheds (limbs old) (limbs cur) (position (c.front ++ top ∷ (c.run ++ c.back))) (position (c.front ++ top ∷ c.back)) c.forest.tree sheds same;
+      gone = λ k l. c.gone k ((leads k).0 l);
+      spots_gone = λ k l. c.spots_gone k ((leads k).0 l);
+      limbs_kept = λ k off. c.limbs_same k (λ i. off ((leads k).1 i));
+      values_kept = λ k off. c.values_same k (λ i. off ((leads k).1 i));
+      marks_kept = λ k off. c.marks_same k (λ i. off ((leads k).1 i));
+      spots_kept = λ k off. c.spots_same k (λ i. off ((leads k).1 i));
+      front = front;
+      rest = c.run ++ back;
+      left = back;
+      was = c.passed.forest;
+      forest = record {
+        order = c.order;
+        tree =
+            tree_sheds (limbs old) (limbs cur) (position (front ++ top ∷ (c.run ++ back))) (position (front ++ top ∷ back)) c.passed.forest.tree sheds
+            (order_back (limbs cur) (position (front ++ top ∷ (c.run ++ back))) (position (front ++ top ∷ back)) (length front + 1) (length c.run) moved);
+      };
     }
-
--- the walk stops where there is no key
-pub cut_at_end : (old cur : Slots) (top depth : ℕ) (count : ℕ) (node : Node) → CutSoFar old cur top depth None count → node_at old top ≡ Some node → node.depth ≡ depth → HasCut old cur top depth None count
-cut_at_end old cur top depth count node c at d = record {
-  cut = c;
-  stops = λ b x e is. absurd (let w : ◌≡◌ {A = Option ℕ} None (Some b) = e in cc);
-  limb = limb_of node;
-  at_top = ap (option_map limb_of) at;
-  depth_is = d;
-}
-
-pub pruned : (old cur : Slots) (top depth : ℕ) (at : Option ℕ) (count : ℕ) → HasCut old cur top depth at count → Prunes top old cur
-pruned old cur top depth at count h = record {
-  gone = λ k l. h.cut.gone k ((cut_is old cur top depth at count h k).0 l);
-  spots_gone = λ k l. h.cut.spots_gone k ((cut_is old cur top depth at count h k).0 l);
-  limbs_kept = λ k off. h.cut.limbs_same k (λ i. off ((cut_is old cur top depth at count h k).1 i));
-  values_kept = λ k off. h.cut.values_same k (λ i. off ((cut_is old cur top depth at count h k).1 i));
-  marks_kept = λ k off. h.cut.marks_same k (λ i. off ((cut_is old cur top depth at count h k).1 i));
-  spots_kept = λ k off. h.cut.spots_same k (λ i. off ((cut_is old cur top depth at count h k).1 i));
-  front = h.cut.front;
-  rest = h.cut.run ++ h.cut.back;
-  left = h.cut.back;
-  was = h.cut.forest;
-  forest = cut_forest old cur top depth at count h;
-}

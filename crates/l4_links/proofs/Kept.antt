@@ -1,5 +1,5 @@
 -- What the nodes keep, after each operation.
-use Rattle.std.proofs.Common.{◌≡◌, ◌≢◌, ℕ, Bool, true, false, ◌&&◌, ◌+◌, List, [], ◌∷◌, ◌++◌, Option, Some, None, refl, sym, ap, ◌∙◌, subst, arith, inl, inr}
+use Rattle.std.proofs.Common.{◌≡◌, ◌≢◌, ℕ, Bool, true, false, ◌&&◌, ◌+◌, ◌≤◌, List, [], ◌∷◌, ◌++◌, Option, Some, None, refl, sym, ap, ◌∙◌, subst, arith, inl, inr}
 use Rattle.std.proofs.lemmas.Bool.{cases_eq}
 use Rattle.std.specs.Option.{option_map, option_and_then}
 use Rattle.l4_fpage.specs.Rights.{RightsSet, common, set_of_bits, bits_of}
@@ -7,21 +7,39 @@ use Rattle.l4_fpage.proofs.Eight.{bits_below, set_of_sum}
 use Rattle.l4_nodes.specs.declared.nodes.Node.{Node}
 use Rattle.l4_nodes.specs.declared.nodes.Slot.{Slot}
 use Rattle.l4_links.specs.Leads.{Leads, steps}
-use Rattle.l4_links.specs.Inside.Trees.{Limb, IsTree, parent_at, Sprouts, Rises}
+use Rattle.l4_links.specs.Inside.Trees.{Limb, parent_at, Sprouts, Rises}
 use Rattle.l4_links.specs.Inside.Orders.{Link, IsLinked, first_of, last_of, position}
 use Rattle.l4_nodes.specs.Slots.{Slots, slot_at, node_at, SetsWanted}
-use Rattle.l4_links.specs.Inside.Nodes.{limbs, links, values, marks, Marks, Worth, capped_worth, IsOrder, IsForest, IsLow, IsMarked, IsStamped, AreUnmarked, HasMarks, HasSeen, Ends, Comes, Prunes, Clears, CapsBelow, IsSame}
+use Rattle.l4_links.specs.Inside.Nodes.{limbs, links, values, marks, Marks, Worth, capped_worth, IsOrder, IsForest, IsLow, IsMarked, IsStamped, AreUnmarked, HasLow, HasMarks, NoSource, HasSeen, sources, Comes, Prunes, Clears, CapsBelow, IsSame}
 use Rattle.l4_links.specs.Inside.Keeping.{IsWithin, LiesWithin, IsFresh, BeginsWalk, sources_walk, IsSound, IsLive}
-use Rattle.l4_links.proofs.Writes.{stamped_same, limb_of, worth_of, marks_of}
-use Rattle.l4_links.proofs.Linking.{parted, link_at, linked_same, last_some}
-use Rattle.l4_links.proofs.Neighbours.{order_same_nodes, in_list}
+use Rattle.l4_links.proofs.Writes.{no_some, same_some, map_from, stamped_same, limb_of, link_of, worth_of, marks_of}
+use Rattle.l4_links.proofs.Linking.{parted, link_at, last_some}
+use Rattle.l4_links.proofs.Neighbours.{in_list}
+pub use Rattle.l4_links.proofs.Neighbours.{forest_links}
 use Rattle.l4_links.proofs.Runs.{run_from_leads, parent_is}
-use Rattle.l4_links.proofs.Walking.{low_stays, node_from_limb}
-use Rattle.l4_links.proofs.Cutting.{limb_in}
+use Rattle.l4_links.proofs.Walking.{low_stays, KeepsMarks, marks_same, seen_same}
+
+-- no node has a mark of this stamp
+abbrev NoneMarked : ℕ → Slots → Type 0
+NoneMarked stamp slots = (k : ℕ) (m : Marks) → marks slots k ≡ Some m → ¬ (IsMarked stamp m.mark) × ¬ (IsMarked stamp m.seen)
+
+-- so none says anything that is wrong
+none_marks : (Holds : ℕ → Type 0) (slots : Slots) (ks : List ℕ) (stamp : ℕ) → IsForest slots ks → NoneMarked stamp slots → HasMarks Holds stamp slots
+none_marks Holds slots ks stamp forest none = record { keys = ks; forest = forest; marked = λ k n at m. absurd ((none k (marks_of n) (ap (option_map marks_of) at)).0 m) }
+
+none_seen : (slots : Slots) (ks : List ℕ) (stamp : ℕ) → IsForest slots ks → NoneMarked stamp slots → HasSeen stamp slots
+none_seen slots ks stamp forest none = record {
+  marks = none_marks (NoSource slots) slots ks stamp forest none;
+  seen = λ k n at m. absurd ((none k (marks_of n) (ap (option_map marks_of) at)).1 m);
+}
 
 -- where no walk has left a mark none is of the first stamp, and none above any
-never_first : (stamp mark : ℕ) → stamp ≡ 1 → mark ≡ 0 → ¬ (IsMarked stamp mark)
-never_first stamp mark one zero m = let e = m.same in omega (arith, one, zero, e)
+first_none : (slots : Slots) (stamp : ℕ) → stamp ≡ 1 → AreUnmarked slots → NoneMarked stamp slots
+first_none slots stamp one u k m is =
+    let z = u k m is in
+    let z0 = z.0 in
+    let z1 = z.1 in
+    (λ d. (let e = d.same in omega (arith, one, z0, e)), λ d. (let e = d.same in omega (arith, one, z1, e)))
 
 stamped_unmarked : (slots : Slots) (stamp : ℕ) → AreUnmarked slots → IsStamped stamp slots
 stamped_unmarked slots stamp u some k m is =
@@ -31,7 +49,7 @@ stamped_unmarked slots stamp u some k m is =
     (omega (arith, z0), omega (arith, z1))
 
 -- no node has a fresh stamp
-pub fresh_none : (slots : Slots) (stamp fresh : ℕ) → IsStamped stamp slots → IsFresh stamp fresh → (k : ℕ) (m : Marks) → marks slots k ≡ Some m → ¬ (IsMarked fresh m.mark) × ¬ (IsMarked fresh m.seen)
+fresh_none : (slots : Slots) (stamp fresh : ℕ) → IsStamped stamp slots → IsFresh stamp fresh → NoneMarked fresh slots
 fresh_none slots stamp fresh s f k m is = elim f [
   | inl zero ↦ (
     λ d. (let one = d.some in omega (arith, one, zero)),
@@ -58,21 +76,6 @@ stamped_fresh slots stamp fresh s f some k m is = elim f [
       (omega (arith, b0, next), omega (arith, b1, next))
 ]
 
-pub fresh_marks : (slots : Slots) (ks : List ℕ) (stamp fresh : ℕ) (cap : RightsSet) → IsForest slots ks → IsStamped stamp slots → IsFresh stamp fresh → HasMarks cap fresh slots
-fresh_marks slots ks stamp fresh cap forest s f = record {
-  keys = ks;
-  forest = forest;
-  marked = λ k n at m. absurd ((fresh_none slots stamp fresh s f k (marks_of n) (ap (option_map marks_of) at)).0 m);
-}
-
-pub fresh_seen : (slots : Slots) (ks : List ℕ) (stamp fresh : ℕ) → IsForest slots ks → IsStamped stamp slots → IsFresh stamp fresh → HasSeen fresh slots
-fresh_seen slots ks stamp fresh forest s f = record {
-  keys = ks;
-  forest = forest;
-  marked = λ k n at m. absurd ((fresh_none slots stamp fresh s f k (marks_of n) (ap (option_map marks_of) at)).0 m);
-  seen = λ k n at m. absurd ((fresh_none slots stamp fresh s f k (marks_of n) (ap (option_map marks_of) at)).1 m);
-}
-
 -- with a fresh stamp all marks are right
 pub sound_fresh : (slots : Slots) (first : Option ℕ) (stamp fresh walk : ℕ) (ks : List ℕ) → IsForest slots ks → first_of ks None ≡ first → IsWithin slots → IsStamped stamp slots → IsFresh stamp fresh → IsSound slots first fresh walk
 sound_fresh slots first stamp fresh walk ks forest first_is within s f = record {
@@ -81,8 +84,8 @@ sound_fresh slots first stamp fresh walk ks forest first_is within s f = record 
   first_is = first_is;
   within = within;
   stamped = stamped_fresh slots stamp fresh s f;
-  capped = λ _. fresh_marks slots ks stamp fresh (set_of_bits walk) forest s f;
-  sought = λ _. fresh_seen slots ks stamp fresh forest s f;
+  capped = λ _. none_marks (HasLow (set_of_bits walk) slots) slots ks fresh forest (fresh_none slots stamp fresh s f);
+  sought = λ _. none_seen slots ks fresh forest (fresh_none slots stamp fresh s f);
 }
 
 pub sound_live : (slots : Slots) (first : Option ℕ) (stamp fresh walk : ℕ) → IsLive slots first stamp → IsFresh stamp fresh → IsSound slots first fresh walk
@@ -95,71 +98,49 @@ live_of slots first stamp walk s = record { keys = s.keys; forest = s.forest; fi
 pub sound_empty : (walk : ℕ) → IsSound [] None 1 walk
 sound_empty walk =
     let forest : IsForest [] [] = record {
-      order = record { once = tt; linked = tt; all = λ k n at. absurd (let w : ◌≡◌ {A = Option Node} None (Some n) = at in cc) };
-      tree = record {
-        apart = λ a b x y is_a is_b e. absurd (let w : ◌≡◌ {A = Option Limb} None (Some x) = is_a in cc);
-        top = λ a x is e. absurd (let w : ◌≡◌ {A = Option Limb} None (Some x) = is in cc);
-        under = λ a p x is up. absurd (let w : ◌≡◌ {A = Option Limb} None (Some x) = is in cc);
-      };
+      order = record { once = tt; linked = tt; all = λ k n at. no_some n at };
+      tree = record { apart = λ a b x y is_a is_b e. no_some x is_a; top = λ a x is e. no_some x is; under = λ a p x is up. no_some x is };
     } in
     record {
       keys = [];
       forest = forest;
       first_is = refl;
-      within = λ k p x l h is up v w. absurd (let z : ◌≡◌ {A = Option Limb} None (Some x) = is in cc);
-      stamped = λ some k m is. absurd (let z : ◌≡◌ {A = Option Marks} None (Some m) = is in cc);
-      capped = λ _. record { keys = []; forest = forest; marked = λ k n at m. absurd (let w : ◌≡◌ {A = Option Node} None (Some n) = at in cc) };
-      sought = λ _. record {
-        keys = [];
-        forest = forest;
-        marked = λ k n at m. absurd (let w : ◌≡◌ {A = Option Node} None (Some n) = at in cc);
-        seen = λ k n at m. absurd (let w : ◌≡◌ {A = Option Node} None (Some n) = at in cc);
-      };
+      within = λ k p x l h is up v w. no_some x is;
+      stamped = λ some k m is. no_some m is;
+      capped = λ _. none_marks (HasLow (set_of_bits walk) []) [] [] 1 forest (λ k m is. no_some m is);
+      sought = λ _. none_seen [] [] 1 forest (λ k m is. no_some m is);
     }
 
 -- the nodes are the same, whatever blanks came or went
 module _ (a b : Slots) (same : (k : ℕ) → node_at b k ≡ node_at a k) where
-  limbs_path : limbs a ≡ limbs b
-  limbs_path = λ i k. option_map limb_of (sym (same k) i)
-
   forest_nodes : (ks : List ℕ) → IsForest a ks → IsForest b ks
-  forest_nodes ks f = record { order = order_same_nodes a b ks same f.order; tree = subst (λ (g : ℕ → Option Limb). IsTree g (position ks)) limbs_path f.tree }
+  forest_nodes ks = forest_links a b ks (λ k. ap (option_map limb_of) (same k)) (λ k. ap (option_map link_of) (same k))
+
+  within_nodes : IsWithin a → IsWithin b
+  within_nodes within k p x l h is up v w = within k p x l h (sym (ap (option_map limb_of) (same k)) ∙ is) up (sym (ap (option_map worth_of) (same k)) ∙ v) (sym (ap (option_map worth_of) (same p)) ∙ w)
+
+  stamped_nodes : (stamp : ℕ) → IsStamped stamp a → IsStamped stamp b
+  stamped_nodes stamp = stamped_same stamp a b (λ k. ap (option_map marks_of) (same k))
 
   pub live_nodes : (first : Option ℕ) (stamp : ℕ) → IsLive a first stamp → IsLive b first stamp
-  live_nodes first stamp s = record {
-    keys = s.keys;
-    forest = forest_nodes s.keys s.forest;
-    first_is = s.first_is;
-    within = λ k p x l h is up v w. s.within k p x l h (sym (ap (option_map limb_of) (same k)) ∙ is) up (sym (ap (option_map worth_of) (same k)) ∙ v) (sym (ap (option_map worth_of) (same p)) ∙ w);
-    stamped = stamped_same stamp a b (λ k. ap (option_map marks_of) (same k)) s.stamped;
-  }
+  live_nodes first stamp s = record { keys = s.keys; forest = forest_nodes s.keys s.forest; first_is = s.first_is; within = within_nodes s.within; stamped = stamped_nodes stamp s.stamped }
 
   pub sound_nodes : (first : Option ℕ) (stamp walk : ℕ) → IsSound a first stamp walk → IsSound b first stamp walk
-  sound_nodes first stamp walk s = record {
-    keys = s.keys;
-    forest = forest_nodes s.keys s.forest;
-    first_is = s.first_is;
-    within = λ k p x l h is up v w. s.within k p x l h (sym (ap (option_map limb_of) (same k)) ∙ is) up (sym (ap (option_map worth_of) (same k)) ∙ v) (sym (ap (option_map worth_of) (same p)) ∙ w);
-    stamped = stamped_same stamp a b (λ k. ap (option_map marks_of) (same k)) s.stamped;
-    capped = λ ne. (let m = s.capped ne in record {
-      keys = m.keys;
-      forest = forest_nodes m.keys m.forest;
-      marked = λ k n at mark. (let d = m.marked k n (sym (same k) ∙ at) mark in record {
-        ends = subst (λ (g : ℕ → Option Limb). Ends g m.keys k n.depth n.end) limbs_path d.ends;
-        low = λ j o at_j. d.low j o (sym (same j) ∙ at_j);
-      });
-    });
-    sought = λ e. (let m = s.sought e in record {
-      keys = m.keys;
-      forest = forest_nodes m.keys m.forest;
-      marked = λ k n at mark. (let d = m.marked k n (sym (same k) ∙ at) mark in record {
-        ends = subst (λ (g : ℕ → Option Limb). Ends g m.keys k n.depth n.end) limbs_path d.ends;
-        free = λ j lo hi z. d.free j lo hi (sym (ap (λ (o : Option Node). option_map (λ (w : Worth). w.source) (option_map worth_of o)) (same j)) ∙ z);
-      });
-      seen = λ k n at mark j l z. m.seen k n (sym (same k) ∙ at) mark j (subst (λ (g : ℕ → Option Limb). Leads (parent_at g) j k) (sym limbs_path) l)
-          (sym (ap (λ (o : Option Node). option_map (λ (w : Worth). w.source) (option_map worth_of o)) (same j)) ∙ z);
-    });
-  }
+  sound_nodes first stamp walk s =
+      let limbs_same : (k : ℕ) → limbs b k ≡ limbs a k = λ k. ap (option_map limb_of) (same k) in
+      let links_same : (k : ℕ) → links b k ≡ links a k = λ k. ap (option_map link_of) (same k) in
+      let less : (k : ℕ) → sources b k ≡ Some true → sources a k ≡ Some true = λ k e. ap (λ (o : Option Node). option_map (λ (w : Worth). w.source) (option_map worth_of o)) (sym (same k)) ∙ e in
+      let keeps : KeepsMarks stamp a b = λ k n at m. (n, sym (same k) ∙ at, m, refl, refl) in
+      let low = HasLow (set_of_bits walk) in
+      record {
+        keys = s.keys;
+        forest = forest_nodes s.keys s.forest;
+        first_is = s.first_is;
+        within = within_nodes s.within;
+        stamped = stamped_nodes stamp s.stamped;
+        capped = λ ne. marks_same (low a) (low b) a b limbs_same (λ j has n at. has n (sym (same j) ∙ at)) stamp links_same keeps (s.capped ne);
+        sought = λ e. seen_same a b stamp limbs_same links_same less keeps (λ k n at m. (n, sym (same k) ∙ at, m)) (s.sought e);
+      }
 
 pub nodes_blank : (old new : Slots) (key : ℕ) (slot : Slot) → slot.node ≡ None → slot_at old key ≡ None → slot_at new key ≡ Some slot → ((o : ℕ) → o ≢ key → slot_at new o ≡ slot_at old o) → (k : ℕ) → node_at new k ≡ node_at old k
 nodes_blank old new key slot blank vacant filled others k = elim (cases_eq k key) [
@@ -170,12 +151,7 @@ nodes_blank old new key slot blank vacant filled others k = elim (cases_eq k key
 -- the marks after a key without marks has come
 pub stamped_comes : (worth : Worth) (key : ℕ) (old new : Slots) (stamp : ℕ) → Comes worth key old new → IsStamped stamp old → IsStamped stamp new
 stamped_comes worth key old new stamp c s some k m is = elim (cases_eq k key) [
-  | inl e ↦
-      let w : ◌≡◌ {A = Option Marks} (Some (record { mark = 0; seen = 0 })) (Some m) = sym c.marks_is ∙ sym (ap (marks new) e) ∙ is in
-      let z : record { mark = 0; seen = 0 } ≡ m = cc in
-      let a : m.mark ≡ 0 = sym (ap (λ (q : Marks). q.mark) z) in
-      let b : m.seen ≡ 0 = sym (ap (λ (q : Marks). q.seen) z) in
-      (omega (arith, a), omega (arith, b))
+  | inl e ↦ subst (λ (z : Marks). (z.mark ≤ stamp) × (z.seen ≤ stamp)) (same_some (sym c.marks_is ∙ sym (ap (marks new) e) ∙ is)) (omega arith, omega arith)
   | inr ne ↦ s some k m (sym (c.marks_same k ne) ∙ is)
 ]
 
@@ -186,14 +162,11 @@ parent_stands slots ks f k p x is up = let u = f.tree.under k p x is up in (u.ab
 -- a root lies within nothing
 pub within_root : (old new : Slots) (ks : List ℕ) (worth : Worth) (key : ℕ) → IsForest old ks → IsWithin old → Rises (limbs old) (limbs new) key → Comes worth key old new → IsWithin new
 within_root old new ks worth key f within r c k p x l h is up v w = elim (cases_eq k key) [
-  | inl e ↦ absurd (
-      let y : ◌≡◌ {A = Option Limb} (Some x) (Some (record { parent = None; depth = 0 })) = sym is ∙ ap (limbs new) e ∙ r.filled in
-      let xs : x ≡ record { parent = None; depth = 0 } = cc in
-      let z : ◌≡◌ {A = Option ℕ} None (Some p) = sym (ap (λ (q : Limb). q.parent) xs) ∙ up in cc)
+  | inl e ↦ no_some p (sym (ap (λ (q : Limb). q.parent) (same_some (sym is ∙ ap (limbs new) e ∙ r.filled))) ∙ up)
   | inr ne ↦
       let was = sym (r.others k ne) ∙ is in
       let above = parent_stands old ks f k p x was up in
-      let pk : p ≢ key = λ e. (let z : ◌≡◌ {A = Option Limb} None (Some above.0) = sym r.vacant ∙ sym (ap (limbs old) e) ∙ above.1 in absurd (let q : ◌≡◌ {A = Option Limb} None (Some above.0) = z in cc)) in
+      let pk : p ≢ key = λ e. no_some above.0 (sym r.vacant ∙ sym (ap (limbs old) e) ∙ above.1) in
       within k p x l h was up (sym (c.values_same k ne) ∙ v) (sym (c.values_same p pk) ∙ w)
 ]
 
@@ -210,17 +183,12 @@ low_of_parent a r = λ i. record { r = all_with a.r r.r i; w = all_with a.w r.w 
 pub within_child : (old new : Slots) (ks : List ℕ) (parent key : ℕ) (above : Worth) (rights : RightsSet) → IsForest old ks → IsWithin old → values old parent ≡ Some above → Sprouts (limbs old) (limbs new) parent key
     → Comes (record { frame = above.frame; rights = common above.rights rights; source = false; granted = None }) key old new → IsWithin new
 within_child old new ks parent key above rights f within at s c k p x l h is up v w =
-    let new_key : (q : ℕ) (y : Limb) → limbs old q ≡ Some y → q ≢ key = λ q y old_q e. (let z : ◌≡◌ {A = Option Limb} None (Some y) = sym s.vacant ∙ sym (ap (limbs old) e) ∙ old_q in absurd (let u : ◌≡◌ {A = Option Limb} None (Some y) = z in cc)) in
+    let new_key : (q : ℕ) (y : Limb) → limbs old q ≡ Some y → q ≢ key = λ q y old_q e. no_some y (sym s.vacant ∙ sym (ap (limbs old) e) ∙ old_q) in
     elim (cases_eq k key) [
       | inl e ↦
-          let y : ◌≡◌ {A = Option Limb} (Some x) (Some (record { parent = Some parent; depth = s.above.depth + 1 })) = sym is ∙ ap (limbs new) e ∙ s.filled in
-          let xs : x ≡ record { parent = Some parent; depth = s.above.depth + 1 } = cc in
-          let z : ◌≡◌ {A = Option ℕ} (Some p) (Some parent) = sym up ∙ ap (λ (q : Limb). q.parent) xs in
-          let pp : p ≡ parent = cc in
-          let low_is : ◌≡◌ {A = Option Worth} (Some l) (Some (record { frame = above.frame; rights = common above.rights rights; source = false; granted = None })) = sym v ∙ ap (values new) e ∙ c.value_is in
-          let ls : l ≡ record { frame = above.frame; rights = common above.rights rights; source = false; granted = None } = cc in
-          let high_is : ◌≡◌ {A = Option Worth} (Some h) (Some above) = sym w ∙ ap (values new) pp ∙ c.values_same parent (new_key parent s.above s.at_parent) ∙ at in
-          let hs : h ≡ above = cc in
+          let pp : p ≡ parent = same_some (sym up ∙ ap (λ (q : Limb). q.parent) (same_some (sym is ∙ ap (limbs new) e ∙ s.filled))) in
+          let ls : l ≡ record { frame = above.frame; rights = common above.rights rights; source = false; granted = None } = same_some (sym v ∙ ap (values new) e ∙ c.value_is) in
+          let hs : h ≡ above = same_some (sym w ∙ ap (values new) pp ∙ c.values_same parent (new_key parent s.above s.at_parent) ∙ at) in
           subst (λ (q : Worth). LiesWithin l q) (sym hs)
           (subst (λ (q : Worth). LiesWithin q above) (sym ls) (record { rights = low_of_parent above.rights rights; frame = refl }))
       | inr ne ↦
@@ -242,8 +210,7 @@ first_unique slots (k ∷ ks) ls a b =
     let n = in_list slots (k ∷ ks) a k (inl refl) in
     let p = parted ls k (b.all k n.0 n.1) in
     let l = link_at (links slots) None p.front k p.back None (subst (λ (z : List ℕ). IsLinked (links slots) None z None) p.is b.linked) in
-    let w : ◌≡◌ {A = Option Link} (Some (record { prev = None; next = first_of ks None })) (Some (record { prev = last_of None p.front; next = first_of p.back None })) = sym a.linked.0 ∙ l in
-    let e : record { prev = None; next = first_of ks None } ≡ record { prev = last_of None p.front; next = first_of p.back None } = cc in
+    let e : record { prev = None; next = first_of ks None } ≡ record { prev = last_of None p.front; next = first_of p.back None } = same_some (sym a.linked.0 ∙ l) in
     none_front k p.front p.back (sym (ap (λ (z : Link). z.prev) e)) ∙ sym (ap (λ (z : List ℕ). first_of z None) p.is)
   where
     none_front : (k : ℕ) (front back : List ℕ) → last_of None front ≡ None → ◌≡◌ {A = Option ℕ} (Some k) (first_of (front ++ k ∷ back) None)
@@ -258,25 +225,11 @@ within_kept old new ks f within kept k p x l h is up v w =
     let b = kept p above.0 above.1 in
     within k p x l h (sym a.0 ∙ is) up (sym a.1 ∙ v) (sym b.1 ∙ w)
 
-no_some : {X Y : Type 0} (x : X) → ◌≡◌ {A = Option X} None (Some x) → Y
-no_some {X} x e = absurd (let w : ◌≡◌ {A = Option X} None (Some x) = e in cc)
-
 -- nothing descends from a key without a node
 pub none_below : (slots : Slots) (ks : List ℕ) → IsForest slots ks → (top k : ℕ) → node_at slots top ≡ None → Leads (parent_at (limbs slots)) k top → ⊥
 none_below slots ks f top k none l =
     let r = run_from_leads (limbs slots) (position ks) f.tree l in
-    let w : ◌≡◌ {A = Option Limb} None (Some r.top) = sym (ap (option_map limb_of) none) ∙ r.at_top in cc
-
--- trees and links alone make a forest
-pub forest_links : (old new : Slots) (ks : List ℕ) → ((k : ℕ) → limbs new k ≡ limbs old k) → ((k : ℕ) → links new k ≡ links old k) → IsForest old ks → IsForest new ks
-forest_links old new ks limbs_same links_same f = record {
-  order = record {
-    once = f.order.once;
-    linked = linked_same (links old) (links new) None ks None (λ k i. links_same k) f.order.linked;
-    all = λ k n at. limb_in old ks f.order k (limb_of n) (sym (limbs_same k) ∙ ap (option_map limb_of) at);
-  };
-  tree = subst (λ (g : ℕ → Option Limb). IsTree g (position ks)) (λ i k. sym (limbs_same k) i) f.tree;
-}
+    no_some r.top (sym (ap (option_map limb_of) none) ∙ r.at_top)
 
 all_share : (a b c : Bool) → (a && c) && (b && c) ≡ (a && b) && c
 all_share false b c = refl
@@ -292,15 +245,15 @@ low_both h r c low =
     share ∙ ap (λ (z : RightsSet). common z c) low
 
 pub same_worth : {v w : Worth} → ◌≡◌ {A = Option Worth} (Some v) (Some w) → v ≡ w
-same_worth {v} {w} e = let z : ◌≡◌ {A = Option Worth} (Some v) (Some w) = e in cc
+same_worth {v} {w} e = same_some e
 
 within_capped : (old new : Slots) (ks : List ℕ) (top : ℕ) (cap : RightsSet) → IsForest old ks → IsWithin old → CapsBelow top cap old new → IsWithin new
 within_capped old new ks top cap f within c k p x l h is up v w =
     let was : limbs old k ≡ Some x = sym (c.limbs_same k) ∙ is in
     let above = parent_stands old ks f k p x was up in
     let up_k : parent_at (limbs old) k ≡ Some p = parent_is (limbs old) k x was ∙ up in
-    let n = node_from_limb old k x was in
-    let m = node_from_limb old p above.0 above.1 in
+    let n = map_from limb_of (node_at old k) x was in
+    let m = map_from limb_of (node_at old p) above.0 above.1 in
     let lo : values old k ≡ Some (worth_of n.0) = ap (option_map worth_of) n.1 in
     let hi : values old p ≡ Some (worth_of m.0) = ap (option_map worth_of) m.1 in
     let base = within k p x (worth_of n.0) (worth_of m.0) was up lo hi in
@@ -330,57 +283,37 @@ bits_back cap = ap set_of_bits (from_zero (bits_of cap)) ∙ set_of_sum 0 cap re
 pub no_sources_walk : (cap : RightsSet) → bits_of cap ≢ sources_walk
 no_sources_walk cap e = let b = bits_below cap in let z : bits_of cap ≡ 8 = e in absurd (omega (arith, b, z))
 
-pub sound_capped : (old new : Slots) (first : Option ℕ) (stamp walk later top : ℕ) (cap : RightsSet) → IsSound old first stamp walk → CapsBelow top cap old new → HasMarks cap later new → IsStamped later new → IsSound new first later (bits_of cap)
+pub sound_capped : (old new : Slots) (first : Option ℕ) (stamp walk later top : ℕ) (cap : RightsSet) → IsSound old first stamp walk → CapsBelow top cap old new → HasMarks (HasLow cap new) later new → IsStamped later new → IsSound new first later (bits_of cap)
 sound_capped old new first stamp walk later top cap s c m t = record {
   keys = s.keys;
   forest = forest_links old new s.keys c.limbs_same c.links_same s.forest;
   first_is = s.first_is;
   within = within_capped old new s.keys top cap s.forest s.within c;
   stamped = t;
-  capped = λ _. subst (λ (z : RightsSet). HasMarks z later new) (sym (bits_back cap)) m;
+  capped = λ _. subst (λ (z : RightsSet). HasMarks (HasLow z new) later new) (sym (bits_back cap)) m;
   sought = λ e. absurd (no_sources_walk cap e);
 }
 
--- the marks that a walk starts with
-pub marks_for : (old new : Slots) (first : Option ℕ) (stamp walk later : ℕ) (cap : RightsSet) → IsSound old first stamp walk → IsSame old new → BeginsWalk walk (bits_of cap) stamp later old new → HasMarks cap later new × IsStamped later new
-marks_for old new first stamp walk later cap s still e = elim e [
-  | inl same ↦ subst (λ (z : Slots). HasMarks cap later z × IsStamped later z) (sym same.2) (
-    subst (λ (z : ℕ). HasMarks cap z old) (sym same.1)
-        (subst (λ (z : RightsSet). HasMarks z stamp old) (ap set_of_bits same.0 ∙ bits_back cap) (s.capped (λ w. no_sources_walk cap (sym same.0 ∙ w)))),
-    subst (λ (z : ℕ). IsStamped z old) (sym same.1) s.stamped,
-  )
+-- what a walk starts with is known from the last walk, or nothing has its mark
+walk_begins : (Knows : ℕ → Slots → Type 0) (old new : Slots) (first : Option ℕ) (stamp last walk later : ℕ) (s : IsSound old first stamp last) → IsSame old new → BeginsWalk last walk stamp later old new → (last ≡ walk → Knows stamp old)
+    → ((n : ℕ) (slots : Slots) → IsForest slots s.keys → NoneMarked n slots → Knows n slots) → Knows later new × IsStamped later new
+walk_begins Knows old new first stamp last walk later s still e known nothing = elim e [
+  | inl kept ↦ subst (λ (z : Slots). Knows later z × IsStamped later z) (sym kept.2) (subst (λ (z : ℕ). Knows z old × IsStamped z old) (sym kept.1) (known kept.0, s.stamped))
   | inr r ↦ elim r [
-    | inl f ↦ subst (λ (z : Slots). HasMarks cap later z × IsStamped later z) (sym f.1) (fresh_marks old s.keys stamp later cap s.forest s.stamped f.0, stamped_fresh old stamp later s.stamped f.0)
-    | inr u ↦ (
-      record {
-        keys = s.keys;
-        forest = forest_links old new s.keys still.limbs_same still.links_same s.forest;
-        marked = λ k n at m. absurd (never_first later (marks_of n).mark u.0 (u.1 k (marks_of n) (ap (option_map marks_of) at)).0 m);
-      },
-      stamped_unmarked new later u.1,
-    )
+    | inl f ↦ subst (λ (z : Slots). Knows later z × IsStamped later z) (sym f.1) (nothing later old s.forest (fresh_none old stamp later s.stamped f.0), stamped_fresh old stamp later s.stamped f.0)
+    | inr u ↦ (nothing later new (forest_links old new s.keys still.limbs_same still.links_same s.forest) (first_none new later u.0 u.1), stamped_unmarked new later u.1)
   ]
 ]
 
+pub marks_for : (old new : Slots) (first : Option ℕ) (stamp walk later : ℕ) (cap : RightsSet) → IsSound old first stamp walk → IsSame old new → BeginsWalk walk (bits_of cap) stamp later old new → HasMarks (HasLow cap new) later new × IsStamped later new
+marks_for old new first stamp walk later cap s still e =
+    walk_begins (λ n slots. HasMarks (HasLow cap slots) n slots) old new first stamp walk (bits_of cap) later s still e
+    (λ same. subst (λ (z : RightsSet). HasMarks (HasLow z old) stamp old) (ap set_of_bits same ∙ bits_back cap) (s.capped (λ w. no_sources_walk cap (sym same ∙ w))))
+    (λ n slots forest none. none_marks (HasLow cap slots) slots s.keys n forest none)
+
 pub seen_for : (old new : Slots) (first : Option ℕ) (stamp walk later : ℕ) → IsSound old first stamp walk → IsSame old new → BeginsWalk walk sources_walk stamp later old new → HasSeen later new × IsStamped later new
-seen_for old new first stamp walk later s still e = elim e [
-  | inl same ↦ subst (λ (z : Slots). HasSeen later z × IsStamped later z) (sym same.2) (
-    subst (λ (z : ℕ). HasSeen z old) (sym same.1) (s.sought same.0),
-    subst (λ (z : ℕ). IsStamped z old) (sym same.1) s.stamped,
-  )
-  | inr r ↦ elim r [
-    | inl f ↦ subst (λ (z : Slots). HasSeen later z × IsStamped later z) (sym f.1) (fresh_seen old s.keys stamp later s.forest s.stamped f.0, stamped_fresh old stamp later s.stamped f.0)
-    | inr u ↦ (
-      record {
-        keys = s.keys;
-        forest = forest_links old new s.keys still.limbs_same still.links_same s.forest;
-        marked = λ k n at m. absurd (never_first later (marks_of n).mark u.0 (u.1 k (marks_of n) (ap (option_map marks_of) at)).0 m);
-        seen = λ k n at m. absurd (never_first later (marks_of n).seen u.0 (u.1 k (marks_of n) (ap (option_map marks_of) at)).1 m);
-      },
-      stamped_unmarked new later u.1,
-    )
-  ]
-]
+seen_for old new first stamp walk later s still e =
+    walk_begins (λ n slots. HasSeen n slots) old new first stamp walk sources_walk later s still e s.sought (λ n slots forest none. none_seen slots s.keys n forest none)
 
 within_same : (old new : Slots) → IsSame old new → IsWithin old → IsWithin new
 within_same old new e within k p x l h is up v w = within k p x l h (sym (e.limbs_same k) ∙ is) up (sym (e.values_same k) ∙ v) (sym (e.values_same p) ∙ w)

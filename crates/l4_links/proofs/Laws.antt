@@ -6,16 +6,15 @@ use Rattle.l4_links.specs.declared.Standing.{Standing}
 use Rattle.l4_links.specs.Leads.{Leads, step, steps}
 use Rattle.l4_links.specs.Inside.Trees.{Limb, IsTree, parent_at}
 use Rattle.l4_links.specs.Inside.Orders.{position}
-use Rattle.l4_nodes.specs.Slots.{Slots}
+use Rattle.l4_nodes.specs.Slots.{Slots, node_at}
 use Rattle.l4_links.specs.Inside.Nodes.{limbs}
 use Rattle.l4_links.specs.Inside.Keeping.{standing_of, entries_of, IsSound}
 use Rattle.l4_links.specs.Entries.{standing_at, ParentStands, AreTrees}
 use Rattle.l4_links.proofs.Runs.{has_limb, parent_is}
-use Rattle.l4_links.proofs.Walking.{node_from_limb}
 use Rattle.l4_links.proofs.Clearing.{apart}
 use Rattle.l4_links.proofs.Kept.{parent_stands}
 use Rattle.l4_links.proofs.Seen.{standing_is, leads_of, descends_of, standing_node}
-use Rattle.l4_links.proofs.Writes.{limb_of, worth_of}
+use Rattle.l4_links.proofs.Writes.{map_from, limb_of, worth_of}
 
 top_leads : {low high : ℕ} (parent : ℕ → Option ℕ) → parent low ≡ None → Leads parent low high → ⊥
 top_leads {low} {high} parent none (step up) = let w : ◌≡◌ {A = Option ℕ} None (Some high) = sym none ∙ up in cc
@@ -67,7 +66,7 @@ parent_around slots first stamp walk s k t p is up =
     let limb_is : limbs slots k ≡ Some (limb_of n.0) = ap (option_map limb_of) n.1 in
     let up_n : n.0.parent ≡ Some p = ap (λ (z : Standing). z.parent) n.2 ∙ up in
     let y = parent_stands slots s.keys s.forest k p (limb_of n.0) limb_is up_n in
-    let m = node_from_limb slots p y.0 y.1 in
+    let m = map_from limb_of (node_at slots p) y.0 y.1 in
     let w = s.within k p (limb_of n.0) (worth_of n.0) (worth_of m.0) limb_is up_n (ap (option_map worth_of) n.1) (ap (option_map worth_of) m.1) in
     subst (λ (z : Standing). ParentStands (entries_of slots) z p) n.2 (record {
       above = standing_of m.0;

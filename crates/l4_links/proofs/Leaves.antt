@@ -1,56 +1,45 @@
 -- A node has no descendants where the node after it is no deeper.
-use Rattle.std.proofs.Common.{◌≡◌, ◌≢◌, ℕ, ◌<◌, ◌≤◌, List, Option, Some, None, refl, sym, ap, ◌∙◌, arith}
+use Rattle.std.proofs.Common.{◌≡◌, ◌≢◌, ℕ, ◌<◌, ◌≤◌, List, Some, None, sym, ap, ◌∙◌, arith}
+use Rattle.std.specs.Prelude.{⊤}
 use Rattle.std.specs.Option.{option_map}
 use Rattle.l4_nodes.specs.declared.nodes.Node.{Node}
 use Rattle.l4_links.specs.Leads.{Leads}
-use Rattle.l4_links.specs.Inside.Trees.{Limb, parent_at}
+use Rattle.l4_links.specs.Inside.Trees.{parent_at}
 use Rattle.l4_links.specs.Inside.Orders.{position}
 use Rattle.l4_nodes.specs.Slots.{Slots, node_at}
-use Rattle.l4_links.specs.Inside.Nodes.{limbs, place_of, IsForest, Ends}
+use Rattle.l4_links.specs.Inside.Nodes.{limbs, place_of, IsForest, Stops}
 use Rattle.l4_links.specs.Inside.Keeping.{standing_of, entries_of}
 use Rattle.l4_links.specs.Entries.{IsStanding, Descends}
 use Rattle.l4_links.proofs.Neighbours.{in_list, next_live}
-use Rattle.l4_links.proofs.Runs.{one_limb, descendants}
-use Rattle.l4_links.proofs.Walking.{place_next}
-use Rattle.l4_links.proofs.Seeking.{leads_range}
+use Rattle.l4_links.proofs.Runs.{descendants}
+use Rattle.l4_links.proofs.Walking.{place_next, passes_next, stops_end, stops_at, leads_range}
 use Rattle.l4_links.proofs.Seen.{standing_is, no_standing, leads_of, descends_of}
-use Rattle.l4_links.proofs.Writes.{limb_of}
+use Rattle.l4_links.proofs.Writes.{no_some, limb_of}
 
 -- the node that is said to come next is there
 pub next_there : (slots : Slots) (ks : List ℕ) (key next : ℕ) (node : Node) → IsForest slots ks → node_at slots key ≡ Some node → node.next ≡ Some next → node_at slots next ≡ None → ⊥
 next_there slots ks key next node f at is none =
     let n = in_list slots ks f.order next (next_live slots ks key node f.order at next is) in
-    let z : ◌≡◌ {A = Option Node} None (Some n.0) = sym none ∙ n.1 in cc
+    no_some n.0 (sym none ∙ n.1)
 
 -- a run that ends at the next node is empty
-empty_run : (slots : Slots) (ks : List ℕ) (key : ℕ) (node : Node) → IsForest slots ks → node_at slots key ≡ Some node → ((b : ℕ) (y : Limb) → node.next ≡ Some b → limbs slots b ≡ Some y → y.depth ≤ node.depth)
+empty_run : (slots : Slots) (ks : List ℕ) (key : ℕ) (node : Node) → IsForest slots ks → node_at slots key ≡ Some node → Stops (limbs slots) node.depth node.next
     → (low : ℕ) → ¬ (Leads (parent_at (limbs slots)) low key)
 empty_run slots ks key node f at stops low l =
     let p = place_next slots ks key node f.order at in
-    let ends : Ends (limbs slots) ks key node.depth node.next = record {
-      beyond = omega (arith, p);
-      live = λ b e. next_live slots ks key node f.order at b e;
-      deeper = λ b y is lo hi. absurd (omega (arith, p, lo, hi));
-      stops = stops;
-    } in
-    let r = leads_range slots ks key node.depth node.next node f ends at refl low l in
+    let r = leads_range slots (λ _. ⊤) ks key node.next (limb_of node) f (record { passes = passes_next slots (λ _. ⊤) ks key node f.order at; stops = stops }) (ap (option_map limb_of) at) low l in
     let lo = r.0 in
     let hi = r.1 in
     omega (arith, p, lo, hi)
 
 -- nothing descends from the last node of the list
 pub last_leaf : (slots : Slots) (ks : List ℕ) (key : ℕ) (node : Node) → IsForest slots ks → node_at slots key ≡ Some node → node.next ≡ None → (low : ℕ) → ¬ (Leads (parent_at (limbs slots)) low key)
-last_leaf slots ks key node f at none = empty_run slots ks key node f at (λ b y is at_b. absurd (let z : ◌≡◌ {A = Option ℕ} None (Some b) = sym none ∙ is in cc))
+last_leaf slots ks key node f at none = empty_run slots ks key node f at (stops_end (limbs slots) node.depth node.next none)
 
 -- nothing descends from a node before one that is no deeper
 pub next_leaf : (slots : Slots) (ks : List ℕ) (key next : ℕ) (node after : Node) → IsForest slots ks → node_at slots key ≡ Some node → node.next ≡ Some next → node_at slots next ≡ Some after → after.depth ≤ node.depth
     → (low : ℕ) → ¬ (Leads (parent_at (limbs slots)) low key)
-next_leaf slots ks key next node after f at is at_next le = empty_run slots ks key node f at (λ b y is_b at_b.
-    let z : ◌≡◌ {A = Option ℕ} (Some b) (Some next) = sym is_b ∙ is in
-    let e : b ≡ next = cc in
-    let s : y ≡ limb_of after = one_limb (limbs slots) b at_b (ap (limbs slots) e ∙ ap (option_map limb_of) at_next) in
-    let d : y.depth ≡ after.depth = ap (λ (x : Limb). x.depth) s in
-    omega (arith, d, le))
+next_leaf slots ks key next node after f at is at_next le = empty_run slots ks key node f at (stops_at slots node.depth next node.next after is at_next le)
 
 -- a deeper node after this one descends from it
 pub next_descends : (slots : Slots) (ks : List ℕ) (key next : ℕ) (node after : Node) → IsForest slots ks → node_at slots key ≡ Some node → node.next ≡ Some next → node_at slots next ≡ Some after → node.depth < after.depth
@@ -70,7 +59,7 @@ next_descends slots ks key next node after f at is at_next deeper =
 
 -- a node that is there is something
 pub some_node : (slots : Slots) (key : ℕ) (node : Node) → node_at slots key ≡ Some node → node_at slots key ≢ None
-some_node slots key node at none = let z : ◌≡◌ {A = Option Node} None (Some node) = sym none ∙ at in cc
+some_node slots key node at none = no_some node (sym none ∙ at)
 
 -- what a contract sees of a leaf
 pub view_leaf : (slots : Slots) (key : ℕ) → (node_at slots key ≢ None) × ((low : ℕ) → ¬ (Leads (parent_at (limbs slots)) low key)) → IsStanding (entries_of slots) key × ((low : ℕ) → ¬ (Descends (entries_of slots) low key))

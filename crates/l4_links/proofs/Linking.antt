@@ -1,5 +1,6 @@
 -- The links of a list of keys once one was put in or taken out.
 use Rattle.std.proofs.Common.{◌≡◌, ◌≢◌, ℕ, List, [], ◌∷◌, ◌++◌, Option, Some, None, refl, sym, ap, ◌∙◌, subst, inl, inr, ◌⊎◌}
+use Rattle.l4_links.proofs.Writes.{no_some, same_some}
 use Rattle.l4_links.specs.Inside.Orders.{IsIn, IsOnce, Link, first_of, last_of, IsLinked, PutsAfter, TakesOut, IsParted}
 
 pub in_left : (xs ys : List ℕ) (a : ℕ) → IsIn xs a → IsIn (xs ++ ys) a
@@ -63,8 +64,12 @@ parted (x ∷ xs) k i = elim i [
 
 -- the first of a longer list, and the last
 pub first_in : (ys : List ℕ) (a : ℕ) → first_of ys None ≡ Some a → IsIn ys a
-first_in [] a e = absurd (let w : ◌≡◌ {A = Option ℕ} None (Some a) = e in cc)
-first_in (y ∷ ys) a e = inl (let w : ◌≡◌ {A = Option ℕ} (Some y) (Some a) = e in cc)
+first_in [] a e = no_some a e
+first_in (y ∷ ys) a e = inl (same_some e)
+
+pub begins_with : (ys : List ℕ) (a : ℕ) → first_of ys None ≡ Some a → (rest : List ℕ) × (ys ≡ a ∷ rest)
+begins_with [] a e = no_some a e
+begins_with (y ∷ ys) a e = (ys, ap (λ (z : ℕ). z ∷ ys) (same_some e))
 
 pub last_some : (b : ℕ) (xs : List ℕ) → last_of (Some b) xs ≢ None
 last_some b [] e = let w : ◌≡◌ {A = Option ℕ} (Some b) None = e in absurd (let z : ◌≡◌ {A = Option ℕ} (Some b) None = w in cc)

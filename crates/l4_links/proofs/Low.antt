@@ -6,15 +6,15 @@ use Rattle.l4_links.specs.declared.Standing.{Standing}
 use Rattle.l4_nodes.specs.declared.nodes.Node.{Node}
 use Rattle.l4_nodes.specs.declared.nodes.Slot.{Slot}
 use Rattle.l4_links.specs.Leads.{Leads, step, steps}
-use Rattle.l4_links.specs.Inside.Trees.{Limb, parent_at}
+use Rattle.l4_links.specs.Inside.Trees.{parent_at}
 use Rattle.l4_nodes.specs.Slots.{Slots, slot_at, node_at}
 use Rattle.l4_links.specs.Inside.Nodes.{limbs, values, IsForest, IsLow}
 use Rattle.l4_links.specs.Inside.Keeping.{standing_of, entry_of, entries_of, IsWithin, IsSound}
 use Rattle.l4_links.specs.Entries.{entry_at, capped, CapsBelow, CapsTree}
-use Rattle.l4_links.proofs.Runs.{parent_is}
+use Rattle.l4_links.proofs.Runs.{has_limb}
 use Rattle.l4_links.proofs.Seen.{at_seen, leads_of}
-use Rattle.l4_links.proofs.Walking.{node_from_limb}
-use Rattle.l4_links.proofs.Writes.{worth_of}
+use Rattle.l4_links.proofs.Writes.{no_some, map_from, limb_of, worth_of}
+use Rattle.l4_links.proofs.Walking.{common_over}
 
 both_bits : (a b : Bool) → (IsTrue a → IsTrue b) → a && b ≡ a
 both_bits false b h = refl
@@ -25,15 +25,10 @@ both_bits true false h = h refl
 pub low_within : (rights cap : RightsSet) → Within rights cap → IsLow cap rights
 low_within r c h = λ i. record { r = both_bits r.r c.r (h Read) i; w = both_bits r.w c.w (h Write) i; x = both_bits r.x c.x (h Execute) i }
 
-all_over : (l h c : Bool) → l && (h && c) ≡ (l && h) && c
-all_over false h c = refl
-all_over true h c = refl
-
 -- what lies within low rights is low
 low_on : (l h c : RightsSet) → IsLow h l → IsLow c h → IsLow c l
 low_on l h c low_h low_c =
-    let over : common l (common h c) ≡ common (common l h) c = λ i. record { r = all_over l.r h.r c.r i; w = all_over l.w h.w c.w i; x = all_over l.x h.x c.x i } in
-    ap (λ (z : RightsSet). common z c) (sym low_h) ∙ sym over ∙ ap (λ (z : RightsSet). common l z) low_c ∙ low_h
+    ap (λ (z : RightsSet). common z c) (sym low_h) ∙ sym (common_over l h c) ∙ ap (λ (z : RightsSet). common l z) low_c ∙ low_h
 
 -- a node whose rights are low
 abbrev LowNode : Slots → RightsSet → ℕ → Type 0
@@ -42,27 +37,23 @@ LowNode slots cap k = (n : Node) × (node_at slots k ≡ Some n) × IsLow cap n.
 module _ (slots : Slots) (keys : List ℕ) (forest : IsForest slots keys) (within : IsWithin slots) (cap : RightsSet) where
   child_low : (k p : ℕ) → parent_at (limbs slots) k ≡ Some p → LowNode slots cap p → LowNode slots cap k
   child_low k p up above =
-      let m = parent_node (limbs slots k) refl up in
-      let n = node_from_limb slots k m.0 m.1 in
+      let m = has_limb (limbs slots) k p up in
+      let n = map_from limb_of (node_at slots k) m.limb m.is in
       let lo : values slots k ≡ Some (worth_of n.0) = ap (option_map worth_of) n.1 in
       let hi : values slots p ≡ Some (worth_of above.0) = ap (option_map worth_of) above.1 in
-      let base = within k p m.0 (worth_of n.0) (worth_of above.0) m.1 m.2 lo hi in
+      let base = within k p m.limb (worth_of n.0) (worth_of above.0) m.is m.up lo hi in
       (n.0, n.1, low_on n.0.rights above.0.rights cap base.rights above.2)
-    where
-      parent_node : (o : Option Limb) → limbs slots k ≡ o → parent_at (limbs slots) k ≡ Some p → (x : Limb) × (limbs slots k ≡ Some x) × (x.parent ≡ Some p)
-      parent_node None e u = absurd (let z : ◌≡◌ {A = Option ℕ} None (Some p) = sym (ap (option_and_then (λ (x : Limb). x.parent)) e) ∙ u in cc)
-      parent_node (Some x) e u = (x, e, sym (parent_is (limbs slots) k x e) ∙ u)
 
   pub lows : {k top : ℕ} → Leads (parent_at (limbs slots)) k top → LowNode slots cap top → LowNode slots cap k
   lows {k} {top} (step up) above = child_low k top up above
   lows {k} {top} (steps {middle = m} up rest) above = child_low k m up (lows rest above)
 
 low_slot : (cap : RightsSet) (o : Option Slot) (n : Node) → option_and_then (λ (s : Slot). s.node) o ≡ Some n → IsLow cap n.rights → option_map entry_of o ≡ option_map (capped cap) (option_map entry_of o)
-low_slot cap None n e low = absurd (let z : ◌≡◌ {A = Option Node} None (Some n) = e in cc)
+low_slot cap None n e low = no_some n e
 low_slot cap (Some s) n e low = ap (λ (t : Option Standing). Some (record { place = s.place; wanted = s.wanted; stands = t })) (over s.node e)
   where
     over : (o : Option Node) → o ≡ Some n → option_map standing_of o ≡ option_map (λ (t : Standing). record t { rights = common t.rights cap }) (option_map standing_of o)
-    over None e = absurd (let z : ◌≡◌ {A = Option Node} None (Some n) = e in cc)
+    over None e = no_some n e
     over (Some m) e =
         let same : m ≡ n = cc in
         let low_m : IsLow cap m.rights = subst (λ (z : Node). IsLow cap z.rights) (sym same) low in

@@ -9,7 +9,6 @@ use Rattle.l4_spaces.specs.Rows.{Rows, entry, is_made, AreTablesOf, NoneIn}
 use Rattle.l4_nodes.specs.declared.Place.{Place}
 use Rattle.l4_links.specs.declared.Standing.{Standing}
 use Rattle.l4_links.specs.declared.Entry.{Entry}
-use Rattle.l4_nodes.specs.declared.nodes.Node.{Node}
 use Rattle.l4_nodes.specs.declared.nodes.Slot.{Slot}
 use Rattle.l4_links.specs.Entries.{entry_at, IsInPages, moved_place, MovesPages, Hinders as HindersMove, LacksPlace as LacksHere}
 use Rattle.l4_nodes.specs.Slots.{Slots, Spot, slot_at, node_at, SetsPlace, spot_of}
@@ -17,6 +16,7 @@ use Rattle.l4_links.specs.Inside.Nodes.{IsOf}
 use Rattle.l4_links.specs.Inside.Keeping.{standing_of, entry_of, entries_of, IsIndexed}
 use Rattle.l4_links.specs.Inside.Moving.{AreWithin, AreFree, HaveTables, CanMove, CanGo, IsStuck, CanGoIn, MakesTables, Hinders, LacksPlace, Moves}
 use Rattle.l4_links.proofs.Seen.{at_seen}
+use Rattle.l4_links.proofs.Writes.{no_some, same_some, map_from, none_from, map_twice}
 use Rattle.l4_links.proofs.Naming.{is_at}
 
 pub decide_in : (first : Place) (end : ℕ) (p : Place) → IsInPages first end p ⊎ ¬ (IsInPages first end p)
@@ -31,33 +31,20 @@ decide_in first end p = elim (cases_eq p.space first.space) [
   ]
 ]
 
-same_slot : {a b : Slot} → ◌≡◌ {A = Option Slot} (Some a) (Some b) → a ≡ b
-same_slot h = cc
-
-same_key : {a b : ℕ} → ◌≡◌ {A = Option ℕ} (Some a) (Some b) → a ≡ b
-same_key h = cc
-
-same_place : {a b : Place} → ◌≡◌ {A = Option Place} (Some a) (Some b) → a ≡ b
-same_place h = cc
-
 -- a slot's key is of its page
 pub of_slot : (slots : Slots) (k : ℕ) (s : Slot) → slot_at slots k ≡ Some s → IsOf slots s.place k
 of_slot slots k s at = ap (λ (z : Option Slot). option_map {T = Spot} (λ s. s.place) (option_map spot_of z)) at
 
 -- and a page's key has a slot
 slot_of : (slots : Slots) (k : ℕ) (p : Place) → IsOf slots p k → (s : Slot) × (slot_at slots k ≡ Some s) × (s.place ≡ p)
-slot_of slots k p is = over (slot_at slots k) refl is
-  where
-    over : (o : Option Slot) → slot_at slots k ≡ o → option_map {T = Spot} (λ s. s.place) (option_map spot_of o) ≡ Some p → (s : Slot) × (slot_at slots k ≡ Some s) × (s.place ≡ p)
-    over None at e = absurd (let w : ◌≡◌ {A = Option Place} None (Some p) = e in cc)
-    over (Some s) at e = (s, at, same_place e)
+slot_of slots k p is = map_from (λ (s : Slot). s.place) (slot_at slots k) p (sym (map_twice spot_of (λ (s : Spot). s.place) (slot_at slots k)) ∙ is)
 
 named : (slots : Slots) (t : Tables) → IsIndexed slots t → (space k : ℕ) (s : Slot) → slot_at slots k ≡ Some s → s.place.space ≡ space → tables.key_of t space s.place.page ≡ Some k
 named slots t i space k s at e = ap (λ (z : ℕ). tables.key_of t z s.place.page) (sym e) ∙ (i.names s.place k).1 (of_slot slots k s at)
 
 -- a place that is named nowhere is of no key
 pub unnamed : (slots : Slots) (t : Tables) → IsIndexed slots t → (place : Place) → tables.key_of t place.space place.page ≡ None → (other : ℕ) → ¬ (IsOf slots place other)
-unnamed slots t i place absent other o = let w : ◌≡◌ {A = Option ℕ} None (Some other) = sym absent ∙ (i.names place other).1 o in cc
+unnamed slots t i place absent other o = no_some other (sym absent ∙ (i.names place other).1 o)
 
 -- where no page of the space is present, no slot is of one
 none_at : (slots : Slots) (t : Tables) → IsIndexed slots t → (space page end : ℕ) → NonePresentIn t space page end → (k : ℕ) (s : Slot) → slot_at slots k ≡ Some s → s.place.space ≡ space → page ≤ s.place.page → ¬ (s.place.page < end)
@@ -73,7 +60,7 @@ module _ (slots : Slots) (t : Tables) (i : IsIndexed slots t) (space page end ne
       let name = named slots t i space k s at e in
       let least = n.least s.place.page le (ap is_some name) in
       let same : s.place.page ≡ next = omega (arith, least, lt) in
-      same_key (sym name ∙ ap (tables.key_of t space) same ∙ is)
+      same_some (sym name ∙ ap (tables.key_of t space) same ∙ is)
 
 -- the first pass
 
@@ -129,7 +116,7 @@ can_joined source page next after target rights slots t sources rows later i fro
     either k s at h = elim (cases_lt s.place.page page) [
       | inl lt ↦ inl (h.0, h.1, lt)
       | inr le ↦ elim (cases_lt s.place.page next) [
-        | inl before ↦ absurd (let z : ◌≡◌ {A = Option ℕ} None (Some k) = sym (none s.place.page le before) ∙ its_key k s at h.0 in cc)
+        | inl before ↦ no_some k (sym (none s.place.page le before) ∙ its_key k s at h.0)
         | inr more ↦ inr (more, h.2)
       ]
     ]
@@ -155,7 +142,7 @@ module _ (source : Place) (end other key : ℕ) (target : Place) (rights : Right
     at = its_slot.1;
     inside = its_slot.3;
     why = elim h.2 [
-      | inl x ↦ inl (x.0, sym its_node ∙ ap (node_at slots) (same_key h.1) ∙ x.1, x.2)
+      | inl x ↦ inl (x.0, sym its_node ∙ ap (node_at slots) (same_some h.1) ∙ x.1, x.2)
       | inr x ↦ inr (x.0, subst (λ (p : Place). IsOf slots p x.0) (sym (ap (moved_place source target) its_slot.2)) ((i.names (moved_place source target at_other) x.0).0 (taken_is ∙ x.1)))
     ];
   }
@@ -187,12 +174,12 @@ module _ (source : Place) (page end : ℕ) (target : Place) (old now : Slots) (t
       over : (o : Option Slot) → slot_at old k ≡ o → (s : Slot) × (slot_at old k ≡ Some s) × (slot_at now k ≡ Some s) × (s.place ≡ p) × ¬ (IsInPages source page s.place)
       over None at =
           let s = slot_of now k p is in
-          absurd (let w : ◌≡◌ {A = Option Slot} None (Some s.0) = sym (m.vacant k at) ∙ s.1 in cc)
+          no_some s.0 (sym (m.vacant k at) ∙ s.1)
       over (Some s) at = elim (decide_in source page s.place) [
         | inl h ↦
-            let goes : moved_place source target s.place ≡ p = same_place (sym (of_slot now k (record s { place = moved_place source target s.place }) (m.moved k s at h)) ∙ is) in
+            let goes : moved_place source target s.place ≡ p = same_some (sym (of_slot now k (record s { place = moved_place source target s.place }) (m.moved k s at h)) ∙ is) in
             absurd (apart (sym e ∙ ap (λ (z : Place). z.space) (sym goes)))
-        | inr out ↦ (s, at, m.kept k s at out, same_place (sym (of_slot now k s (m.kept k s at out)) ∙ is), out)
+        | inr out ↦ (s, at, m.kept k s at out, same_some (sym (of_slot now k s (m.kept k s at out)) ∙ is), out)
       ]
 
   -- no key has come to the place that a page goes to
@@ -202,16 +189,16 @@ module _ (source : Place) (page end : ℕ) (target : Place) (old now : Slots) (t
       over : (z : Option Slot) → slot_at old other ≡ z → ⊥
       over None at =
           let s = slot_of now other (moved_place source target (record { space = source.space; page = p })) o in
-          let w : ◌≡◌ {A = Option Slot} None (Some s.0) = sym (m.vacant other at) ∙ s.1 in cc
+          no_some s.0 (sym (m.vacant other at) ∙ s.1)
       over (Some s) at = elim (decide_in source page s.place) [
         | inl h ↦
-            let goes : moved_place source target s.place ≡ moved_place source target (record { space = source.space; page = p }) = same_place (sym (of_slot now other (record s { place = moved_place source target s.place }) (m.moved other s at h)) ∙ o) in
+            let goes : moved_place source target s.place ≡ moved_place source target (record { space = source.space; page = p }) = same_some (sym (of_slot now other (record s { place = moved_place source target s.place }) (m.moved other s at h)) ∙ o) in
             let pages : s.place.page - source.page + target.page ≡ p - source.page + target.page = ap (λ (p : Place). p.page) goes in
             let a = h.1 in let b = h.2 in omega (arith, pages, a, b, le)
         | inr out ↦
             let w = still key (record { space = source.space; page = p }) found refl in
             free key w.0 w.1 (subst (λ (p : Place). IsInPages source end p) (sym w.3) (refl, omega (arith, from, le), lt)) other
-            (subst (λ (p : Place). IsOf old p other) (same_place (sym (of_slot now other s (m.kept other s at out)) ∙ o) ∙ ap (moved_place source target) (sym w.3)) (of_slot old other s at))
+            (subst (λ (p : Place). IsOf old p other) (same_some (sym (of_slot now other s (m.kept other s at out)) ∙ o) ∙ ap (moved_place source target) (sym w.3)) (of_slot old other s at))
       ]
 
   pub free_more : AreFree source end target old → source.page ≤ page → (next after : ℕ) → page ≤ next → after ≤ end → AreFree (record { space = source.space; page = next }) after (moved_place source target (record { space = source.space; page = next })) now
@@ -256,7 +243,7 @@ module _ (source : Place) (page end : ℕ) (target : Place) (old now : Slots) (t
       moved = λ k s at h. elim (cases_eq k key) [
         | inl e ↦
             let w = still key here found refl in
-            let same : s ≡ w.0 = same_slot (sym at ∙ ap (slot_at old) e ∙ w.1) in
+            let same : s ≡ w.0 = same_some (sym at ∙ ap (slot_at old) e ∙ w.1) in
             ap (slot_at new) e ∙ sets.here ∙ ap (option_map {T = Slot} (λ s. record s { place = moved_place source target here })) w.2
             ∙ ap (λ (p : Place). Some (record w.0 { place = moved_place source target p })) (sym w.3) ∙ ap (λ (z : Slot). Some (record z { place = moved_place source target z.place })) (sym same)
         | inr ne ↦ sets.others k ne ∙ elim (decide_in source page s.place) [
@@ -270,7 +257,7 @@ module _ (source : Place) (page end : ℕ) (target : Place) (old now : Slots) (t
       kept = λ k s at out. elim (cases_eq k key) [
         | inl e ↦
             let w = still key here found refl in
-            let same : s ≡ w.0 = same_slot (sym at ∙ ap (slot_at old) e ∙ w.1) in
+            let same : s ≡ w.0 = same_some (sym at ∙ ap (slot_at old) e ∙ w.1) in
             let p : here ≡ s.place = sym w.3 ∙ ap (λ (z : Slot). z.place) (sym same) in
             absurd (out (subst (λ (p : Place). IsInPages source (next + 1) p) p (refl, in_end.1, omega arith)))
         | inr ne ↦ sets.others k ne ∙ m.kept k s at (λ h. out (h.0, h.1, (let b = h.2 in let le = n.from in omega (arith, le, b))))
@@ -278,7 +265,7 @@ module _ (source : Place) (page end : ℕ) (target : Place) (old now : Slots) (t
       vacant = λ k at. elim (cases_eq k key) [
         | inl e ↦
             let w = still key here found refl in
-            absurd (let z : ◌≡◌ {A = Option Slot} None (Some w.0) = sym at ∙ ap (slot_at old) e ∙ w.1 in cc)
+            no_some w.0 (sym at ∙ ap (slot_at old) e ∙ w.1)
         | inr ne ↦ sets.others k ne ∙ m.vacant k at
       ];
     }
@@ -316,18 +303,14 @@ node_moved source end target old new m k = over (slot_at old k) refl
       | inr out ↦ ap (option_and_then (λ (s : Slot). s.node)) (m.kept k s at out) ∙ sym (ap (option_and_then (λ (s : Slot). s.node)) at)
     ]
 
-node_seen : (o : Option Node) (x : Standing) → option_map standing_of o ≡ Some x → (n : Node) × (o ≡ Some n) × (standing_of n ≡ x)
-node_seen None x w = absurd (let z : ◌≡◌ {A = Option Standing} None (Some x) = w in cc)
-node_seen (Some n) x w = (n, refl, (let z : ◌≡◌ {A = Option Standing} (Some (standing_of n)) (Some x) = w in cc))
-
 pub view_moves : (source : Place) (end : ℕ) (target : Place) (rights : RightsSet) (old new : Slots) → AreWithin source end rights old → AreFree source end target old → Moves source end target old new → MovesPages source end target rights (entries_of old) (entries_of new)
 view_moves source end target rights old new within free m = record {
   moved = λ k e at h. (let s = slot_seen k e at in at_seen new k ∙ ap (option_map entry_of) (m.moved k s.0 s.1 (subst (λ (x : Entry). IsInPages source end x.place) (sym s.2) h))
       ∙ ap (λ (x : Entry). Some (record x { place = moved_place source target x.place })) s.2);
   kept = λ k e at out. (let s = slot_seen k e at in at_seen new k ∙ ap (option_map entry_of) (m.kept k s.0 s.1 (λ h. out (subst (λ (x : Entry). IsInPages source end x.place) s.2 h))) ∙ ap (λ (x : Entry). Some x) s.2);
-  vacant = λ k at. at_seen new k ∙ ap (option_map entry_of) (m.vacant k (none_seen (slot_at old k) (sym (at_seen old k) ∙ at)));
+  vacant = λ k at. at_seen new k ∙ ap (option_map entry_of) (m.vacant k (none_from entry_of (slot_at old k) (sym (at_seen old k) ∙ at)));
   within = λ k e x at h stands. (let s = slot_seen k e at in
-      let n = node_seen s.0.node x (ap (λ (z : Entry). z.stands) s.2 ∙ stands) in
+      let n = map_from standing_of s.0.node x (ap (λ (z : Entry). z.stands) s.2 ∙ stands) in
       subst (λ (z : Standing). Within z.rights rights) n.2 (within k s.0 n.0 s.1 (subst (λ (x : Entry). IsInPages source end x.place) (sym s.2) h) n.1));
   absent = λ k e at h other o. (let s = slot_seen k e at in
       free k s.0 s.1 (subst (λ (x : Entry). IsInPages source end x.place) (sym s.2) h) other
@@ -335,15 +318,7 @@ view_moves source end target rights old new within free m = record {
 }
   where
     slot_seen : (k : ℕ) (e : Entry) → entry_at (entries_of old) k ≡ Some e → (s : Slot) × (slot_at old k ≡ Some s) × (entry_of s ≡ e)
-    slot_seen k e at = over (slot_at old k) refl (sym (at_seen old k) ∙ at)
-      where
-        over : (o : Option Slot) → slot_at old k ≡ o → option_map entry_of o ≡ Some e → (s : Slot) × (slot_at old k ≡ Some s) × (entry_of s ≡ e)
-        over None is w = absurd (let z : ◌≡◌ {A = Option Entry} None (Some e) = w in cc)
-        over (Some s) is w = (s, is, (let z : ◌≡◌ {A = Option Entry} (Some (entry_of s)) (Some e) = w in cc))
-
-    none_seen : (o : Option Slot) → option_map entry_of o ≡ None → o ≡ None
-    none_seen None w = refl
-    none_seen (Some s) w = absurd (let z : ◌≡◌ {A = Option Entry} (Some (entry_of s)) None = w in cc)
+    slot_seen k e at = map_from entry_of (slot_at old k) e (sym (at_seen old k) ∙ at)
 
 pub view_hinders : (source : Place) (end : ℕ) (target : Place) (rights : RightsSet) (slots : Slots) → Hinders source end target rights slots → HindersMove source end target rights (entries_of slots)
 view_hinders source end target rights slots h = record {
@@ -363,6 +338,6 @@ view_lacks source end target rights slots h = record {
   entry = entry_of h.slot;
   at = at_seen slots h.key ∙ ap (option_map entry_of) h.at;
   inside = h.inside;
-  within = λ x stands. (let n = node_seen h.slot.node x stands in subst (λ (z : Standing). Within z.rights rights) n.2 (h.within n.0 n.1));
+  within = λ x stands. (let n = map_from standing_of h.slot.node x stands in subst (λ (z : Standing). Within z.rights rights) n.2 (h.within n.0 n.1));
   absent = λ other o. h.absent other ((is_at slots (moved_place source target h.slot.place) other).1 o);
 }

@@ -22,6 +22,7 @@ use Rattle.l4_nodes.specs.Slots.{Slots, Spot, slot_at, spots, SetsWanted, SetsPl
 use Rattle.l4_links.specs.Inside.Nodes.{IsOf, TakesOver}
 use Rattle.l4_links.specs.Inside.Keeping.{entry_of, entries_of, IsIndexed}
 use Rattle.l4_links.proofs.Seen.{at_seen}
+use Rattle.l4_links.proofs.Writes.{no_some, same_some, map_from, map_twice, map_over}
 
 abbrev pub Pages : Type 0
 Pages = map.FinMap tables.place_cmp ℕ
@@ -39,23 +40,11 @@ Names at pages = (place : Place) (key : ℕ) → (key_in pages place ≡ Some ke
 
 -- a page has one key
 pub once_named : (at : ℕ → Option Place) (pages : Pages) → Names at pages → (place : Place) (j k : ℕ) → at j ≡ Some place → at k ≡ Some place → j ≡ k
-once_named at pages names place j k a b =
-    let e : key_in pages place ≡ Some j = (names place j).1 a in
-    let f : key_in pages place ≡ Some k = (names place k).1 b in
-    let w : ◌≡◌ {A = Option ℕ} (Some j) (Some k) = sym e ∙ f in cc
+once_named at pages names place j k a b = same_some (sym ((names place j).1 a) ∙ (names place k).1 b)
 
 -- and a key one page
 one_place : (at : ℕ → Option Place) (key : ℕ) (p q : Place) → at key ≡ Some p → at key ≡ Some q → p ≡ q
-one_place at key p q a b = let w : ◌≡◌ {A = Option Place} (Some p) (Some q) = sym a ∙ b in cc
-
-no_place : {X : Type 0} (p : Place) → ◌≡◌ {A = Option Place} None (Some p) → X
-no_place p e = absurd (let w : ◌≡◌ {A = Option Place} None (Some p) = e in cc)
-
-no_key : {X : Type 0} (k : ℕ) → ◌≡◌ {A = Option ℕ} None (Some k) → X
-no_key k e = absurd (let w : ◌≡◌ {A = Option ℕ} None (Some k) = e in cc)
-
-same_key : {j k : ℕ} → ◌≡◌ {A = Option ℕ} (Some j) (Some k) → j ≡ k
-same_key {j} {k} e = let w : ◌≡◌ {A = Option ℕ} (Some j) (Some k) = e in cc
+one_place at key p q a b = same_some (sym a ∙ b)
 
 same_place : {X : Type 0} (a b : Place) → (a ≡ b → X) → (a ≢ b → X) → X
 same_place a b f g =
@@ -93,7 +82,7 @@ named_added old new before after place key names free vacant stands others is q 
     same_place q place
     (λ same.
     let here : key_in after q ≡ Some key = ap (λ (m : Pages). key_in m q) is ∙ put_here before place q key same in (
-      λ h. ap new (sym (same_key (sym here ∙ h))) ∙ stands ∙ ap (λ (p : Place). Some p) (sym same),
+      λ h. ap new (sym (same_some (sym here ∙ h))) ∙ stands ∙ ap (λ (p : Place). Some p) (sym same),
       λ s. elim (cases_eq k key) [
         | inl e ↦ here ∙ ap (λ (z : ℕ). Some z) (sym e)
         | inr ne ↦ absurd (free k (sym (others k ne) ∙ s ∙ ap (λ (p : Place). Some p) same))
@@ -103,7 +92,7 @@ named_added old new before after place key names free vacant stands others is q 
     let there : key_in after q ≡ key_in before q = ap (λ (m : Pages). key_in m q) is ∙ put_other before place q key off in (
       λ h.
           let s : old k ≡ Some q = (names q k).0 (sym there ∙ h) in
-          others k (λ e. no_place q (sym vacant ∙ ap old (sym e) ∙ s)) ∙ s,
+          others k (λ e. no_some q (sym vacant ∙ ap old (sym e) ∙ s)) ∙ s,
       λ s. elim (cases_eq k key) [
         | inl e ↦ absurd (off (one_place new key q place (ap new (sym e) ∙ s) stands))
         | inr ne ↦ there ∙ (names q k).1 (sym (others k ne) ∙ s)
@@ -117,9 +106,9 @@ named_removed old new before after place key names stood gone others is q k =
     same_place q place
     (λ same.
     let here : key_in after q ≡ None = ap (λ (m : Pages). key_in m q) is ∙ drop_here before place q same in (
-      λ h. no_key k (sym here ∙ h),
+      λ h. no_some k (sym here ∙ h),
       λ s. elim (cases_eq k key) [
-        | inl e ↦ no_place q (sym gone ∙ ap new (sym e) ∙ s)
+        | inl e ↦ no_some q (sym gone ∙ ap new (sym e) ∙ s)
         | inr ne ↦ absurd (ne (once_named old before names place k key (sym (others k ne) ∙ s ∙ ap (λ (p : Place). Some p) same) stood))
       ],
     ))
@@ -129,55 +118,10 @@ named_removed old new before after place key names stood gone others is q k =
           let s : old k ≡ Some q = (names q k).0 (sym there ∙ h) in
           others k (λ e. off (one_place old key q place (ap old (sym e) ∙ s) stood)) ∙ s,
       λ s. elim (cases_eq k key) [
-        | inl e ↦ no_place q (sym gone ∙ ap new (sym e) ∙ s)
+        | inl e ↦ no_some q (sym gone ∙ ap new (sym e) ∙ s)
         | inr ne ↦ there ∙ (names q k).1 (sym (others k ne) ∙ s)
       ],
     ))
-
--- a key has taken the page of another one, which has gone
-named_moved : (old new : ℕ → Option Place) (before between after : Pages) (from to : Place) (key blank : ℕ) → Names old before → key ≢ blank → old key ≡ Some from → old blank ≡ Some to → new key ≡ Some to → new blank ≡ None
-    → ((o : ℕ) → o ≢ key → o ≢ blank → new o ≡ old o) → between ≡ map.insert before (to.space, to.page) key → after ≡ map.remove between (from.space, from.page) → Names new after
-named_moved old new before between after from to key blank names other was was_to is gone others put drop q k =
-    let differ : from ≢ to = λ e. other (once_named old before names to key blank (was ∙ ap (λ (p : Place). Some p) e) was_to) in
-    same_place q from
-    (λ same.
-    let here : key_in after q ≡ None = ap (λ (m : Pages). key_in m q) drop ∙ drop_here between from q same in (
-      λ h. no_key k (sym here ∙ h),
-      λ s. elim (cases_eq k key) [
-        | inl e ↦ absurd (differ (sym same ∙ one_place new key q to (ap new (sym e) ∙ s) is))
-        | inr nk ↦ elim (cases_eq k blank) [
-          | inl e ↦ no_place q (sym gone ∙ ap new (sym e) ∙ s)
-          | inr nb ↦ absurd (nk (once_named old before names from k key (sym (others k nk nb) ∙ s ∙ ap (λ (p : Place). Some p) same) was))
-        ]
-      ],
-    ))
-    (λ off.
-    let left : key_in after q ≡ key_in between q = ap (λ (m : Pages). key_in m q) drop ∙ drop_other between from q off in
-    same_place q to
-    (λ same.
-    let here : key_in after q ≡ Some key = left ∙ ap (λ (m : Pages). key_in m q) put ∙ put_here before to q key same in (
-      λ h. ap new (sym (same_key (sym here ∙ h))) ∙ is ∙ ap (λ (p : Place). Some p) (sym same),
-      λ s. elim (cases_eq k key) [
-        | inl e ↦ here ∙ ap (λ (z : ℕ). Some z) (sym e)
-        | inr nk ↦ elim (cases_eq k blank) [
-          | inl e ↦ no_place q (sym gone ∙ ap new (sym e) ∙ s)
-          | inr nb ↦ absurd (nb (once_named old before names to k blank (sym (others k nk nb) ∙ s ∙ ap (λ (p : Place). Some p) same) was_to))
-        ]
-      ],
-    ))
-    (λ nt.
-    let there : key_in after q ≡ key_in before q = left ∙ ap (λ (m : Pages). key_in m q) put ∙ put_other before to q key nt in (
-      λ h.
-          let s : old k ≡ Some q = (names q k).0 (sym there ∙ h) in
-          others k (λ e. off (one_place old key q from (ap old (sym e) ∙ s) was)) (λ e. nt (one_place old blank q to (ap old (sym e) ∙ s) was_to)) ∙ s,
-      λ s. elim (cases_eq k key) [
-        | inl e ↦ absurd (nt (one_place new key q to (ap new (sym e) ∙ s) is))
-        | inr nk ↦ elim (cases_eq k blank) [
-          | inl e ↦ no_place q (sym gone ∙ ap new (sym e) ∙ s)
-          | inr nb ↦ there ∙ (names q k).1 (sym (others k nk nb) ∙ s)
-        ]
-      ],
-    )))
 
 -- the places without that of this key
 abbrev without : (ℕ → Option Place) → ℕ → ℕ → Option Place
@@ -206,20 +150,45 @@ named_renamed old new before after from to key names was free is others put =
     named_added (without old key) new (map.remove before (from.space, from.page)) after to key
     (named_removed old (without old key) before (map.remove before (from.space, from.page)) from key names was (without_here old key) (λ o ne. without_other old key o ne) refl)
     (λ k e. elim (cases_eq k key) [
-      | inl same ↦ no_place to (sym (without_here old key) ∙ ap (without old key) (sym same) ∙ e)
+      | inl same ↦ no_some to (sym (without_here old key) ∙ ap (without old key) (sym same) ∙ e)
       | inr ne ↦ free k (sym (without_other old key k ne) ∙ e)
     ])
     (without_here old key) is (λ o ne. others o ne ∙ sym (without_other old key o ne)) put
 
+-- a key has taken the page of another one, which has gone: as if that one had gone first
+named_moved : (old new : ℕ → Option Place) (before between after : Pages) (from to : Place) (key blank : ℕ) → Names old before → key ≢ blank → old key ≡ Some from → old blank ≡ Some to → new key ≡ Some to → new blank ≡ None
+    → ((o : ℕ) → o ≢ key → o ≢ blank → new o ≡ old o) → between ≡ map.insert before (to.space, to.page) key → after ≡ map.remove between (from.space, from.page) → Names new after
+named_moved old new before between after from to key blank names other was was_to is gone others put drop =
+    let freed = map.remove before (to.space, to.page) in
+    let differ : from ≢ to = λ e. other (once_named old before names to key blank (was ∙ ap (λ (p : Place). Some p) e) was_to) in
+    let renamed = named_renamed (without old blank) new freed (map.insert (map.remove freed (from.space, from.page)) (to.space, to.page) key) from to key
+    (named_removed old (without old blank) before freed to blank names was_to (without_here old blank) (λ o ne. without_other old blank o ne) refl)
+    (without_other old blank key other ∙ was)
+    (λ k e. elim (cases_eq k blank) [
+      | inl same ↦ no_some to (sym (without_here old blank) ∙ ap (without old blank) (sym same) ∙ e)
+      | inr ne ↦ ne (once_named old before names to k blank (sym (without_other old blank k ne) ∙ e) was_to)
+    ])
+    is
+    (λ o ne. elim (cases_eq o blank) [
+      | inl same ↦ ap new same ∙ gone ∙ sym (without_here old blank) ∙ ap (without old blank) (sym same)
+      | inr nb ↦ others o ne nb ∙ sym (without_other old blank o nb)
+    ]) refl in
+    let alike : (q : Place) → key_in after q ≡ key_in (map.insert (map.remove freed (from.space, from.page)) (to.space, to.page) key) q = λ q.
+    same_place q to
+    (λ same.
+    ap (λ (m : Pages). key_in m q) drop ∙ drop_other between from q (λ e. differ (sym e ∙ same)) ∙ ap (λ (m : Pages). key_in m q) put ∙ put_here before to q key same
+    ∙ sym (put_here (map.remove freed (from.space, from.page)) to q key same))
+    (λ off.
+    let rest : key_in (map.remove between (from.space, from.page)) q ≡ key_in (map.remove freed (from.space, from.page)) q =
+    same_place q from
+    (λ same. drop_here between from q same ∙ sym (drop_here freed from q same))
+    (λ left. drop_other between from q left ∙ ap (λ (m : Pages). key_in m q) put ∙ put_other before to q key off ∙ sym (drop_other before to q off) ∙ sym (drop_other freed from q left)) in
+    ap (λ (m : Pages). key_in m q) drop ∙ rest ∙ sym (put_other (map.remove freed (from.space, from.page)) to q key off)) in
+    λ q k. (λ h. (renamed q k).0 (sym (alike q) ∙ h), λ s. alike q ∙ (renamed q k).1 s)
+
 -- what is known of the spots, known of the places
 spot_from : (slots : Slots) (k : ℕ) (s : Spot) → spots slots k ≡ Some s → places slots k ≡ Some s.place
 spot_from slots k s is = ap (option_map {T = Spot} (λ s. s.place)) is
-
-place_from : (slots : Slots) (k : ℕ) (p : Place) → places slots k ≡ Some p → (s : Spot) × (spots slots k ≡ Some s) × (s.place ≡ p)
-place_from slots k p is = elim (spots slots k) as (λ o. spots slots k ≡ o → option_map {T = Spot} (λ s. s.place) o ≡ Some p → (s : Spot) × (spots slots k ≡ Some s) × (s.place ≡ p)) [
-  | None ↦ λ _ e. no_place p e
-  | Some s ↦ λ at e. (s, at, (let w : ◌≡◌ {A = Option Place} (Some s.place) (Some p) = e in cc))
-] refl is
 
 -- that pages lie in spaces, by the places
 abbrev pub Lies : (ℕ → Option Place) → set.FinSet nat_cmp → Type 0
@@ -227,7 +196,7 @@ Lies at spaces = (key : ℕ) (p : Place) → at key ≡ Some p → IsTrue (set.c
 
 lies_of : (slots : Slots) (t : Tables) → IsIndexed slots t → Lies (places slots) t.spaces
 lies_of slots t i key p at =
-    let s = place_from slots key p at in (
+    let s = map_from (λ (s : Spot). s.place) (spots slots key) p at in (
       subst (λ (z : Place). IsTrue (set.contains t.spaces z.space)) s.2 (i.housed key s.0 s.1),
       subst (λ (z : Place). IsPage z.page) s.2 (i.fits key s.0 s.1),
     )
@@ -237,7 +206,7 @@ abbrev pub Keeps : (ℕ → Option Place) → Type 0
 Keeps at = (key : ℕ) (p : Place) → at key ≡ Some p → IsKey key
 
 keeps_of : (slots : Slots) (t : Tables) → IsIndexed slots t → Keeps (places slots)
-keeps_of slots t i key p at = let s = place_from slots key p at in i.few key s.0 s.1
+keeps_of slots t i key p at = let s = map_from (λ (s : Spot). s.place) (spots slots key) p at in i.few key s.0 s.1
 
 indexed_of : (slots : Slots) (t : Tables) → Names (places slots) t.pages → Lies (places slots) t.spaces → Keeps (places slots) → IsIndexed slots t
 indexed_of slots t names lies keeps = record {
@@ -274,41 +243,35 @@ keeps_with old new key keeps kept others k p at = elim (cases_eq k key) [
 ]
 
 places_slot : (slots : Slots) (k : ℕ) (o : Option Slot) → slot_at slots k ≡ o → places slots k ≡ option_map {T = Slot} (λ s. s.place) o
-places_slot slots k o e = over (slot_at slots k) ∙ ap (option_map {T = Slot} (λ s. s.place)) e
-  where
-    over : (o : Option Slot) → option_map {T = Spot} (λ s. s.place) (option_map spot_of o) ≡ option_map {T = Slot} (λ s. s.place) o
-    over None = refl
-    over (Some s) = refl
+places_slot slots k o e = map_twice spot_of (λ (s : Spot). s.place) (slot_at slots k) ∙ ap (option_map {T = Slot} (λ s. s.place)) e
 
 pub indexed_empty : (slots : Slots) (t : Tables) → slots ≡ [] → t.pages ≡ map.empty → IsIndexed slots t
 indexed_empty slots t none empty =
     let vacant : (k : ℕ) → places slots k ≡ None = λ k. ap (λ (z : Slots). places z k) none in
     indexed_of slots t
     (λ q k. (
-      λ h. no_key k (sym (map.get-empty tables.place_cmp (q.space, q.page)) ∙ ap (λ (m : Pages). key_in m q) (sym empty) ∙ h),
-      λ s. no_place q (sym (vacant k) ∙ s),
+      λ h. no_some k (sym (map.get-empty tables.place_cmp (q.space, q.page)) ∙ ap (λ (m : Pages). key_in m q) (sym empty) ∙ h),
+      λ s. no_some q (sym (vacant k) ∙ s),
     ))
-    (λ key p at. no_place p (sym (vacant key) ∙ at))
-    (λ key p at. no_place p (sym (vacant key) ∙ at))
+    (λ key p at. no_some p (sym (vacant key) ∙ at))
+    (λ key p at. no_some p (sym (vacant key) ∙ at))
 
 -- the same pages of the same keys
-pub indexed_same : (old new : Slots) (t u : Tables) → ((k : ℕ) → spots new k ≡ spots old k) → u.pages ≡ t.pages → u.spaces ≡ t.spaces → IsIndexed old t → IsIndexed new u
-indexed_same old new t u same pages spaces i =
-    let places_same : (k : ℕ) → places new k ≡ places old k = λ k. ap (option_map {T = Spot} (λ s. s.place)) (same k) in
+indexed_places : (old new : Slots) (t u : Tables) → ((k : ℕ) → places new k ≡ places old k) → u.pages ≡ t.pages → u.spaces ≡ t.spaces → IsIndexed old t → IsIndexed new u
+indexed_places old new t u same pages spaces i =
     indexed_of new u
     (λ q k. (
-      λ h. places_same k ∙ (i.names q k).0 (ap (λ (m : Pages). key_in m q) (sym pages) ∙ h),
-      λ s. ap (λ (m : Pages). key_in m q) pages ∙ (i.names q k).1 (sym (places_same k) ∙ s),
+      λ h. same k ∙ (i.names q k).0 (ap (λ (m : Pages). key_in m q) (sym pages) ∙ h),
+      λ s. ap (λ (m : Pages). key_in m q) pages ∙ (i.names q k).1 (sym (same k) ∙ s),
     ))
-    (lies_left (places old) (places new) t.spaces u.spaces (lies_of old t i) spaces (λ k p at. (k, sym (places_same k) ∙ at)))
-    (keeps_left (places old) (places new) (keeps_of old t i) (λ k p at. (p, sym (places_same k) ∙ at)))
+    (lies_left (places old) (places new) t.spaces u.spaces (lies_of old t i) spaces (λ k p at. (k, sym (same k) ∙ at)))
+    (keeps_left (places old) (places new) (keeps_of old t i) (λ k p at. (p, sym (same k) ∙ at)))
+
+pub indexed_same : (old new : Slots) (t u : Tables) → ((k : ℕ) → spots new k ≡ spots old k) → u.pages ≡ t.pages → u.spaces ≡ t.spaces → IsIndexed old t → IsIndexed new u
+indexed_same old new t u same = indexed_places old new t u (λ k. ap (option_map {T = Spot} (λ s. s.place)) (same k))
 
 pub indexed_wanted : (old new : Slots) (t : Tables) → ((k : ℕ) → places new k ≡ places old k) → IsIndexed old t → IsIndexed new t
-indexed_wanted old new t same i =
-    indexed_of new t
-    (λ q k. (λ h. same k ∙ (i.names q k).0 h, λ s. (i.names q k).1 (sym (same k) ∙ s)))
-    (lies_left (places old) (places new) t.spaces t.spaces (lies_of old t i) refl (λ k p at. (k, sym (same k) ∙ at)))
-    (keeps_left (places old) (places new) (keeps_of old t i) (λ k p at. (p, sym (same k) ∙ at)))
+indexed_wanted old new t same = indexed_places old new t t same refl refl
 
 pub places_wanted : (old new : Slots) (key : ℕ) (wanted : Bool) → SetsWanted key wanted old new → (k : ℕ) → places new k ≡ places old k
 places_wanted old new key wanted c k = elim (cases_eq k key) [
@@ -334,7 +297,7 @@ pub indexed_removed : (old new : Slots) (t u : Tables) (place : Place) (key : �
 indexed_removed old new t u place key was gone others pages spaces i =
     let none : places new key ≡ None = places_slot new key None gone in
     let other : (o : ℕ) → o ≢ key → places new o ≡ places old o = λ o ne. ap (λ (z : Option Slot). option_map {T = Spot} (λ s. s.place) (option_map spot_of z)) (others o ne) in
-    let stood : (k : ℕ) (p : Place) → places new k ≡ Some p → places old k ≡ Some p = λ k p at. sym (other k (λ e. no_place p (sym none ∙ ap (places new) (sym e) ∙ at))) ∙ at in
+    let stood : (k : ℕ) (p : Place) → places new k ≡ Some p → places old k ≡ Some p = λ k p at. sym (other k (λ e. no_some p (sym none ∙ ap (places new) (sym e) ∙ at))) ∙ at in
     indexed_of new u (named_removed (places old) (places new) t.pages u.pages place key i.names (places_slot old key (slot_at old key) refl ∙ was) none other pages)
     (lies_left (places old) (places new) t.spaces u.spaces (lies_of old t i) spaces
     (λ k p at. (k, stood k p at)))
@@ -345,7 +308,7 @@ pub indexed_moved : (old new : Slots) (t m u : Tables) (from to : Place) (key bl
 indexed_moved old new t m u from to key blank other was was_to is gone others put drop spaces i =
     let none : places new blank ≡ None = places_slot new blank None gone in
     let rest : (o : ℕ) → o ≢ key → o ≢ blank → places new o ≡ places old o = λ o nk nb. ap (λ (z : Option Slot). option_map {T = Spot} (λ s. s.place) (option_map spot_of z)) (others o nk nb) in
-    let stood : (k : ℕ) (p : Place) → k ≢ key → places new k ≡ Some p → places old k ≡ Some p = λ k p nk at. sym (rest k nk (λ e. no_place p (sym none ∙ ap (places new) (sym e) ∙ at))) ∙ at in
+    let stood : (k : ℕ) (p : Place) → k ≢ key → places new k ≡ Some p → places old k ≡ Some p = λ k p nk at. sym (rest k nk (λ e. no_some p (sym none ∙ ap (places new) (sym e) ∙ at))) ∙ at in
     indexed_of new u (named_moved (places old) (places new) t.pages m.pages u.pages from to key blank i.names other was was_to is none rest put drop)
     (lies_left (places old) (places new) t.spaces u.spaces (lies_of old t i) spaces
     (λ k p at. elim (cases_eq k key) [
@@ -368,15 +331,11 @@ indexed_renamed old new t u from to key was free sets there fits pages spaces i 
     (keeps_with (places old) (places new) key (keeps_of old t i) (keeps_of old t i key from was) other)
   where
     placed : (o : Option Slot) → option_map {T = Slot} (λ s. s.place) o ≡ Some from → option_map {T = Slot} (λ s. s.place) (option_map {T = Slot} (λ s. record s { place = to }) o) ≡ Some to
-    placed None e = no_place from e
+    placed None e = no_some from e
     placed (Some s) e = refl
 
 pub at_is : (slots : Slots) (k : ℕ) → option_map {T = Entry} (λ e. e.place) (entry_at (entries_of slots) k) ≡ places slots k
-at_is slots k = ap (option_map {T = Entry} (λ e. e.place)) (at_seen slots k) ∙ over (slot_at slots k)
-  where
-    over : (o : Option Slot) → option_map {T = Entry} (λ e. e.place) (option_map entry_of o) ≡ option_map {T = Spot} (λ s. s.place) (option_map spot_of o)
-    over None = refl
-    over (Some s) = refl
+at_is slots k = ap (option_map {T = Entry} (λ e. e.place)) (at_seen slots k) ∙ map_over entry_of (λ (e : Entry). e.place) spot_of (λ (s : Spot). s.place) (λ s. refl) (slot_at slots k)
 
 -- what is known of a page that has a key
 pub its_place : (slots : Slots) (k : ℕ) (p : Place) → option_map {T = Slot} (λ s. s.place) (slot_at slots k) ≡ Some p → places slots k ≡ Some p
@@ -391,14 +350,8 @@ place_fits slots t k p i e = (lies_of slots t i k p (its_place slots k p e)).1
 pub place_present : (slots : Slots) (t : Tables) (k : ℕ) (p : Place) → IsIndexed slots t → option_map {T = Slot} (λ s. s.place) (slot_at slots k) ≡ Some p → tables.IsPresent t p.space p.page
 place_present slots t k p i e = ap is_some ((i.names p k).1 (its_place slots k p e))
 
-slot_from : (slots : Slots) (k : ℕ) (p : Place) → option_map {T = Slot} (λ s. s.place) (slot_at slots k) ≡ Some p → (s : Slot) × (slot_at slots k ≡ Some s) × (s.place ≡ p)
-slot_from slots k p is = elim (slot_at slots k) as (λ o. slot_at slots k ≡ o → option_map {T = Slot} (λ s. s.place) o ≡ Some p → (s : Slot) × (slot_at slots k ≡ Some s) × (s.place ≡ p)) [
-  | None ↦ λ _ e. no_place p e
-  | Some s ↦ λ at e. (s, at, (let w : ◌≡◌ {A = Option Place} (Some s.place) (Some p) = e in cc))
-] refl is
-
 pub place_key : (slots : Slots) (t : Tables) (k : ℕ) (p : Place) → IsIndexed slots t → option_map {T = Slot} (λ s. s.place) (slot_at slots k) ≡ Some p → IsKey k
-place_key slots t k p i e = let s = slot_from slots k p e in i.few k (spot_of s.0) (ap (option_map spot_of) s.1)
+place_key slots t k p i e = let s = map_from (λ (s : Slot). s.place) (slot_at slots k) p e in i.few k (spot_of s.0) (ap (option_map spot_of) s.1)
 
 -- a blank's page that was taken over
 module _ (old mid new : Slots) (key blank : ℕ) (from to : Place) (rights : RightsSet) (other : key ≢ blank) (was : option_map {T = Slot} (λ s. s.place) (slot_at old key) ≡ Some from)
@@ -408,7 +361,7 @@ module _ (old mid new : Slots) (key blank : ℕ) (from to : Place) (rights : Rig
 
   pub taken : TakesOver key blank rights old new
   taken =
-      let page = slot_from old blank to was_to in
+      let page = map_from (λ (s : Slot). s.place) (slot_at old blank) to was_to in
       record {
         page = page.0;
         was = page.1;
@@ -424,7 +377,7 @@ module _ (old mid new : Slots) (key blank : ℕ) (from to : Place) (rights : Rig
       (g.others blank (λ e. other (sym e)) ∙ gone) (λ o nk nb. g.others o nk ∙ others o nb) put drop spaces i
     where
       place_given : (o : Option Slot) → option_map {T = Slot} (λ s. s.place) o ≡ Some from → option_map {T = Slot} (λ s. s.place) (option_map (given to) o) ≡ Some to
-      place_given None e = no_place from e
+      place_given None e = no_some from e
       place_given (Some s) e = refl
 
 -- a space without keys has no pages
@@ -440,7 +393,7 @@ indexed_without slots t u space i none empties spaces =
     (λ same.
     let e : q.space ≡ space = grind (arith, nat_tests) in
     let gone : key_in u.pages q ≡ None = is ∙ ap (λ b. cond b None (key_in t.pages q)) same in
-    (λ h. no_key k (sym gone ∙ h), λ s. absurd (kept k q s e)))
+    (λ h. no_some k (sym gone ∙ h), λ s. absurd (kept k q s e)))
     (λ off.
     let stays : key_in u.pages q ≡ key_in t.pages q = is ∙ ap (λ b. cond b None (key_in t.pages q)) off in
     (λ h. (i.names q k).0 (sym stays ∙ h), λ s. stays ∙ (i.names q k).1 s)))
@@ -513,11 +466,8 @@ next_found slots t space page end next key i h is =
         before = h.before;
         least = λ other le k. h.least other le (present slots t i space other k);
       },
-      λ other. (λ e. (at other).0 (ap (λ (k : ℕ). Some k) (sym e)), λ a. sym (some_same ((at other).1 a))),
+      λ other. (λ e. (at other).0 (ap (λ (k : ℕ). Some k) (sym e)), λ a. sym (same_some ((at other).1 a))),
     )
-  where
-    some_same : {a b : ℕ} → ◌≡◌ {A = Option ℕ} (Some a) (Some b) → a ≡ b
-    some_same h = cc
 
 pub next_in_is : (slots : Slots) (t : Tables) (space page end : ℕ) (r : Option (ℕ × ℕ)) → IsIndexed slots t → MatchOption r (NonePresentIn t space page end) (λ found. IsNextIn t space page end found.0 × (tables.key_of t space found.0 ≡ Some found.1))
     → MatchOption r (NoKeyIn (entries_of slots) space page end) (λ found. IsNextKeyIn (entries_of slots) space page end found.0 × IsKeyOf (entries_of slots) (record { space = space; page = found.0 }) found.1)

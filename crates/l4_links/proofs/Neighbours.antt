@@ -4,17 +4,17 @@ use Rattle.std.proofs.lemmas.Bool.{cases_eq}
 use Rattle.std.specs.Option.{option_map, option_and_then}
 use Rattle.l4_nodes.specs.declared.nodes.Node.{Node}
 use Rattle.l4_nodes.specs.declared.nodes.Slot.{Slot}
-use Rattle.l4_links.specs.Inside.Trees.{Limb, Sprouts}
+use Rattle.l4_links.specs.Inside.Trees.{Limb, IsTree, Sprouts}
 use Rattle.l4_links.specs.Inside.Orders.{IsIn, IsOnce, Link, first_of, last_of, IsLinked, PutsAfter, TakesOut, position}
 use Rattle.l4_nodes.specs.Slots.{Slots, slot_at, node_at, Writes, SetsNext, SetsPrev, Spot, wanted_in, spots, spot_of}
 use Rattle.l4_links.specs.Inside.Nodes.{limbs, links, IsOrder, IsForest, Parts, TakesSlot, CutsOff, left_spot, Comes}
-use Rattle.l4_links.proofs.Writes.{doom_of, marks_of, limb_of, link_of, worth_of}
-use Rattle.l4_links.proofs.Linking.{in_left, in_right, in_parts, once_front, once_back, once_out, once_in, parted, first_in, last_in, link_at, linked_in, linked_out}
+use Rattle.l4_links.proofs.Writes.{no_some, same_some, map_from, none_from, map_both, doom_of, marks_of, limb_of, link_of, worth_of}
+use Rattle.l4_links.proofs.Linking.{in_left, in_right, in_parts, once_front, once_back, once_out, once_in, parted, first_in, last_in, link_at, linked_same, linked_in, linked_out}
 use Rattle.l4_links.proofs.Positions.{stands_after}
 use Rattle.l4_links.proofs.Growing.{tree_sprouts}
 
 none_before : (o : ℕ) → ◌≢◌ {A = Option ℕ} None (Some o)
-none_before o w = let z : ◌≡◌ {A = Option ℕ} None (Some o) = w in absurd (let k : ◌≡◌ {A = Option ℕ} None (Some o) = z in cc)
+none_before o w = no_some o w
 
 last_within : (xs : List ℕ) (a : ℕ) → last_of None xs ≡ Some a → IsIn xs a
 last_within [] a e = absurd (none_before a e)
@@ -123,6 +123,21 @@ in_list slots ks order k i =
       | Some n ↦ λ e w. (n, e)
     ] refl l
 
+-- a key with a limb is in the list
+pub limb_in : (slots : Slots) (ks : List ℕ) → IsOrder slots ks → (k : ℕ) (x : Limb) → limbs slots k ≡ Some x → IsIn ks k
+limb_in slots ks order k x is = let n = map_from limb_of (node_at slots k) x is in order.all k n.0 n.1
+
+-- trees and links alone make a forest
+pub forest_links : (old new : Slots) (ks : List ℕ) → ((k : ℕ) → limbs new k ≡ limbs old k) → ((k : ℕ) → links new k ≡ links old k) → IsForest old ks → IsForest new ks
+forest_links old new ks limbs_same links_same f = record {
+  order = record {
+    once = f.order.once;
+    linked = linked_same (links old) (links new) None ks None (λ k i. links_same k) f.order.linked;
+    all = λ k n at. limb_in old ks f.order k (limb_of n) (sym (limbs_same k) ∙ ap (option_map limb_of) at);
+  };
+  tree = subst (λ (g : ℕ → Option Limb). IsTree g (position ks)) (λ i k. sym (limbs_same k) i) f.tree;
+}
+
 pub not_in_list : (slots : Slots) (ks : List ℕ) → IsOrder slots ks → (k : ℕ) → node_at slots k ≡ None → ¬ (IsIn ks k)
 not_in_list slots ks order k none i =
     let n = in_list slots ks order k i in
@@ -134,9 +149,6 @@ next_live slots ks key node order at n e =
     let o : IsOrder slots (p.front ++ key ∷ p.back) = subst (λ (z : List ℕ). IsOrder slots z) p.is order in
     let h = neighbours_at slots p.front key p.back node o at in
     subst (λ (z : List ℕ). IsIn z n) (sym p.is) (in_right p.front (key ∷ p.back) n (inr (first_in p.back n (sym h.1 ∙ e))))
-
-pub same_number : {a b : ℕ} → ◌≡◌ {A = Option ℕ} (Some a) (Some b) → a ≡ b
-same_number {a} {b} e = let w : ◌≡◌ {A = Option ℕ} (Some a) (Some b) = e in cc
 
 -- a key that was put in, and its neighbours' links written
 pub put_in : (a b c d : Slots) (ks : List ℕ) (p key : ℕ) (above node : Node) → IsOrder a ks → node_at a p ≡ Some above → node_at a key ≡ None → node.prev ≡ Some p → node.next ≡ above.next
@@ -150,7 +162,7 @@ put_in a b c d ks p key above node order at vacant prev_is next_is filled same f
       was = ap (option_map link_of) at;
       vacant = ap (option_map link_of) vacant;
       here =
-          ap (option_map link_of) (g.others key (λ e. pk (same_number e)) ∙ f.others key nk ∙ filled)
+          ap (option_map link_of) (g.others key (λ e. pk (same_some e)) ∙ f.others key nk ∙ filled)
           ∙ (λ i. Some (record { prev = prev_is i; next = next_is i }));
       before = ap (option_map link_of) (g.here p refl ∙ ap (option_map (λ (z : Node). record z { next = Some key })) (f.others p h.next_other ∙ same p pk ∙ at));
       after = λ n y e l.
@@ -158,42 +170,26 @@ put_in a b c d ks p key above node order at vacant prev_is next_is filled same f
           let np : ◌≢◌ {A = Option ℕ} (Some p) (Some n) = λ z. h.next_other (e ∙ sym z) in
           ap (option_map link_of) (g.others n np ∙ f.here n e ∙ ap (option_map (λ (z : Node). record z { prev = Some key })) (same n ne))
           ∙ prev_set (node_at a n) (Some key) y l;
-      others = λ o np ne nn. ap (option_map link_of) (g.others o (λ z. np (sym (same_number z))) ∙ f.others o nn ∙ same o ne);
+      others = λ o np ne nn. ap (option_map link_of) (g.others o (λ z. np (sym (same_some z))) ∙ f.others o nn ∙ same o ne);
     }
 
 is_it : {X : Type 0} (o : Option ℕ) (k : ℕ) → (o ≡ Some k → X) → (o ≢ Some k → X) → X
 is_it None k f g = g (none_before k)
-is_it (Some n) k f g = elim (cases_eq n k) [ inl e ↦ f (ap (λ (q : ℕ). Some q) e) | inr ne ↦ g (λ e. ne (same_number e)) ]
+is_it (Some n) k f g = elim (cases_eq n k) [ inl e ↦ f (ap (λ (q : ℕ). Some q) e) | inr ne ↦ g (λ e. ne (same_some e)) ]
 
 -- a write to links leaves all else of the nodes
 pub map_next : {X : Type 0} (F : Node → X) (at next : Option ℕ) → ((n : Node) → F (record n { next = next }) ≡ F n) → (old new : Slots) → SetsNext at next old new → (k : ℕ) → option_map F (node_at new k) ≡ option_map F (node_at old k)
-map_next F at next same old new s k = is_it at k (λ e. ap (option_map F) (s.here k e) ∙ over F next same (node_at old k)) (λ ne. ap (option_map F) (s.others k ne))
-  where
-    over : {X : Type 0} (F : Node → X) (next : Option ℕ) → ((n : Node) → F (record n { next = next }) ≡ F n) → (o : Option Node) → option_map F (option_map (λ (n : Node). record n { next = next }) o) ≡ option_map F o
-    over F next same None = refl
-    over F next same (Some n) = ap (λ x. Some x) (same n)
+map_next F at next same old new s k = is_it at k (λ e. ap (option_map F) (s.here k e) ∙ map_both F (λ (n : Node). record n { next = next }) same (node_at old k)) (λ ne. ap (option_map F) (s.others k ne))
 
 pub map_prev : {X : Type 0} (F : Node → X) (at prev : Option ℕ) → ((n : Node) → F (record n { prev = prev }) ≡ F n) → (old new : Slots) → SetsPrev at prev old new → (k : ℕ) → option_map F (node_at new k) ≡ option_map F (node_at old k)
-map_prev F at prev same old new s k = is_it at k (λ e. ap (option_map F) (s.here k e) ∙ over F prev same (node_at old k)) (λ ne. ap (option_map F) (s.others k ne))
-  where
-    over : {X : Type 0} (F : Node → X) (prev : Option ℕ) → ((n : Node) → F (record n { prev = prev }) ≡ F n) → (o : Option Node) → option_map F (option_map (λ (n : Node). record n { prev = prev }) o) ≡ option_map F o
-    over F prev same None = refl
-    over F prev same (Some n) = ap (λ x. Some x) (same n)
-
-limb_next : (o : Option Node) (next : Option ℕ) → option_map limb_of (option_map (λ (n : Node). record n { next = next }) o) ≡ option_map limb_of o
-limb_next None next = refl
-limb_next (Some n) next = refl
-
-limb_prev : (o : Option Node) (prev : Option ℕ) → option_map limb_of (option_map (λ (n : Node). record n { prev = prev }) o) ≡ option_map limb_of o
-limb_prev None prev = refl
-limb_prev (Some n) prev = refl
+map_prev F at prev same old new s k = is_it at k (λ e. ap (option_map F) (s.here k e) ∙ map_both F (λ (n : Node). record n { prev = prev }) same (node_at old k)) (λ ne. ap (option_map F) (s.others k ne))
 
 -- writes to links leave the trees
 pub limbs_next : (at next : Option ℕ) (old new : Slots) → SetsNext at next old new → (k : ℕ) → limbs new k ≡ limbs old k
-limbs_next at next old new s k = is_it at k (λ e. ap (option_map limb_of) (s.here k e) ∙ limb_next (node_at old k) next) (λ ne. ap (option_map limb_of) (s.others k ne))
+limbs_next at next old new s = map_next limb_of at next (λ n. refl) old new s
 
 pub limbs_prev : (at prev : Option ℕ) (old new : Slots) → SetsPrev at prev old new → (k : ℕ) → limbs new k ≡ limbs old k
-limbs_prev at prev old new s k = is_it at k (λ e. ap (option_map limb_of) (s.here k e) ∙ limb_prev (node_at old k) prev) (λ ne. ap (option_map limb_of) (s.others k ne))
+limbs_prev at prev old new s = map_prev limb_of at prev (λ n. refl) old new s
 
 -- the new key is its parent's child
 pub sprouts : (a b c d : Slots) (p key : ℕ) (above node : Node) → node_at a p ≡ Some above → node_at a key ≡ None → node.parent ≡ Some p → node.depth ≡ above.depth + 1
@@ -210,10 +206,7 @@ sprouts a b c d p key above node at vacant parent_is depth_is filled same f g = 
 
 -- a key without a node has neither limb nor link
 pub no_node : (slots : Slots) (k : ℕ) → limbs slots k ≡ None → node_at slots k ≡ None
-no_node slots k e = elim (node_at slots k) as (λ o. option_map limb_of o ≡ None → o ≡ None) [
-  | None ↦ λ _. refl
-  | Some n ↦ λ w. absurd (let z : ◌≡◌ {A = Option Limb} (Some (limb_of n)) None = w in cc)
-] e
+no_node slots k e = none_from limb_of (node_at slots k) e
 
 -- the forest with the new key
 pub forest_in : (old new : Slots) (xs : List ℕ) (p key : ℕ) (ys : List ℕ) → IsForest old (xs ++ p ∷ ys) → PutsAfter (links old) (links new) p key → Sprouts (limbs old) (limbs new) p key → IsForest new (xs ++ p ∷ key ∷ ys)
@@ -245,10 +238,7 @@ pub no_limb : (a b : Slots) (k : ℕ) → node_at a k ≡ node_at b k → limbs 
 no_limb a b k e = ap (option_map limb_of) e
 
 pub no_link : (slots : Slots) (k : ℕ) → links slots k ≡ None → node_at slots k ≡ None
-no_link slots k e = elim (node_at slots k) as (λ o. option_map link_of o ≡ None → o ≡ None) [
-  | None ↦ λ _. refl
-  | Some n ↦ λ w. absurd (let z : ◌≡◌ {A = Option Link} (Some (link_of n)) None = w in cc)
-] e
+no_link slots k e = none_from link_of (node_at slots k) e
 
 -- a key that has left its list
 pub parts_out : (a b c d : Slots) (key : ℕ) (node : Node) → Writes key None a b → SetsNext node.prev node.next b c → SetsPrev node.next node.prev c d → slot_at a key ≢ None → TakesOut (links a) (links d) key → Parts key a d

@@ -3,6 +3,7 @@ use Rattle.std.proofs.Common.{◌≡◌, ◌≢◌, ℕ, ◌<◌, ◌≤◌, ◌
 use Rattle.std.proofs.lemmas.Bool.{cases_eq, eq-eqb, ne_eqb}
 use Rattle.l4_links.specs.Inside.Trees.{Limb, StandsAfter, SameOrder}
 use Rattle.l4_links.specs.Inside.Orders.{position, IsIn}
+use Rattle.l4_links.proofs.Writes.{no_some}
 
 pub position_here : (x : ℕ) (xs : List ℕ) (k : ℕ) → x ≡ k → position (x ∷ xs) k ≡ 0
 position_here x xs k e = ap (λ b. cond b 0 (position xs k + 1)) (eq-eqb x k e)
@@ -91,7 +92,7 @@ position_new (x ∷ xs) p k ys ne out =
 pub stands_after : (at : ℕ → Option Limb) (xs : List ℕ) (p k : ℕ) (ys : List ℕ) → at k ≡ None → k ≢ p → ¬ (IsIn xs p) → ¬ (IsIn xs k) → StandsAfter at (position (xs ++ p ∷ ys)) (position (xs ++ p ∷ k ∷ ys)) p k
 stands_after at xs p k ys vacant ne out_p out_k =
     let here = position_parted xs p ys out_p in
-    let other : (a : ℕ) (x : Limb) → at a ≡ Some x → a ≢ k = λ a x is e. let w : ◌≡◌ {A = Option Limb} None (Some x) = sym vacant ∙ sym (ap at e) ∙ is in absurd (let z : ◌≡◌ {A = Option Limb} None (Some x) = w in cc) in
+    let other : (a : ℕ) (x : Limb) → at a ≡ Some x → a ≢ k = λ a x is e. no_some x (sym vacant ∙ sym (ap at e) ∙ is) in
     record {
       here = (let n = position_new xs p k ys ne out_k in omega (arith, n, here));
       low = λ a x is le. elim (position_in xs p k ys a (other a x is) out_p) [
@@ -104,17 +105,22 @@ stands_after at xs p k ys vacant ne out_p out_k =
       ];
     }
 
--- and the keys that are left stand in the order that they had
+-- keys that stay where they were, or move back by as many places as were taken out before them, keep their order
+pub order_back : (at : ℕ → Option Limb) (pos later : ℕ → ℕ) (n gone : ℕ)
+    → ((a : ℕ) (x : Limb) → at a ≡ Some x → ((pos a < n) × (later a ≡ pos a)) ⊎ ((n + gone ≤ pos a) × (later a + gone ≡ pos a))) → SameOrder at pos later
+order_back at pos later n gone moved = record {
+  onward = λ a b x y is_a is_b lt. (both (moved a x is_a) (moved b y is_b)).0 lt;
+  back = λ a b x y is_a is_b lt. (both (moved a x is_a) (moved b y is_b)).1 lt;
+}
+  where
+    both : {a b : ℕ} → ((pos a < n) × (later a ≡ pos a)) ⊎ ((n + gone ≤ pos a) × (later a + gone ≡ pos a)) → ((pos b < n) × (later b ≡ pos b)) ⊎ ((n + gone ≤ pos b) × (later b + gone ≡ pos b))
+        → (pos a < pos b → later a < later b) × (later a < later b → pos a < pos b)
+    both (inl (p, q)) (inl (r, s)) = (λ lt. omega (arith, lt, p, q, r, s), λ lt. omega (arith, lt, p, q, r, s))
+    both (inl (p, q)) (inr (r, s)) = (λ lt. omega (arith, lt, p, q, r, s), λ lt. omega (arith, lt, p, q, r, s))
+    both (inr (p, q)) (inl (r, s)) = (λ lt. omega (arith, lt, p, q, r, s), λ lt. omega (arith, lt, p, q, r, s))
+    both (inr (p, q)) (inr (r, s)) = (λ lt. omega (arith, lt, p, q, r, s), λ lt. omega (arith, lt, p, q, r, s))
+
+-- so do the keys that are left without one
 pub same_order_out : (at : ℕ → Option Limb) (xs : List ℕ) (k : ℕ) (ys : List ℕ) → at k ≡ None → SameOrder at (position (xs ++ k ∷ ys)) (position (xs ++ ys))
-same_order_out at xs k ys vacant =
-    let other : (a : ℕ) (x : Limb) → at a ≡ Some x → a ≢ k = λ a x is e. let w : ◌≡◌ {A = Option Limb} None (Some x) = sym vacant ∙ sym (ap at e) ∙ is in absurd (let z : ◌≡◌ {A = Option Limb} None (Some x) = w in cc) in
-    record {
-      onward = λ a b x y is_a is_b lt. elim (position_out xs k ys a (other a x is_a)) [
-        | inl r ↦ (let r0 = r.0 in let r1 = r.1 in elim (position_out xs k ys b (other b y is_b)) [ inl q ↦ (let q0 = q.0 in let q1 = q.1 in omega (arith, lt, r0, r1, q0, q1)) | inr q ↦ (let q0 = q.0 in let q1 = q.1 in omega (arith, lt, r0, r1, q0, q1)) ])
-        | inr r ↦ (let r0 = r.0 in let r1 = r.1 in elim (position_out xs k ys b (other b y is_b)) [ inl q ↦ (let q0 = q.0 in let q1 = q.1 in omega (arith, lt, r0, r1, q0, q1)) | inr q ↦ (let q0 = q.0 in let q1 = q.1 in omega (arith, lt, r0, r1, q0, q1)) ])
-      ];
-      back = λ a b x y is_a is_b lt. elim (position_out xs k ys a (other a x is_a)) [
-        | inl r ↦ (let r0 = r.0 in let r1 = r.1 in elim (position_out xs k ys b (other b y is_b)) [ inl q ↦ (let q0 = q.0 in let q1 = q.1 in omega (arith, lt, r0, r1, q0, q1)) | inr q ↦ (let q0 = q.0 in let q1 = q.1 in omega (arith, lt, r0, r1, q0, q1)) ])
-        | inr r ↦ (let r0 = r.0 in let r1 = r.1 in elim (position_out xs k ys b (other b y is_b)) [ inl q ↦ (let q0 = q.0 in let q1 = q.1 in omega (arith, lt, r0, r1, q0, q1)) | inr q ↦ (let q0 = q.0 in let q1 = q.1 in omega (arith, lt, r0, r1, q0, q1)) ])
-      ];
-    }
+same_order_out at xs k ys vacant = order_back at (position (xs ++ k ∷ ys)) (position (xs ++ ys)) (length xs) 1 (λ a x is.
+    elim (position_out xs k ys a (λ e. no_some x (sym vacant ∙ sym (ap at e) ∙ is))) [ inl r ↦ inl r | inr r ↦ inr (let r0 = r.0 in omega (arith, r0), r.1) ])

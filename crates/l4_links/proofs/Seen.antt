@@ -13,7 +13,7 @@ use Rattle.l4_nodes.specs.Slots.{Slots, Spot, slot_at, node_at, spots, spot_of}
 use Rattle.l4_links.specs.Inside.Nodes.{left_spot, limbs, values, sources, Worth, capped_worth}
 use Rattle.l4_links.specs.Entries.{entry_at, standing_at, IsBlank, parent_of, Descends, capped, cut_off}
 use Rattle.l4_links.specs.Inside.Keeping.{standing_of, entry_of, entries_of}
-use Rattle.l4_links.proofs.Writes.{limb_of, worth_of}
+use Rattle.l4_links.proofs.Writes.{none_from, map_from, map_over, limb_of, worth_of}
 
 -- what stands, of its tree and its worth
 abbrev pub stands_as : Option Limb → Option Worth → Option Standing
@@ -63,18 +63,13 @@ pub descends_of : (slots : Slots) {low high : ℕ} → Leads (parent_at (limbs s
 descends_of slots {low} {high} l = subst (λ (f : ℕ → Option ℕ). Leads f low high) (λ i k. sym (parent_same slots k) i) l
 
 pub no_standing : (o : Option Node) → option_map standing_of o ≡ None → o ≡ None
-no_standing None e = refl
-no_standing (Some n) e = absurd (let z : ◌≡◌ {A = Option Standing} (Some (standing_of n)) None = e in cc)
+no_standing o e = none_from standing_of o e
 
 pub blank_node : (slots : Slots) (k : ℕ) → IsBlank (entries_of slots) k → node_at slots k ≡ None
 blank_node slots k b = no_standing (node_at slots k) (sym (standing_is slots k) ∙ b.blank)
 
 pub source_is : (slots : Slots) (k : ℕ) → option_map (λ (t : Standing). t.source) (standing_at (entries_of slots) k) ≡ sources slots k
-source_is slots k = ap (option_map (λ (t : Standing). t.source)) (standing_is slots k) ∙ over (node_at slots k)
-  where
-    over : (o : Option Node) → option_map (λ (t : Standing). t.source) (option_map standing_of o) ≡ option_map (λ (w : Worth). w.source) (option_map worth_of o)
-    over None = refl
-    over (Some n) = refl
+source_is slots k = ap (option_map (λ (t : Standing). t.source)) (standing_is slots k) ∙ map_over standing_of (λ (t : Standing). t.source) worth_of (λ (w : Worth). w.source) (λ n. refl) (node_at slots k)
 
 -- an entry where something stands now
 pub stands_joined : (o : Option Spot) (x : Limb) (w : Worth) (y : Option Limb) (v : Option Worth)
@@ -113,7 +108,4 @@ cut_joined (Some p) x w =
 
 -- what stands under a key is a node
 pub standing_node : (slots : Slots) (k : ℕ) (t : Standing) → standing_at (entries_of slots) k ≡ Some t → (n : Node) × (node_at slots k ≡ Some n) × (standing_of n ≡ t)
-standing_node slots k t is = elim (node_at slots k) as (λ o. node_at slots k ≡ o → option_map standing_of o ≡ Some t → (n : Node) × (node_at slots k ≡ Some n) × (standing_of n ≡ t)) [
-  | None ↦ λ _ e. absurd (let z : ◌≡◌ {A = Option Standing} None (Some t) = e in cc)
-  | Some n ↦ λ at e. (n, at, (let z : ◌≡◌ {A = Option Standing} (Some (standing_of n)) (Some t) = e in cc))
-] refl (sym (standing_is slots k) ∙ is)
+standing_node slots k t is = map_from standing_of (node_at slots k) t (sym (standing_is slots k) ∙ is)

@@ -11,7 +11,7 @@ use Rattle.l4_links.specs.Inside.Nodes.{values, Worth, Doom, dooms, Caps, Comes,
 use Rattle.l4_links.specs.Inside.Stacks.{IsStacked, IsStack, HasStack}
 use Rattle.l4_links.specs.Inside.Keeping.{standing_of, entries_of}
 use Rattle.l4_links.specs.Entries.{standing_at, HaveRights}
-use Rattle.l4_links.proofs.Writes.{map_at, doom_of, has_slot, worth_of}
+use Rattle.l4_links.proofs.Writes.{no_some, same_some, map_from, map_both, map_at, doom_of, has_slot, worth_of}
 use Rattle.l4_links.proofs.Noting.{quiet_of, IsQuiet}
 use Rattle.l4_links.proofs.Seen.{standing_is}
 
@@ -47,16 +47,6 @@ with_none true = refl
 -- within no rights there are none
 pub common_none : (r : RightsSet) → common r no_rights ≡ no_rights
 common_none r = λ i. record { r = with_none r.r i; w = with_none r.w i; x = with_none r.x i }
-
--- a key that the stack knows has a node
-pub doom_node : (slots : Slots) (k : ℕ) (d : Doom) → dooms slots k ≡ Some d → (n : Node) × (node_at slots k ≡ Some n) × (doom_of n ≡ d)
-doom_node slots k d is = elim (node_at slots k) as (λ o. node_at slots k ≡ o → option_map doom_of o ≡ Some d → (n : Node) × (node_at slots k ≡ Some n) × (doom_of n ≡ d)) [
-  | None ↦ λ e w. absurd (let z : ◌≡◌ {A = Option Doom} None (Some d) = w in cc)
-  | Some n ↦ λ e w. (n, e, (let z : ◌≡◌ {A = Option Doom} (Some (doom_of n)) (Some d) = w in cc))
-] refl is
-
-pub same_doom : {c d : Doom} → ◌≡◌ {A = Option Doom} (Some c) (Some d) → c ≡ d
-same_doom {c} {d} e = let z : ◌≡◌ {A = Option Doom} (Some c) (Some d) = e in cc
 
 pub doom_at : (slots : Slots) (k : ℕ) (n : Node) → node_at slots k ≡ Some n → dooms slots k ≡ Some (doom_of n)
 doom_at slots k n at = ap (option_map doom_of) at
@@ -128,7 +118,7 @@ stack_popped old new key rest s gone others = record {
   once = s.once.1;
   stacked = stacked_same (dooms old) (dooms new) rest (λ k i. others k (λ e. s.once.0 (subst (λ (z : ℕ). IsIn rest z) e i))) s.stacked.1;
   all = λ k d is none. elim (cases_eq k key) [
-    | inl e ↦ absurd (let w : ◌≡◌ {A = Option Doom} None (Some d) = sym gone ∙ sym (ap (dooms new) e) ∙ is in cc)
+    | inl e ↦ no_some d (sym gone ∙ sym (ap (dooms new) e) ∙ is)
     | inr ne ↦ elim (s.all k d (sym (others k ne) ∙ is) none) [ inl e ↦ absurd (ne (sym e)) | inr i ↦ i ]
   ];
 }
@@ -147,26 +137,23 @@ head_none slots head s some = sym s.head_is ∙ no_keys slots s.keys s.stack.sta
 -- what a contract says of rights
 pub right_of_value : (slots : Slots) (k : ℕ) → ((w : Worth) → values slots k ≡ Some w → w.rights ≢ no_rights) → HasRight slots k
 right_of_value slots k some d is none =
-    let n = doom_node slots k d is in
+    let n = map_from doom_of (node_at slots k) d is in
     some (worth_of n.0) (ap (option_map worth_of) n.1) (ap (λ (z : Doom). z.rights) n.2 ∙ none)
 
 pub right_of_standing : (slots : Slots) (k : ℕ) → ((t : Standing) → standing_at (entries_of slots) k ≡ Some t → t.rights ≢ no_rights) → HasRight slots k
 right_of_standing slots k some d is none =
-    let n = doom_node slots k d is in
+    let n = map_from doom_of (node_at slots k) d is in
     some (standing_of n.0) (standing_is slots k ∙ ap (option_map standing_of) n.1) (ap (λ (z : Doom). z.rights) n.2 ∙ none)
 
 pub no_right : (slots : Slots) (k : ℕ) → node_at slots k ≡ None → HasRight slots k
-no_right slots k none d is = absurd (let w : ◌≡◌ {A = Option Doom} None (Some d) = sym (ap (option_map doom_of) none) ∙ is in cc)
+no_right slots k none d is = no_some d (sym (ap (option_map doom_of) none) ∙ is)
 
 -- the worth and the rights of a key
 pub some_worth : (slots : Slots) (k : ℕ) (w : Worth) → values slots k ≡ Some w → w.rights ≢ no_rights → HasRight slots k
-some_worth slots k w is some = right_of_value slots k (λ v at none. some (ap (λ (z : Worth). z.rights) (same w v (sym is ∙ at)) ∙ none))
-  where
-    same : (w v : Worth) → ◌≡◌ {A = Option Worth} (Some w) (Some v) → w ≡ v
-    same w v e = let z : ◌≡◌ {A = Option Worth} (Some w) (Some v) = e in cc
+some_worth slots k w is some = right_of_value slots k (λ v at none. some (ap (λ (z : Worth). z.rights) (same_some (sym is ∙ at)) ∙ none))
 
 pub right_at : (slots : Slots) (k : ℕ) (n : Node) → node_at slots k ≡ Some n → n.rights ≢ no_rights → HasRight slots k
-right_at slots k n at some d is none = some (ap (λ (z : Doom). z.rights) (same_doom (sym (doom_at slots k n at) ∙ is)) ∙ none)
+right_at slots k n at some d is none = some (ap (λ (z : Doom). z.rights) (same_some (sym (doom_at slots k n at) ∙ is)) ∙ none)
 
 -- the cap of a node without rights
 pub caps_kept : (slots : Slots) (key : ℕ) (cap : RightsSet) (n : Node) → node_at slots key ≡ Some n → n.rights ≡ no_rights → Caps key cap slots slots
@@ -210,35 +197,22 @@ stack_comes worth key old new head c some s = stack_off old new head key (no_rig
 
 -- the same nodes but for their notes
 pub stack_quiet : (old new : Slots) (head : Option ℕ) → IsQuiet old new → HasStack old head → HasStack new head
-stack_quiet old new head quiet s = stack_same old new head (λ k. sym (over (node_at new k)) ∙ ap (option_map doom_of) (quiet k) ∙ over (node_at old k)) s
-  where
-    over : (o : Option Node) → option_map doom_of (option_map quiet_of o) ≡ option_map doom_of o
-    over None = refl
-    over (Some n) = refl
+stack_quiet old new head quiet s = stack_same old new head (λ k. sym (map_both doom_of quiet_of (λ n. refl) (node_at new k)) ∙ ap (option_map doom_of) (quiet k) ∙ map_both doom_of quiet_of (λ n. refl) (node_at old k)) s
 
 -- where all have rights, and what is left has what it had
 stack_kept : (old new : Slots) (head : Option ℕ) → HaveRights (entries_of old) → ((k : ℕ) (w : Worth) → values new k ≡ Some w → values new k ≡ values old k) → HasStack old head → HasStack new head
 stack_kept old new head some kept s =
     let was : (k : ℕ) → HasRight old k = λ k. right_of_standing old k (some k) in
     subst (λ (o : Option ℕ). HasStack new o) (sym (head_none old head s was))
-    (stack_empty new (λ k. right_of_value new k (λ w is none. (let v = worth_node old k w (sym (kept k w is) ∙ is) in was k (doom_of v.0) (doom_at old k v.0 v.1) (ap (λ (z : Worth). z.rights) v.2 ∙ none)))))
-  where
-    worth_node : (slots : Slots) (k : ℕ) (w : Worth) → values slots k ≡ Some w → (n : Node) × (node_at slots k ≡ Some n) × (worth_of n ≡ w)
-    worth_node slots k w is = elim (node_at slots k) as (λ o. node_at slots k ≡ o → option_map worth_of o ≡ Some w → (n : Node) × (node_at slots k ≡ Some n) × (worth_of n ≡ w)) [
-      | None ↦ λ e v. absurd (let z : ◌≡◌ {A = Option Worth} None (Some w) = v in cc)
-      | Some n ↦ λ e v. (n, e, (let z : ◌≡◌ {A = Option Worth} (Some (worth_of n)) (Some w) = v in cc))
-    ] refl is
-
-no_worth : {X : Type 0} (w : Worth) → ◌≡◌ {A = Option Worth} None (Some w) → X
-no_worth {X} w e = absurd (let z : ◌≡◌ {A = Option Worth} None (Some w) = e in cc)
+    (stack_empty new (λ k. right_of_value new k (λ w is none. (let v = map_from worth_of (node_at old k) w (sym (kept k w is) ∙ is) in was k (doom_of v.0) (doom_at old k v.0 v.1) (ap (λ (z : Worth). z.rights) v.2 ∙ none)))))
 
 pub stack_cleared : (top : ℕ) (first after : Option ℕ) (old new : Slots) (head : Option ℕ) → HaveRights (entries_of old) → Clears top first after old new → HasStack old head → HasStack new head
 stack_cleared top first after old new head some p s =
     stack_kept old new head some
     (λ k w is. p.values_kept k
-    (λ e. no_worth w (sym (ap (option_map worth_of) (ap (node_at new) e ∙ p.here)) ∙ is))
-    (λ l. no_worth w (sym (ap (option_map worth_of) (p.gone k l)) ∙ is))) s
+    (λ e. no_some w (sym (ap (option_map worth_of) (ap (node_at new) e ∙ p.here)) ∙ is))
+    (λ l. no_some w (sym (ap (option_map worth_of) (p.gone k l)) ∙ is))) s
 
 pub stack_pruned : (top : ℕ) (old new : Slots) (head : Option ℕ) → HaveRights (entries_of old) → Prunes top old new → HasStack old head → HasStack new head
 stack_pruned top old new head some p s =
-    stack_kept old new head some (λ k w is. p.values_kept k (λ l. no_worth w (sym (ap (option_map worth_of) (p.gone k l)) ∙ is))) s
+    stack_kept old new head some (λ k w is. p.values_kept k (λ l. no_some w (sym (ap (option_map worth_of) (p.gone k l)) ∙ is))) s

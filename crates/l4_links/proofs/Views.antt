@@ -20,7 +20,7 @@ use Rattle.l4_links.specs.Inside.Keeping.{standing_of, entry_of, entries_of, IsS
 use Rattle.l4_links.proofs.Growing.{leads_same, leads_from_new}
 use Rattle.l4_links.proofs.Seen.{joined, at_seen, shown_is, entry_same, standing_is, leads_of, descends_of, source_is, stands_joined, capped_joined, source_joined, plain_joined, cut_joined}
 use Rattle.l4_links.proofs.Kept.{none_below}
-use Rattle.l4_links.proofs.Writes.{limb_of, worth_of}
+use Rattle.l4_links.proofs.Writes.{no_some, map_over, map_at, limb_of, worth_of}
 
 -- what came stands under its key
 view_stands : (old new : Slots) (key : ℕ) (x : Limb) (w : Worth) → limbs new key ≡ Some x → Comes w key old new → Stands key (record { frame = w.frame; rights = w.rights; source = w.source; granted = w.granted; parent = x.parent }) (entries_of old) (entries_of new)
@@ -86,19 +86,11 @@ view_source old new key source c = record {
   others = λ o ne. entry_same old new o (c.spots_same o) (ap (option_map limb_of) (c.others o ne)) (ap (option_map worth_of) (c.others o ne));
 }
   where
-    limb_both : (o : Option Node) → option_map limb_of (option_map (λ (n : Node). record n { source = source }) o) ≡ option_map limb_of o
-    limb_both None = refl
-    limb_both (Some n) = refl
-
-    value_both : (o : Option Node) → option_map worth_of (option_map (λ (n : Node). record n { source = source }) o) ≡ option_map (λ (v : Worth). record v { source = source }) (option_map worth_of o)
-    value_both None = refl
-    value_both (Some n) = refl
-
     limb_here : limbs new key ≡ limbs old key
-    limb_here = ap (option_map limb_of) c.here ∙ limb_both (node_at old key)
+    limb_here = map_at limb_of (λ n. record n { source = source }) (λ n. refl) key old new c.here c.others key
 
     value_here : values new key ≡ option_map (λ (v : Worth). record v { source = source }) (values old key)
-    value_here = ap (option_map worth_of) c.here ∙ value_both (node_at old key)
+    value_here = ap (option_map worth_of) c.here ∙ map_over (λ (n : Node). record n { source = source }) worth_of worth_of (λ (v : Worth). record v { source = source }) (λ n. refl) (node_at old key)
 
 -- a blank came
 pub view_blank : (old new : Slots) (key : ℕ) (place : Place) → slot_at old key ≡ None → slot_at new key ≡ Some (record { place = place; wanted = false; node = None }) → ((o : ℕ) → o ≢ key → slot_at new o ≡ slot_at old o) → AddsBlank place (entries_of old) (entries_of new) key
@@ -111,7 +103,7 @@ view_blank old new key place vacant filled others = record {
 -- what came is a blank
 pub blank_added : (place : Place) (old new : Entries) (key : ℕ) → AddsBlank place old new key → IsBlank new key
 blank_added place old new key a = record {
-  there = λ none. (let w : ◌≡◌ {A = Option Entry} (Some (record { place = place; wanted = false; stands = None })) None = sym a.filled ∙ none in absurd (let z : ◌≡◌ {A = Option Entry} (Some (record { place = place; wanted = false; stands = None })) None = w in cc));
+  there = λ none. no_some (record { place = place; wanted = false; stands = None }) (sym none ∙ a.filled);
   blank = ap (option_and_then (λ (e : Entry). e.stands)) a.filled;
 }
 
@@ -175,13 +167,11 @@ cuts_none slots first stamp walk top s none = record { gone = λ k d. absurd (no
 
 pub view_wanted : (old new : Slots) (key : ℕ) (wanted : Bool) → slots.SetsWanted key wanted old new → SetsWanted key wanted (entries_of old) (entries_of new)
 view_wanted old new key wanted c = record {
-  here = at_seen new key ∙ ap (option_map entry_of) c.here ∙ over (slot_at old key) ∙ sym (ap (option_map (λ (e : Entry). record e { wanted = wanted })) (at_seen old key));
+  here =
+      at_seen new key ∙ ap (option_map entry_of) c.here ∙ map_over (λ (s : Slot). record s { wanted = wanted }) entry_of entry_of (λ (e : Entry). record e { wanted = wanted }) (λ s. refl) (slot_at old key)
+      ∙ sym (ap (option_map (λ (e : Entry). record e { wanted = wanted })) (at_seen old key));
   others = λ o ne. view_others old new o (c.others o ne);
 }
-  where
-    over : (o : Option Slot) → option_map entry_of (option_map (λ (s : Slot). record s { wanted = wanted }) o) ≡ option_map (λ (e : Entry). record e { wanted = wanted }) (option_map entry_of o)
-    over None = refl
-    over (Some s) = refl
 
 pub view_plain : (old new : Slots) (key : ℕ) → slots.SetsPlain key old new → SetsPlain key (entries_of old) (entries_of new)
 view_plain old new key c = record {
@@ -191,19 +181,11 @@ view_plain old new key c = record {
   others = λ o ne. entry_same old new o (c.spots_same o) (ap (option_map limb_of) (c.others o ne)) (ap (option_map worth_of) (c.others o ne));
 }
   where
-    limb_both : (o : Option Node) → option_map limb_of (option_map (λ (n : Node). record n { source = false; granted = None }) o) ≡ option_map limb_of o
-    limb_both None = refl
-    limb_both (Some n) = refl
-
-    value_both : (o : Option Node) → option_map worth_of (option_map (λ (n : Node). record n { source = false; granted = None }) o) ≡ option_map (λ (v : Worth). record v { source = false; granted = None }) (option_map worth_of o)
-    value_both None = refl
-    value_both (Some n) = refl
-
     limb_here : limbs new key ≡ limbs old key
-    limb_here = ap (option_map limb_of) c.here ∙ limb_both (node_at old key)
+    limb_here = map_at limb_of (λ n. record n { source = false; granted = None }) (λ n. refl) key old new c.here c.others key
 
     value_here : values new key ≡ option_map (λ (v : Worth). record v { source = false; granted = None }) (values old key)
-    value_here = ap (option_map worth_of) c.here ∙ value_both (node_at old key)
+    value_here = ap (option_map worth_of) c.here ∙ map_over (λ (n : Node). record n { source = false; granted = None }) worth_of worth_of (λ (v : Worth). record v { source = false; granted = None }) (λ n. refl) (node_at old key)
 
 pub view_takes : (old new : Slots) (key blank : ℕ) (rights : RightsSet) → nodes.TakesOver key blank rights old new → TakesOver key blank rights (entries_of old) (entries_of new)
 view_takes old new key blank rights c = record {
@@ -216,11 +198,7 @@ view_takes old new key blank rights c = record {
   others = λ o nk nb. view_others old new o (c.others o nk nb);
 }
   where
-    stands_over : (o : Option Node) → option_map standing_of (option_map (λ (n : Node). record n { granted = Some rights }) o) ≡ option_map (λ (t : Standing). record t { granted = Some rights }) (option_map standing_of o)
-    stands_over None = refl
-    stands_over (Some n) = refl
-
     over : (p : Place) (o : Option Slot) → option_map entry_of (option_map (λ (s : Slot). record s { place = p; node = option_map (λ (n : Node). record n { granted = Some rights }) s.node }) o)
         ≡ option_map (λ (e : Entry). record e { place = p; stands = option_map (λ (t : Standing). record t { granted = Some rights }) e.stands }) (option_map entry_of o)
     over p None = refl
-    over p (Some s) = ap (λ (t : Option Standing). Some (record { place = p; wanted = s.wanted; stands = t })) (stands_over s.node)
+    over p (Some s) = ap (λ (t : Option Standing). Some (record { place = p; wanted = s.wanted; stands = t })) (map_over (λ (n : Node). record n { granted = Some rights }) standing_of standing_of (λ (t : Standing). record t { granted = Some rights }) (λ n. refl) s.node)

@@ -6,7 +6,7 @@ ghost use Rattle.l4_links.specs.Leads.{Leads};
 ghost use Rattle.l4_links.specs.Inside.Trees.{parent_at};
 ghost use Rattle.l4_links.specs.Inside.Stacks.{HasStack};
 ghost use Rattle.l4_nodes.specs.Slots.{node_at};
-ghost use Rattle.l4_links.specs.Inside.Nodes.{limbs, AreKeys, IsForest, HasMarks, CapsBelow, HasSeen, IsSame, Meets, NoneMet, IsMarked, IsStamped, AreUnmarked};
+ghost use Rattle.l4_links.specs.Inside.Nodes.{limbs, AreKeys, IsForest, HasLow, HasMarks, CapsBelow, HasSeen, IsSame, Meets, NoneMet, IsMarked, IsStamped, AreUnmarked};
 ghost use Rattle.l4_links.specs.ListOf.{IsListOf};
 ghost use Rattle.l4_links.specs.Inside.Keeping.{IsFresh, BeginsWalk, sources_walk};
 
@@ -39,12 +39,12 @@ pub(crate) fn cap_below(
     doomed: Link,
 ) -> Link
     requires few { AreKeys nodes.old.slots }
-    requires marks { HasMarks cap stamp nodes.old.slots }
+    requires marks { HasMarks (HasLow cap nodes.old.slots) stamp nodes.old.slots }
     requires stamped { IsStamped stamp nodes.old.slots }
     requires there { node_at nodes.old.slots top ≢ None }
     requires stack { HasStack nodes.old.slots doomed }
     ensures caps { CapsBelow top cap nodes.old.slots nodes.new.slots }
-    ensures marks { HasMarks cap stamp nodes.new.slots }
+    ensures marks { HasMarks (HasLow cap nodes.new.slots) stamp nodes.new.slots }
     ensures stamped { IsStamped stamp nodes.new.slots }
     ensures stack { HasStack nodes.new.slots result }
 {

@@ -12,7 +12,7 @@ use Rattle.l4_links.specs.declared.Links.TheInside.{Inside}
 use Rattle.l4_links.specs.Inside.Trees.{Limb}
 use Rattle.l4_links.specs.Inside.Orders.{first_of}
 use Rattle.l4_nodes.specs.Slots.{Slots, Spot, spots}
-use Rattle.l4_links.specs.Inside.Nodes.{limbs, values, Worth, AreKeys, IsOf, IsLow, IsForest, IsStamped, AreUnmarked, HasMarks, HasSeen}
+use Rattle.l4_links.specs.Inside.Nodes.{limbs, values, Worth, AreKeys, IsOf, IsLow, IsForest, IsStamped, AreUnmarked, HasLow, HasMarks, HasSeen}
 use Rattle.l4_links.specs.Inside.Stacks.{HasStack}
 use Rattle.l4_links.specs.Entries.{Entries, Linked}
 
@@ -62,7 +62,7 @@ pub record IsSound (slots : Slots) (first : Option ℕ) (stamp walk : ℕ) : Typ
   pub first_is : first_of keys None ≡ first
   pub within : IsWithin slots
   pub stamped : IsStamped stamp slots
-  pub capped : walk ≢ sources_walk → HasMarks (set_of_bits walk) stamp slots
+  pub capped : walk ≢ sources_walk → HasMarks (HasLow (set_of_bits walk) slots) stamp slots
   pub sought : walk ≡ sources_walk → HasSeen stamp slots
 
 -- the nodes are trees, the list begins with this key, and no mark is above this stamp; which marks are right is not said

@@ -215,23 +215,39 @@ pub record IsMarked (stamp mark : ℕ) : Type 0 where
 abbrev pub IsLow : RightsSet → RightsSet → Type 0
 IsLow cap rights = common rights cap ≡ rights
 
--- the run of the key's descendants goes up to this one
-pub record Ends (at : ℕ → Option Limb) (ks : List ℕ) (top depth : ℕ) (end : Option ℕ) : Type 0 where
+-- all keys after the top, up to the end, are deeper than this depth, and this holds of each
+pub record Passes (at : ℕ → Option Limb) (Holds : ℕ → Type 0) (ks : List ℕ) (top depth : ℕ) (end : Option ℕ) : Type 0 where
   pub beyond : position ks top < place_of ks end
   pub live : (b : ℕ) → end ≡ Some b → IsIn ks b
   pub deeper : (b : ℕ) (y : Limb) → at b ≡ Some y → position ks top < position ks b → position ks b < place_of ks end → depth < y.depth
-  pub stops : (b : ℕ) (y : Limb) → end ≡ Some b → at b ≡ Some y → y.depth ≤ depth
+  pub each : (j : ℕ) → position ks top < position ks j → position ks j < place_of ks end → Holds j
 
--- the rights of all that descends from the key lie within these, and its run goes up to this end
-pub record IsDone (slots : Slots) (ks : List ℕ) (cap : RightsSet) (top depth : ℕ) (end : Option ℕ) : Type 0 where
-  pub ends : Ends (limbs slots) ks top depth end
-  pub low : (j : ℕ) (n : Node) → node_at slots j ≡ Some n → position ks top < position ks j → position ks j < place_of ks end → IsLow cap n.rights
+-- the key at the end of a run, if there is one, is no deeper than this
+abbrev pub Stops : (ℕ → Option Limb) → ℕ → Option ℕ → Type 0
+Stops at depth end = (b : ℕ) (y : Limb) → end ≡ Some b → at b ≡ Some y → y.depth ≤ depth
+
+-- the run of the key's descendants goes up to this end, and this holds of each of them
+pub record IsDone (at : ℕ → Option Limb) (Holds : ℕ → Type 0) (ks : List ℕ) (top depth : ℕ) (end : Option ℕ) : Type 0 where
+  pub passes : Passes at Holds ks top depth end
+  pub stops : Stops at depth end
+
+-- this holds of the run of each node that has the mark
+abbrev pub AreDone : (ℕ → Type 0) → ℕ → Slots → List ℕ → Type 0
+AreDone Holds stamp slots ks = (k : ℕ) (n : Node) → node_at slots k ≡ Some n → IsMarked stamp n.mark → IsDone (limbs slots) Holds ks k n.depth n.end
 
 -- the nodes are trees, and each that has the mark is done
-pub record HasMarks (cap : RightsSet) (stamp : ℕ) (slots : Slots) : Type 0 where
+pub record HasMarks (Holds : ℕ → Type 0) (stamp : ℕ) (slots : Slots) : Type 0 where
   pub keys : List ℕ
   pub forest : IsForest slots keys
-  pub marked : (k : ℕ) (n : Node) → node_at slots k ≡ Some n → IsMarked stamp n.mark → IsDone slots keys cap k n.depth n.end
+  pub marked : AreDone Holds stamp slots keys
+
+-- the rights of the key's node lie within these
+abbrev pub HasLow : RightsSet → Slots → ℕ → Type 0
+HasLow cap slots key = (n : Node) → node_at slots key ≡ Some n → IsLow cap n.rights
+
+-- no source is under the key
+abbrev pub NoSource : Slots → ℕ → Type 0
+NoSource slots key = sources slots key ≢ Some true
 
 -- the rights of all that descends from the key are no others than these, and all else is as it was
 pub record CapsBelow (top : ℕ) (cap : RightsSet) (old new : Slots) : Type 0 where
@@ -255,16 +271,9 @@ abbrev pub Meets : ℕ → Slots → Type 0
 Meets top slots = (j : ℕ) × (Leads (parent_at (limbs slots)) j top × (sources slots j ≡ Some true))
 
 abbrev pub NoneMet : ℕ → Slots → Type 0
-NoneMet top slots = (j : ℕ) → Leads (parent_at (limbs slots)) j top → sources slots j ≢ Some true
+NoneMet top slots = (j : ℕ) → Leads (parent_at (limbs slots)) j top → NoSource slots j
 
--- no source descends from the key, and its run goes up to this end
-pub record IsFree (slots : Slots) (ks : List ℕ) (top depth : ℕ) (end : Option ℕ) : Type 0 where
-  pub ends : Ends (limbs slots) ks top depth end
-  pub free : (j : ℕ) → position ks top < position ks j → position ks j < place_of ks end → sources slots j ≢ Some true
-
--- the nodes are trees; each that has the mark is free, and no source descends from one that was seen
+-- where a node has the mark, no source is in its run, and no source descends from one that was seen
 pub record HasSeen (stamp : ℕ) (slots : Slots) : Type 0 where
-  pub keys : List ℕ
-  pub forest : IsForest slots keys
-  pub marked : (k : ℕ) (n : Node) → node_at slots k ≡ Some n → IsMarked stamp n.mark → IsFree slots keys k n.depth n.end
+  pub marks : HasMarks (NoSource slots) stamp slots
   pub seen : (k : ℕ) (n : Node) → node_at slots k ≡ Some n → IsMarked stamp n.seen → NoneMet k slots

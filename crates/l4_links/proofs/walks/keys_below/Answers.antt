@@ -1,5 +1,8 @@
-use Rattle.std.proofs.Common.{◌≡◌, ◌+◌, ◌++◌, ◌∷◌, [], ℕ, List, length, Option, None, refl, sym, ap, ◌∙◌, subst, arith, length-append}
-use Rattle.l4_links.proofs.Listing.{HasPassed, passed_first, passed_more, passed_ends, passed_there, passed_at_end, passed_at_key}
+use Rattle.std.proofs.Common.{◌≡◌, ◌+◌, ◌++◌, ◌∷◌, [], ℕ, List, length, sym, ap, ◌∙◌, subst, arith, length-append}
+use Rattle.l4_links.specs.Inside.Nodes.{limbs}
+use Rattle.l4_links.proofs.Cutting.{HasPassed, passed_first, passed_more, passed_ends, passed_there}
+use Rattle.l4_links.proofs.Walking.{stops_end, stops_at}
+use Rattle.l4_links.proofs.Listing.{passed_all}
 use Rattle.l4_links.proofs.walks.keys_below.Goals as goal
 
 pub loop-init : goal.loop-init
@@ -10,26 +13,25 @@ loop-init c =
 
 pub returns-in_default-key : goal.returns-in_default-key
 returns-in_default-key c =
-    let so_far : HasPassed c.args.nodes.now.slots c.args.top c.in-Some.head.depth None c.loop.keys.items =
-    subst (λ (o : Option ℕ). HasPassed c.args.nodes.now.slots c.args.top c.in-Some.head.depth o c.loop.keys.items) (sym c.key.ensures ∙ c.in_default-key.is) c.loop.invariant.0 in
-    passed_at_end c.args.nodes.now.slots c.args.top c.in-Some.head.depth c.loop.keys.items c.in-Some.head so_far (sym c.node_of.ensures ∙ c.in-Some.is) refl
+    passed_all c.args.nodes.now.slots c.args.top c.loop.at c.loop.keys.items c.in-Some.head c.loop.invariant.0 (sym c.node_of.ensures ∙ c.in-Some.is)
+    (stops_end (limbs c.args.nodes.now.slots) c.in-Some.head.depth c.loop.at (sym c.key.ensures ∙ c.in_default-key.is))
 
 pub unreachable-requires-in_default-node_of : goal.unreachable-requires-in_default-node_of
 unreachable-requires-in_default-node_of c =
-    let so_far = subst (λ (o : Option ℕ). HasPassed c.args.nodes.now.slots c.args.top c.in-Some.head.depth o c.loop.keys.items) (sym c.key.ensures ∙ c.in-Some-key.is) c.loop.invariant.0 in
-    passed_there c.args.nodes.now.slots c.args.top c.in-Some.head.depth c.in-Some-key.key c.loop.keys.items so_far (sym c.node_of-in-loop.ensures ∙ c.in_default-node_of.is)
+    passed_there c.args.nodes.now.slots c.args.top c.in-Some.head.depth c.in-Some-key.key c.loop.at c.loop.keys.items c.loop.invariant.0 (sym c.key.ensures ∙ c.in-Some-key.is)
+    (sym c.node_of-in-loop.ensures ∙ c.in_default-node_of.is)
 
 pub returns-then-node-depth : goal.returns-then-node-depth
 returns-then-node-depth c =
-    let so_far = subst (λ (o : Option ℕ). HasPassed c.args.nodes.now.slots c.args.top c.in-Some.head.depth o c.loop.keys.items) (sym c.key.ensures ∙ c.in-Some-key.is) c.loop.invariant.0 in
-    passed_at_key c.args.nodes.now.slots c.args.top c.in-Some.head.depth c.in-Some-key.key c.loop.keys.items c.in-Some.head c.in-Some-node_of.node so_far (sym c.node_of.ensures ∙ c.in-Some.is) refl
-    (sym c.node_of-in-loop.ensures ∙ c.in-Some-node_of.is) c.if-node-depth.true
+    passed_all c.args.nodes.now.slots c.args.top c.loop.at c.loop.keys.items c.in-Some.head c.loop.invariant.0 (sym c.node_of.ensures ∙ c.in-Some.is)
+    (stops_at c.args.nodes.now.slots c.in-Some.head.depth c.in-Some-key.key c.loop.at c.in-Some-node_of.node (sym c.key.ensures ∙ c.in-Some-key.is) (sym c.node_of-in-loop.ensures ∙ c.in-Some-node_of.is) c.if-node-depth.true)
 
 pub loop-preserved : goal.loop-preserved
 loop-preserved c =
-    let so_far = subst (λ (o : Option ℕ). HasPassed c.args.nodes.now.slots c.args.top c.in-Some.head.depth o c.loop.keys.items) (sym c.key.ensures ∙ c.in-Some-key.is) c.loop.invariant.0 in
     let items : c.push.new.self.items ≡ c.loop.keys.items ++ c.in-Some-key.key ∷ [] = c.in_ok-push.ensures.items in
-    let more = passed_more c.args.nodes.now.slots c.args.top c.in-Some.head.depth c.in-Some-key.key c.in-Some-node_of.node c.loop.keys.items so_far (sym c.node_of-in-loop.ensures ∙ c.in-Some-node_of.is) c.if-node-depth.false in
+    let more =
+    passed_more c.args.nodes.now.slots c.args.top c.in-Some.head.depth c.in-Some-key.key c.loop.at c.in-Some-node_of.node c.loop.keys.items c.loop.invariant.0 (sym c.key.ensures ∙ c.in-Some-key.is)
+    (sym c.node_of-in-loop.ensures ∙ c.in-Some-node_of.is) c.if-node-depth.false in
     let long : length (c.loop.keys.items ++ c.in-Some-key.key ∷ []) ≡ length c.loop.keys.items + length (c.in-Some-key.key ∷ []) = length-append c.loop.keys.items (c.in-Some-key.key ∷ []) in
     let one : length (c.in-Some-key.key ∷ []) ≡ 1 = omega arith in
     let count = c.loop.invariant.1 in

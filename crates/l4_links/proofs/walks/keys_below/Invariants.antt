@@ -1,5 +1,5 @@
 use Rattle.std.proofs.Common.{◌≡◌, length}
-use Rattle.l4_links.proofs.Listing.{HasPassed}
+use Rattle.l4_links.proofs.Cutting.{HasPassed}
 use Rattle.l4_links.proofs.walks.keys_below.Given as goal
 
 abbrev pub invariant-loop : goal.invariant-loop
