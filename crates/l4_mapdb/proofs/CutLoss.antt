@@ -1,5 +1,5 @@
 -- What is cut below granted pages is what the transfer's definition cuts.
-use Rattle.std.proofs.Common.{◌≡◌, ◌≢◌, ℕ, ◌^◌, Bool, true, false, List, length, Option, Some, None, option_and_then, option_map, ◌↔◌, ◌⊎◌, inl, inr, IsTrue, refl, sym, ap, ◌∙◌, subst, arith}
+use Rattle.std.proofs.Common.{◌≡◌, ◌≢◌, ℕ, ◌^◌, true, List, length, Option, Some, None, option_and_then, option_map, ◌↔◌, inl, inr, IsTrue, refl, sym, ap, ◌∙◌, subst, arith}
 use Rattle.std.proofs.lemmas.Option.{slice_get_within}
 use Rattle.l4_fpage.specs.Rights.{RightsSet, Right, has, no_rights}
 use Rattle.l4_nodes.specs.declared.Place.{Place as LinkPlace}
@@ -13,19 +13,18 @@ use Rattle.l4_mapdb.specs.declared.ItemMove.{ItemMove}
 use Rattle.l4_mapdb.specs.Mappings.{Mappings, shown, parent_of, Chain}
 use Rattle.l4_mapdb.specs.Mappings as map
 use Rattle.l4_mapdb.specs.Losing.{LosesRights}
-use Rattle.l4_mapdb.specs.Transfer.{PageMove, IsGone, IsCut}
+use Rattle.l4_mapdb.specs.Transfer.{PageMove, IsCut}
 use Rattle.l4_mapdb.proofs.Unique.{same_value, same_rights}
 use Rattle.l4_mapdb.specs.View.{link_place, map_place, place_at, mapping_of, mappings_of}
 use Rattle.l4_mapdb.specs.Inside.Cutting.{IsGrantedAt, IsOrBelow, Capped, IsGrantBelow}
-use Rattle.l4_mapdb.specs.Inside.Placing.{IsStart, Used, IsTarget, Placed}
+use Rattle.l4_mapdb.specs.Inside.Placing.{IsStart, Used, Placed}
 use Rattle.l4_mapdb.specs.Inside.Settling.{left_by, settled_standing, settled_entry, settled}
-use Rattle.l4_mapdb.proofs.View.{shown_by_key, key_shows, some_standing, one_entry, descends_by_key, parent_is}
+use Rattle.l4_mapdb.proofs.View.{shown_by_key, key_shows, some_standing, descends_by_key, parent_is}
 use Rattle.l4_mapdb.proofs.Deciding.{none_or}
 use Rattle.l4_mapdb.proofs.Caps.{has_common, IsSameBare, bare_stands, turned}
 use Rattle.l4_mapdb.proofs.EntriesLemmas.{decided}
 use Rattle.l4_mapdb.proofs.Lost.{HasLost, KeysLose, view_loses}
-use Rattle.l4_mapdb.proofs.Sourced.{stood}
-use Rattle.l4_mapdb.proofs.Moved.{at_settled, was_settled, places_settled, place_at_settled, granted_to, not_granted_here}
+use Rattle.l4_mapdb.proofs.Moved.{at_settled, was_settled, places_settled, place_at_settled, source_of, granted_to, IsGrantedHere, stands_here}
 
 -- a right of what stands below is a right of what stands above
 pub right_up : (s : Entries) → AreTrees s → (low high : ℕ) → Descends s low high → (t u : Standing) → standing_at s low ≡ Some t → standing_at s high ≡ Some u → (k : Right) → IsTrue (has t.rights k) → IsTrue (has u.rights k)
@@ -81,63 +80,19 @@ module _ (start now : Linked) (from to : ℕ) (items : List ItemMove) (ready : I
   abbrev Moves : PageMove → Type 0
   Moves = Used start from to items
 
-  abbrev IsGoneHere : LinkPlace → Type 0
-  IsGoneHere p = IsGone Moves (mappings_of start) (map_place p)
+  abbrev GrantedHere : ℕ → Entry → Type 0
+  GrantedHere top e = IsGrantedHere start now from to items ready Done placed have all top e
 
   -- the used move that granted what stands under a key
-  pub record GrantHere (top : ℕ) (cap : RightsSet) : Type 0 where
-    pub move : PageMove
-    pub used : Moves move
-    pub grant : IsTrue move.grant
-    pub standing : Standing
-    pub at : entry_at now.entries top ≡ Some (record { place = link_place move.target; wanted = false; stands = Some (record standing { source = true; granted = Some cap }) })
-    pub shows : move.shows ≡ mapping_of start.entries standing
-    pub by_is : used.by.rights ≡ cap
-
-  pub grant_here : (top : ℕ) (e : Entry) (t : Standing) (cap : RightsSet) → entry_at now.entries top ≡ Some e → e.stands ≡ Some t → t.granted ≡ Some cap → GrantHere top cap
-  grant_here top e t cap at stands granted = elim (placed.only top e at) [
-    | inl v ↦ by_kind v v.move.grant refl
-    | inr o ↦ absurd (left o.0 o.1 o.2 o.3)
-  ]
-    where
-      noted : option_and_then (λ (y : Standing). y.granted) e.stands ≡ Some cap
-      noted = ap (option_and_then (λ (y : Standing). y.granted)) stands ∙ granted
-
-      left : (before : Entry) → entry_at start.entries top ≡ Some before → before.place ≡ e.place → ¬ (IsGoneHere e.place) → ⊥
-      left before at_start same there =
-          let plain = ready.clean top before at_start in
-          let l = placed.kept top before plain.standing at_start plain.stands (λ g. there (subst IsGoneHere same g)) (not_granted_here start now from to items ready Done placed have all top e before at at_start same) in
-          let both : Some e ≡ Some (record before { stands = Some (record plain.standing { source = l.marked }) }) = sym at ∙ l.at in
-          let is : e ≡ record before { stands = Some (record plain.standing { source = l.marked }) } = same_value both in
-          let z : ◌≡◌ {A = Option RightsSet} (Some cap) None = sym noted ∙ ap (λ (x : Entry). option_and_then (λ (y : Standing). y.granted) x.stands) is ∙ plain.not_granted in
-          cc
-
-      by_kind : (v : IsTarget start from to items e.place) (b : Bool) → v.move.grant ≡ b → GrantHere top cap
-      by_kind v true grant =
-          let p = granted_to start now from to items ready Done placed have all v.move v.used grant in
-          let top_is : p.key ≡ top = have.once (link_place v.move.target) p.key top (ap (option_map {T = Entry} (λ x. x.place)) p.at) (ap (option_map {T = Entry} (λ x. x.place)) at ∙ ap Some (sym v.target)) in
-          let here : entry_at now.entries top ≡ Some (record { place = link_place v.move.target; wanted = false; stands = Some (record p.standing { source = true; granted = Some p.by.rights }) }) = ap (entry_at now.entries) (sym top_is) ∙ p.at in
-          let is : e ≡ record { place = link_place v.move.target; wanted = false; stands = Some (record p.standing { source = true; granted = Some p.by.rights }) } = same_value (sym at ∙ here) in
-          let cap_is : p.by.rights ≡ cap = same_value (sym (sym noted ∙ ap (λ (x : Entry). option_and_then (λ (y : Standing). y.granted) x.stands) is)) in
-          let before = stood start now from to items ready Done placed have v.move v.used in
-          let key_is : before.key ≡ p.key = ready.places.once (link_place v.move.source) before.key p.key (ap (option_map {T = Entry} (λ x. x.place)) before.at ∙ ap Some before.place_is) p.at_start in
-          let entry_is : before.entry ≡ p.stood_as.0 = same_value (sym before.at ∙ ap (entry_at start.entries) key_is ∙ p.stood_as.1) in
-          let standing_is : before.standing ≡ p.standing = same_value (sym before.stands ∙ ap (λ (x : Entry). x.stands) entry_is ∙ p.stood_as.2) in
-          let bys : v.used.by ≡ p.by = same_value (sym v.used.item ∙ p.by_is) in
-          record {
-            move = v.move;
-            used = v.used;
-            grant = grant;
-            standing = p.standing;
-            at = here ∙ ap (λ (r : RightsSet). Some (record { place = link_place v.move.target; wanted = false; stands = Some (record p.standing { source = true; granted = Some r }) })) cap_is;
-            shows = sym before.mapping ∙ ap (mapping_of start.entries) standing_is;
-            by_is = ap (λ (x : ItemMove). x.rights) bys ∙ cap_is;
-          }
-      by_kind v false map =
-          let c = placed.mapped v.move v.used (all v.move v.used) (λ g. let z : false ≡ true = sym map ∙ g in cc) in
-          let is : e ≡ record { place = link_place v.move.target; wanted = true; stands = Some (record { frame = v.move.shows.frame; rights = v.move.rights; source = false; granted = None; parent = Some c.parent }) } =
-          one_entry now have top c.key e (record { place = link_place v.move.target; wanted = true; stands = Some (record { frame = v.move.shows.frame; rights = v.move.rights; source = false; granted = None; parent = Some c.parent }) }) at c.at (sym v.target) in
-          absurd (let z : ◌≡◌ {A = Option RightsSet} (Some cap) None = sym noted ∙ ap (λ (x : Entry). option_and_then (λ (y : Standing). y.granted) x.stands) is in cc)
+  grant_here : (top : ℕ) (e : Entry) (t : Standing) (cap : RightsSet) → entry_at now.entries top ≡ Some e → e.stands ≡ Some t → t.granted ≡ Some cap → (g : GrantedHere top e) × (g.used.by.rights ≡ cap)
+  grant_here top e t cap at stands granted =
+      let note : Entry → Option RightsSet = λ x. option_and_then (λ (y : Standing). y.granted) x.stands in
+      let noted : note e ≡ Some cap = ap (option_and_then (λ (y : Standing). y.granted)) stands ∙ granted in
+      elim (stands_here start now from to items ready Done placed have all top e at) [
+        | inl g ↦ (g, same_value (ap note (sym g.is) ∙ noted))
+        | inr (inl c) ↦ absurd (let z : ◌≡◌ {A = Option RightsSet} (Some cap) None = sym noted ∙ ap note c.is in cc)
+        | inr (inr l) ↦ absurd (let z : ◌≡◌ {A = Option RightsSet} (Some cap) None = sym noted ∙ ap note l.is ∙ l.plain.not_granted in cc)
+      ]
 
   -- each grant is of an item of the message
   pub grant_below : (top : ℕ) (cap : RightsSet) → IsGrantedAt now.entries top cap → IsGrantBelow now.entries to items (length items) top
@@ -147,7 +102,8 @@ module _ (start now : Linked) (from to : ℕ) (items : List ItemMove) (ready : I
       by_standing None h = absurd (let z : ◌≡◌ {A = Option RightsSet} None (Some cap) = sym (ap (option_and_then (λ (y : Standing). y.granted)) h) ∙ granted in cc)
       by_standing (Some t) h =
           let s = some_standing now.entries top t h in
-          let g = grant_here top s.0 t cap s.1 s.2 (sym (ap (option_and_then (λ (y : Standing). y.granted)) h) ∙ granted) in
+          let here = grant_here top s.0 t cap s.1 s.2 (sym (ap (option_and_then (λ (y : Standing). y.granted)) h) ∙ granted) in
+          let g = here.0 in
           let w = g.used.pages.within in
           let ti = g.used.pages.target_is in
           let size : 2 ^ g.used.by.mv.target.log ≡ 2 ^ g.used.by.mv.source.log = ap (λ (n : ℕ). 2 ^ n) (sym g.used.by.mv.same_size) in
@@ -162,8 +118,8 @@ module _ (start now : Linked) (from to : ℕ) (items : List ItemMove) (ready : I
                 page = g.move.target.page;
                 from = omega (arith, ti);
                 before = omega (arith, ti, w, size);
-                at = ap (option_map {T = Entry} (λ x. x.place)) g.at ∙ (λ i. Some (record { space = g.used.to_space i; page = g.move.target.page }));
-                granted = granted ∙ ap Some (sym g.by_is);
+                at = ap (option_map {T = Entry} (λ x. x.place)) s.1 ∙ ap (λ (x : Entry). Some x.place) g.is ∙ (λ i. Some (record { space = g.used.to_space i; page = g.move.target.page }));
+                granted = granted ∙ ap Some (sym here.1);
               };
             };
           }
@@ -196,37 +152,32 @@ module _ (start now : Linked) (from to : ℕ) (items : List ItemMove) (ready : I
     cut_of : LostKey key right → IsCut Moves middle (map_place e.place) right
     cut_of l =
         let s = some_standing now.entries l.top l.above l.at in
-        let g = grant_here l.top s.0 l.above l.cap s.1 s.2 l.granted in
-        let above_is : l.above ≡ record g.standing { source = true; granted = Some l.cap } = same_value (sym l.at ∙ ap (option_and_then (λ (x : Entry). x.stands)) g.at) in
-        let had : IsTrue (has g.move.shows.rights right) = subst (λ (r : RightsSet). IsTrue (has r right)) (ap (λ (x : Standing). x.rights) above_is ∙ ap (λ (m : Mapping). m.rights) (sym g.shows)) l.had in
+        let here = grant_here l.top s.0 l.above l.cap s.1 s.2 l.granted in
+        let g = here.0 in
+        let stood = source_of start now from to items ready Done placed have all g.move g.used in
+        let above_is : l.above.rights ≡ g.move.shows.rights = ap (λ (x : Standing). x.rights) (same_value (sym s.2 ∙ ap (λ (x : Entry). x.stands) g.is)) ∙ ap (λ (m : Mapping). m.rights) stood.mapping in
         record {
           move = g.move;
           used = g.used;
           grant = g.grant;
-          had = had;
-          lacks = λ h. l.lacks (subst (λ (r : RightsSet). IsTrue (has r right)) g.by_is ((has_common g.move.shows.rights g.used.by.rights right).0 (subst (λ (r : RightsSet). IsTrue (has r right)) g.used.rights h)).1);
-          below = chains_same (map_place e.place) g.move.target ((descends_by_key now have trees key l.top (map_place e.place) g.move.target at_its_place (ap (option_map {T = Entry} (λ x. x.place)) g.at)).1 l.below);
+          had = subst (λ (r : RightsSet). IsTrue (has r right)) above_is l.had;
+          lacks = λ h. l.lacks (subst (λ (r : RightsSet). IsTrue (has r right)) here.1 ((has_common g.move.shows.rights g.used.by.rights right).0 (subst (λ (r : RightsSet). IsTrue (has r right)) g.used.rights h)).1);
+          below = chains_same (map_place e.place) g.move.target ((descends_by_key now have trees key l.top (map_place e.place) g.move.target at_its_place (ap (option_map {T = Entry} (λ x. x.place)) s.1 ∙ ap (λ (x : Entry). Some x.place) g.is)).1 l.below);
         }
 
     lost_of : IsCut Moves middle (map_place e.place) right → LostKey key right
     lost_of c =
-        let p = granted_to start now from to items ready Done placed have all c.move c.used c.grant in
-        let before = stood start now from to items ready Done placed have c.move c.used in
-        let key_is : before.key ≡ p.key = ready.places.once (link_place c.move.source) before.key p.key (ap (option_map {T = Entry} (λ x. x.place)) before.at ∙ ap Some before.place_is) p.at_start in
-        let entry_is : before.entry ≡ p.stood_as.0 = same_value (sym before.at ∙ ap (entry_at start.entries) key_is ∙ p.stood_as.1) in
-        let standing_is : before.standing ≡ p.standing = same_value (sym before.stands ∙ ap (λ (x : Entry). x.stands) entry_is ∙ p.stood_as.2) in
-        let shows : c.move.shows ≡ mapping_of start.entries p.standing = sym before.mapping ∙ ap (mapping_of start.entries) standing_is in
-        let bys : c.used.by ≡ p.by = same_value (sym c.used.item ∙ p.by_is) in
+        let at = granted_to start now from to items ready Done placed have all c.move c.used c.grant in
+        let s = source_of start now from to items ready Done placed have all c.move c.used in
         record {
-          top = p.key;
-          cap = p.by.rights;
-          above = record p.standing { source = true; granted = Some p.by.rights };
-          at = ap (option_and_then (λ (x : Entry). x.stands)) p.at;
+          top = s.key;
+          cap = c.used.by.rights;
+          above = record s.standing { source = true; granted = Some c.used.by.rights };
+          at = ap (option_and_then (λ (x : Entry). x.stands)) at;
           granted = refl;
-          had = subst (λ (m : Mapping). IsTrue (has m.rights right)) shows c.had;
-          lacks = λ h. c.lacks (subst (λ (r : RightsSet). IsTrue (has r right)) (sym c.used.rights)
-              ((has_common c.move.shows.rights c.used.by.rights right).1 (c.had, subst (λ (x : ItemMove). IsTrue (has x.rights right)) (sym bys) h)));
-          below = (descends_by_key now have trees key p.key (map_place e.place) c.move.target at_its_place (ap (option_map {T = Entry} (λ x. x.place)) p.at)).0 (chains_back (map_place e.place) c.move.target c.below);
+          had = subst (λ (m : Mapping). IsTrue (has m.rights right)) (sym s.mapping) c.had;
+          lacks = λ h. c.lacks (subst (λ (r : RightsSet). IsTrue (has r right)) (sym c.used.rights) ((has_common c.move.shows.rights c.used.by.rights right).1 (c.had, h)));
+          below = (descends_by_key now have trees key s.key (map_place e.place) c.move.target at_its_place (ap (option_map {T = Entry} (λ x. x.place)) at)).0 (chains_back (map_place e.place) c.move.target c.below);
         }
 
     pub lost_is_cut : LostKey key right ↔ IsCut Moves middle (map_place e.place) right

@@ -1,6 +1,5 @@
 -- What is left once a message is carried out and its marks are taken away.
-use Rattle.std.proofs.Common.{◌≡◌, ◌≢◌, ℕ, ◌^◌, Bool, true, false, List, length, Option, Some, None, option_and_then, option_map, inl, inr, refl, sym, ap, ◌∙◌, subst, slice_get, arith}
-use Rattle.std.proofs.lemmas.Option.{slice_get_within}
+use Rattle.std.proofs.Common.{◌≡◌, ◌≢◌, ℕ, Bool, true, false, List, length, Option, Some, None, option_and_then, option_map, inl, inr, ◌⊎◌, refl, sym, ap, ◌∙◌, subst, slice_get}
 use Rattle.l4_fpage.specs.Rights.{no_rights}
 use Rattle.l4_nodes.specs.declared.Place.{Place as LinkPlace}
 use Rattle.l4_links.specs.declared.Standing.{Standing}
@@ -11,18 +10,17 @@ use Rattle.l4_mapdb.specs.declared.Mapping.{Mapping}
 use Rattle.l4_mapdb.specs.declared.ItemMove.{ItemMove}
 use Rattle.l4_mapdb.specs.Mappings.{Mappings}
 use Rattle.l4_mapdb.specs.Losing.{LosesRights}
-use Rattle.l4_mapdb.specs.Transfer.{PageMove, IsGone, IsCut, Delivers}
+use Rattle.l4_mapdb.specs.Transfer.{PageMove, IsCut, Delivers}
 use Rattle.l4_mapdb.proofs.Unique.{same_value}
 use Rattle.l4_mapdb.specs.View.{link_place, map_place, place_at, mapping_of, mappings_of}
 use Rattle.l4_mapdb.specs.Inside.View.{IsShown}
 use Rattle.l4_mapdb.specs.Delivering.{IsPlain, IsClean, RootsKnown}
 use Rattle.l4_mapdb.specs.Inside.Cutting.{bare, Capped, IsGrantBelow}
 use Rattle.l4_mapdb.specs.Inside.Messages.{plain, tidied, Tidies, OfItems}
-use Rattle.l4_mapdb.specs.Inside.Placing.{IsStart, Used, IsTarget, Placed}
+use Rattle.l4_mapdb.specs.Inside.Placing.{IsStart, Used, Placed}
 use Rattle.l4_mapdb.specs.Inside.Settling.{settled}
-use Rattle.l4_mapdb.proofs.View.{some_standing, stands_at, one_entry, same_view}
-use Rattle.l4_mapdb.proofs.Deciding.{none_or}
-use Rattle.l4_mapdb.proofs.Moved.{moved, granted_to, not_granted_here}
+use Rattle.l4_mapdb.proofs.View.{some_standing, stands_at, same_view}
+use Rattle.l4_mapdb.proofs.Moved.{moved, source_of, IsGrantedHere, IsChildHere, IsLeftHere, stands_here}
 use Rattle.l4_mapdb.proofs.CutLoss.{cut_loses, before_burial, not_buried}
 use Rattle.l4_mapdb.proofs.Caps.{IsSameBare, bare_stands, turned}
 use Rattle.l4_mapdb.proofs.Restored.{target_in, source_in}
@@ -146,33 +144,20 @@ module _ (start now : Linked) (from to : ℕ) (items : List ItemMove) (ready : I
   tidied_here : (key : ℕ) (e : Entry) → entry_at buried.entries key ≡ Some e → OfItems from to items (length items) e.place → entry_at new.entries key ≡ tidied (entry_at buried.entries key)
   tidied_here key e at named = tidies.here key e at named ∙ sym (ap tidied at)
 
+  now_here : (key : ℕ) (e : Entry) → entry_at now.entries key ≡ Some e
+      → IsGrantedHere start now from to items ready Done placed have all key e ⊎ (IsChildHere start now from to items ready Done placed have all e ⊎ IsLeftHere start now from to items ready Done placed have all key e)
+  now_here = stands_here start now from to items ready Done placed have all
+
   -- where all moves are done there is no blank
   all_stand : (key : ℕ) (e : Entry) → entry_at now.entries key ≡ Some e → e.stands ≡ None → ⊥
-  all_stand key e at blank = elim (placed.only key e at) [
-    | inl v ↦ at_target v v.move.grant refl
-    | inr o ↦ left o.0 o.1 o.2 o.3
+  all_stand key e at blank = elim (now_here key e at) [
+    | inl g ↦ stood (ap (λ (x : Entry). x.stands) g.is)
+    | inr (inl c) ↦ stood (ap (λ (x : Entry). x.stands) c.is)
+    | inr (inr l) ↦ stood (ap (λ (x : Entry). x.stands) l.is)
   ]
     where
-      at_target : (v : IsTarget start from to items e.place) (b : Bool) → v.move.grant ≡ b → ⊥
-      at_target v true grant =
-          let p = granted_to start now from to items ready Done placed have all v.move v.used grant in
-          let is = one_entry now have key p.key e (record { place = link_place v.move.target; wanted = false; stands = Some (record p.standing { source = true; granted = Some p.by.rights }) }) at p.at (sym v.target) in
-          let z : ◌≡◌ {A = Option Standing} None (Some (record p.standing { source = true; granted = Some p.by.rights })) = sym blank ∙ ap (λ (x : Entry). x.stands) is in
-          cc
-      at_target v false map =
-          let c = placed.mapped v.move v.used (all v.move v.used) (λ g. let z : false ≡ true = sym map ∙ g in cc) in
-          let child : Standing = record { frame = v.move.shows.frame; rights = v.move.rights; source = false; granted = None; parent = Some c.parent } in
-          let is = one_entry now have key c.key e (record { place = link_place v.move.target; wanted = true; stands = Some child }) at c.at (sym v.target) in
-          let z : ◌≡◌ {A = Option Standing} None (Some child) = sym blank ∙ ap (λ (x : Entry). x.stands) is in
-          cc
-
-      left : (before : Entry) → entry_at start.entries key ≡ Some before → before.place ≡ e.place → ¬ (IsGone Moves (mappings_of start) (map_place e.place)) → ⊥
-      left before at_start same there =
-          let p = ready.clean key before at_start in
-          let l = placed.kept key before p.standing at_start p.stands (λ g. there (subst (λ (q : LinkPlace). IsGone Moves (mappings_of start) (map_place q)) same g)) (not_granted_here start now from to items ready Done placed have all key e before at at_start same) in
-          let is : e ≡ record before { stands = Some (record p.standing { source = l.marked }) } = same_value (sym at ∙ l.at) in
-          let z : ◌≡◌ {A = Option Standing} None (Some (record p.standing { source = l.marked })) = sym blank ∙ ap (λ (x : Entry). x.stands) is in
-          cc
+      stood : {t : Standing} → e.stands ≡ Some t → ⊥
+      stood {t} stands = let z : ◌≡◌ {A = Option Standing} None (Some t) = sym blank ∙ stands in cc
 
   -- nor is there one after the burial
   no_blank : (key : ℕ) (e : Entry) → entry_at buried.entries key ≡ Some e → e.stands ≡ None → ⊥
@@ -191,27 +176,24 @@ module _ (start now : Linked) (from to : ℕ) (items : List ItemMove) (ready : I
 
   -- what stands where it stood is unmarked, or was tidied
   kept_plain : (key : ℕ) (e : Entry) (t : Standing) → entry_at buried.entries key ≡ Some e → e.stands ≡ Some t → entry_at new.entries key ≡ Some e → (s : Stood key e t)
-      → (before : Entry) → entry_at start.entries key ≡ Some before → before.place ≡ s.entry.place → ¬ (IsGone Moves (mappings_of start) (map_place s.entry.place)) → IsPlain e
-  kept_plain key e t at_old stands at s before at_start same there =
-      let p = ready.clean key before at_start in
-      let l = placed.kept key before p.standing at_start p.stands (λ g. there (subst (λ (q : LinkPlace). IsGone Moves (mappings_of start) (map_place q)) same g)) (not_granted_here start now from to items ready Done placed have all key s.entry before s.at at_start same) in
-      let is : s.entry ≡ record before { stands = Some (record p.standing { source = l.marked }) } = same_value (sym s.at ∙ l.at) in
-      let standing_is : s.standing ≡ record p.standing { source = l.marked } = same_value (sym s.stands ∙ ap (λ (x : Entry). x.stands) is) in
-      let source_is : t.source ≡ l.marked = s.same.source ∙ ap (λ (x : Standing). x.source) standing_is in
+      → IsLeftHere start now from to items ready Done placed have all key s.entry → IsPlain e
+  kept_plain key e t at_old stands at s l =
+      let standing_is : s.standing ≡ record l.plain.standing { source = l.left.marked } = same_value (sym s.stands ∙ ap (λ (x : Entry). x.stands) l.is) in
+      let source_is : t.source ≡ l.left.marked = s.same.source ∙ ap (λ (x : Standing). x.source) standing_is in
       record {
         standing = t;
         stands = stands;
         some_right = s.some_right;
-        unwanted = s.same.wanted ∙ ap (λ (x : Entry). x.wanted) is ∙ p.unwanted;
-        no_source = source_is ∙ unmarked l.marked source_is (λ none. l.plain none) (λ v used place. source_named_here v used (place ∙ same ∙ sym s.same.place));
-        not_granted = s.same.granted ∙ ap (λ (x : Standing). x.granted) standing_is ∙ p.not_granted;
+        unwanted = s.same.wanted ∙ ap (λ (x : Entry). x.wanted) l.is ∙ l.plain.unwanted;
+        no_source = source_is ∙ unmarked l.left.marked source_is l.left.plain (λ v used place. source_named_here v used (place ∙ l.place ∙ sym s.same.place));
+        not_granted = s.same.granted ∙ ap (λ (x : Standing). x.granted) standing_is ∙ l.plain.not_granted;
       }
     where
       source_named_here : (v : PageMove) → Moves v → link_place v.source ≡ e.place → OfItems from to items (length items) e.place
       source_named_here v used place = subst (OfItems from to items (length items)) place (source_in from to items v.item used.by v.target.page (link_place v.source) used.item used.from_space used.pages)
 
-      unmarked : (marked : Bool) → t.source ≡ marked → (((v : PageMove) → Moves v → link_place v.source ≢ before.place) → marked ≡ false)
-          → ((v : PageMove) → Moves v → link_place v.source ≡ before.place → OfItems from to items (length items) e.place) → marked ≡ false
+      unmarked : (marked : Bool) → t.source ≡ marked → (((v : PageMove) → Moves v → link_place v.source ≢ l.before.place) → marked ≡ false)
+          → ((v : PageMove) → Moves v → link_place v.source ≡ l.before.place → OfItems from to items (length items) e.place) → marked ≡ false
       unmarked false source_is plain_if named = refl
       unmarked true source_is plain_if named = plain_if (λ v used place.
           let w = was_tidied (entry_at buried.entries key) e (sym (tidied_here key e at_old (named v used place)) ∙ at) in
@@ -230,41 +212,28 @@ module _ (start now : Linked) (from to : ℕ) (items : List ItemMove) (ready : I
       untouched at_old None blank = absurd (no_blank key e at_old blank)
       untouched at_old (Some t) stands =
           let s = stood_before key e t at_old stands in
-          elim (placed.only key s.entry s.at) [
-            | inl v ↦ plain_tidied key e (tidied_here key e at_old (subst (OfItems from to items (length items)) (v.target ∙ sym s.same.place) (target_in from to items v.move.item v.used.by v.move.source.page (link_place v.move.target) v.used.item v.used.to_space v.used.pages))) at
-            | inr o ↦ kept_plain key e t at_old stands at s o.0 o.1 o.2 o.3
+          elim (now_here key s.entry s.at) [
+            | inl g ↦ tidied_target g.move g.used (ap (λ (x : Entry). x.place) (sym g.is) ∙ sym s.same.place)
+            | inr (inl c) ↦ tidied_target c.move c.used (ap (λ (x : Entry). x.place) (sym c.is) ∙ sym s.same.place)
+            | inr (inr l) ↦ kept_plain key e t at_old stands at s l
           ]
+        where
+          tidied_target : (u : PageMove) → Moves u → link_place u.target ≡ e.place → IsPlain e
+          tidied_target u used target = plain_tidied key e (tidied_here key e at_old (subst (OfItems from to items (length items)) target (target_in from to items u.item used.by u.source.page (link_place u.target) used.item used.to_space used.pages))) at
 
   -- what is left without a parent stood under its key at the start
   root_now : (key : ℕ) (e : Entry) (t : Standing) → entry_at now.entries key ≡ Some e → e.stands ≡ Some t → t.parent ≡ None → (roots : List ℕ) → RootsKnown start.entries roots → slice_get roots t.frame ≡ Some key
-  root_now key e t at stands top roots known = elim (placed.only key e at) [
-    | inl v ↦ at_target v v.move.grant refl
-    | inr o ↦ left o.0 o.1 o.2 o.3
+  root_now key e t at stands top roots known = elim (now_here key e at) [
+    | inl g ↦
+        let s = source_of start now from to items ready Done placed have all g.move g.used in
+        let t_is : t ≡ record s.standing { source = true; granted = Some g.used.by.rights } = same_value (sym stands ∙ ap (λ (x : Entry). x.stands) g.is) in
+        ap (slice_get roots) (ap (λ (x : Standing). x.frame) t_is) ∙ known s.key s.standing (stands_at start.entries s.key s.entry s.standing s.at s.stands) (ap (λ (x : Standing). x.parent) (sym t_is) ∙ top) ∙ ap (λ (k : ℕ). Some k) g.key_is
+    | inr (inl c) ↦ absurd (let z : ◌≡◌ {A = Option ℕ} (Some c.there.parent) None = ap (λ (x : Standing). x.parent) (same_value (ap (λ (x : Entry). x.stands) (sym c.is) ∙ stands)) ∙ top in cc)
+    | inr (inr l) ↦
+        let p = l.plain in
+        let t_is : t ≡ record p.standing { source = l.left.marked } = same_value (sym stands ∙ ap (λ (x : Entry). x.stands) l.is) in
+        ap (slice_get roots) (ap (λ (x : Standing). x.frame) t_is) ∙ known key p.standing (stands_at start.entries key l.before p.standing l.at p.stands) (ap (λ (x : Standing). x.parent) (sym t_is) ∙ top)
   ]
-    where
-      at_target : (v : IsTarget start from to items e.place) (b : Bool) → v.move.grant ≡ b → slice_get roots t.frame ≡ Some key
-      at_target v true grant =
-          let p = granted_to start now from to items ready Done placed have all v.move v.used grant in
-          let key_is : p.key ≡ key = have.once (link_place v.move.target) p.key key (ap (option_map {T = Entry} (λ x. x.place)) p.at) (ap (option_map {T = Entry} (λ x. x.place)) at ∙ ap Some (sym v.target)) in
-          let is : e ≡ record { place = link_place v.move.target; wanted = false; stands = Some (record p.standing { source = true; granted = Some p.by.rights }) } = same_value (sym at ∙ ap (entry_at now.entries) (sym key_is) ∙ p.at) in
-          let standing_is : t ≡ record p.standing { source = true; granted = Some p.by.rights } = same_value (sym stands ∙ ap (λ (x : Entry). x.stands) is) in
-          let was : standing_at start.entries p.key ≡ Some p.standing = ap (option_and_then (λ (x : Entry). x.stands)) p.stood_as.1 ∙ p.stood_as.2 in
-          ap (slice_get roots) (ap (λ (x : Standing). x.frame) standing_is) ∙ known p.key p.standing was (ap (λ (x : Standing). x.parent) (sym standing_is) ∙ top) ∙ ap (λ (k : ℕ). Some k) key_is
-      at_target v false map =
-          let c = placed.mapped v.move v.used (all v.move v.used) (λ g. let z : false ≡ true = sym map ∙ g in cc) in
-          let child : Standing = record { frame = v.move.shows.frame; rights = v.move.rights; source = false; granted = None; parent = Some c.parent } in
-          let is = one_entry now have key c.key e (record { place = link_place v.move.target; wanted = true; stands = Some child }) at c.at (sym v.target) in
-          let standing_is : t ≡ child = same_value (sym stands ∙ ap (λ (x : Entry). x.stands) is) in
-          absurd (let z : ◌≡◌ {A = Option ℕ} (Some c.parent) None = ap (λ (x : Standing). x.parent) (sym standing_is) ∙ top in cc)
-
-      left : (before : Entry) → entry_at start.entries key ≡ Some before → before.place ≡ e.place → ¬ (IsGone Moves (mappings_of start) (map_place e.place)) → slice_get roots t.frame ≡ Some key
-      left before at_start same there =
-          let p = ready.clean key before at_start in
-          let l = placed.kept key before p.standing at_start p.stands (λ g. there (subst (λ (q : LinkPlace). IsGone Moves (mappings_of start) (map_place q)) same g)) (not_granted_here start now from to items ready Done placed have all key e before at at_start same) in
-          let is : e ≡ record before { stands = Some (record p.standing { source = l.marked }) } = same_value (sym at ∙ l.at) in
-          let standing_is : t ≡ record p.standing { source = l.marked } = same_value (sym stands ∙ ap (λ (x : Entry). x.stands) is) in
-          ap (slice_get roots) (ap (λ (x : Standing). x.frame) standing_is)
-          ∙ known key p.standing (ap (option_and_then (λ (x : Entry). x.stands)) at_start ∙ p.stands) (ap (λ (x : Standing). x.parent) (sym standing_is) ∙ top)
 
   -- the keys of roots that are kept are right in the end
   pub roots_in_the_end : (roots : List ℕ) → RootsKnown start.entries roots → RootsKnown new.entries roots

@@ -1,5 +1,5 @@
 -- Once all used moves are done the mappings are those in the middle of the transfer.
-use Rattle.std.proofs.Common.{◌≡◌, ◌≢◌, ℕ, true, false, List, Option, Some, None, option_and_then, option_map, ◌↔◌, inl, inr, IsTrue, is_some, refl, sym, ap, ◌∙◌, subst}
+use Rattle.std.proofs.Common.{◌≡◌, ◌≢◌, ℕ, ◌⊎◌, true, false, List, Option, Some, None, option_and_then, option_map, ◌↔◌, inl, inr, IsTrue, is_some, refl, sym, ap, ◌∙◌, subst}
 use Rattle.std.proofs.Math.ListN.{get_or-map}
 use Rattle.std.specs.FinSet as set
 use Rattle.l4_spaces.specs.Tables.{IsPage}
@@ -18,11 +18,14 @@ use Rattle.l4_mapdb.proofs.Single.{KnownMoves, one_grant, moved_by}
 use Rattle.l4_mapdb.proofs.ForestKept.{decide}
 use Rattle.l4_mapdb.proofs.UsedMoves.{known_moves}
 use Rattle.l4_mapdb.specs.View.{link_place, map_place, place_at, mapping_of, mappings_of}
-use Rattle.l4_mapdb.specs.Inside.Placing.{IsStart, Used, IsTarget, HasGone, IsLeftAt, Placed}
+use Rattle.l4_mapdb.specs.Inside.View.{IsShown}
+use Rattle.l4_mapdb.specs.Delivering.{IsPlain}
+use Rattle.l4_mapdb.proofs.EntriesLemmas.{decided}
+use Rattle.l4_mapdb.specs.Inside.Placing.{IsStart, Used, HasGone, IsLeftAt, HasChild, Placed}
 use Rattle.l4_mapdb.specs.Inside.Settling.{left_by, settled_standing, settled_entry, settled}
 use Rattle.l4_mapdb.proofs.View.{key_shows, shown_by_key, some_standing, one_entry}
 use Rattle.l4_mapdb.proofs.Placed.{same_link, same_entry}
-use Rattle.l4_mapdb.proofs.Sourced.{source_stays, stood, GrantedTo, granted_place}
+use Rattle.l4_mapdb.proofs.Sourced.{source_stays, stood, granted_for, child_for, granted_place}
 use Rattle.l4_mapdb.proofs.Unique.{same_value}
 
 pub at_settled : (s : Linked) (key : ℕ) → entry_at (settled s).entries key ≡ settled_entry (entry_at s.entries key)
@@ -81,17 +84,66 @@ module _ (start now : Linked) (from to : ℕ) (items : List ItemMove) (ready : I
   apart : (u : PageMove) → Moves u → u.target ≢ u.source
   apart u used e = source_stays start now from to items ready Done placed have u used (record { move = u; used = used; present = ap is_some (ap (shown before_all) e ∙ used.present); below = inl (sym e) })
 
-  pub granted_to : (u : PageMove) → Moves u → IsTrue u.grant → GrantedTo start now from to items ready Done placed have u
+  abbrev pub source_of : (u : PageMove) → Moves u → IsShown start.entries u.source u.shows
+  source_of u used = stood start now from to items ready Done placed have u used
+
+  pub granted_to : (u : PageMove) (used : Moves u) → IsTrue u.grant → entry_at now.entries (source_of u used).key ≡ Some (granted_for u used.by.rights (source_of u used).standing)
   granted_to u used grant = granted_place start now from to items ready Done placed have u used (all u used) grant
 
   -- a place that a move has granted is not where an entry of that key and that place stands
-  pub not_granted_here : (key : ℕ) (e before : Entry) → entry_at now.entries key ≡ Some e → entry_at start.entries key ≡ Some before → before.place ≡ e.place → ¬ (HasGone start from to items Done before.place)
+  not_granted_here : (key : ℕ) (e before : Entry) → entry_at now.entries key ≡ Some e → entry_at start.entries key ≡ Some before → before.place ≡ e.place → ¬ (HasGone start from to items Done before.place)
   not_granted_here key e before at at_start same g =
-      let p = granted_to g.move g.used g.grant in
-      let key_is : p.key ≡ key = ready.places.once (link_place g.move.source) p.key key p.at_start (ap (option_map {T = Entry} (λ x. x.place)) at_start ∙ ap Some (sym g.source)) in
-      let is : e ≡ record { place = link_place g.move.target; wanted = false; stands = Some (record p.standing { source = true; granted = Some p.by.rights }) } =
-      same_entry now.entries key p.key e (record { place = link_place g.move.target; wanted = false; stands = Some (record p.standing { source = true; granted = Some p.by.rights }) }) at p.at (sym key_is) in
+      let s = source_of g.move g.used in
+      let key_is : s.key ≡ key = ready.places.once (link_place g.move.source) s.key key (ap (option_map {T = Entry} (λ x. x.place)) s.at ∙ ap Some s.place_is) (ap (option_map {T = Entry} (λ x. x.place)) at_start ∙ ap Some (sym g.source)) in
+      let is : e ≡ granted_for g.move g.used.by.rights s.standing = same_entry now.entries key s.key e (granted_for g.move g.used.by.rights s.standing) at (granted_to g.move g.used g.grant) (sym key_is) in
       apart g.move g.used (same_link g.move.target g.move.source (ap (λ (x : Entry). x.place) (sym is) ∙ sym same ∙ sym g.source))
+
+  -- what a used move has granted stands there
+  pub record IsGrantedHere (key : ℕ) (e : Entry) : Type 0 where
+    pub move : PageMove
+    pub used : Moves move
+    pub grant : IsTrue move.grant
+    pub key_is : (source_of move used).key ≡ key
+    pub is : e ≡ granted_for move used.by.rights (source_of move used).standing
+
+  -- a child stands there
+  pub record IsChildHere (e : Entry) : Type 0 where
+    pub move : PageMove
+    pub used : Moves move
+    pub map : ¬ (IsTrue move.grant)
+    pub there : HasChild start from to items now move
+    pub is : e ≡ child_for move there.parent
+
+  -- what stood there stands there still
+  pub record IsLeftHere (key : ℕ) (e : Entry) : Type 0 where
+    pub before : Entry
+    pub at : entry_at start.entries key ≡ Some before
+    pub place : before.place ≡ e.place
+    pub stays : ¬ (IsGone Moves before_all (map_place before.place))
+    pub not_granted : ¬ (HasGone start from to items Done before.place)
+    pub plain : IsPlain before
+    pub left : IsLeftAt start from to items now key before plain.standing
+    pub is : e ≡ record before { stands = Some (record plain.standing { source = left.marked }) }
+
+  -- so each entry is one of these
+  pub stands_here : (key : ℕ) (e : Entry) → entry_at now.entries key ≡ Some e → IsGrantedHere key e ⊎ (IsChildHere e ⊎ IsLeftHere key e)
+  stands_here key e at = elim (placed.only key e at) [
+    | inl t ↦ decided t.move.grant
+        (λ grant.
+        let s = source_of t.move t.used in
+        let here = granted_to t.move t.used grant in
+        let key_is : s.key ≡ key = have.once (link_place t.move.target) s.key key (ap (option_map {T = Entry} (λ x. x.place)) here) (ap (option_map {T = Entry} (λ x. x.place)) at ∙ ap Some (sym t.target)) in
+        inl (record { move = t.move; used = t.used; grant = grant; key_is = key_is; is = same_value (sym at ∙ ap (entry_at now.entries) (sym key_is) ∙ here) }))
+        (λ map.
+        let c = placed.mapped t.move t.used (all t.move t.used) map in
+        inr (inl (record { move = t.move; used = t.used; map = map; there = c; is = one_entry now have key c.key e (child_for t.move c.parent) at c.at (sym t.target) })))
+    | inr o ↦
+        let plain = ready.clean key o.0 o.1 in
+        let not_granted = not_granted_here key e o.0 at o.1 o.2 in
+        let stays = λ (g : IsGone Moves before_all (map_place o.0.place)). o.3 (subst (λ (q : LinkPlace). IsGone Moves before_all (map_place q)) o.2 g) in
+        let left = placed.kept key o.0 plain.standing o.1 plain.stands stays not_granted in
+        inr (inr (record { before = o.0; at = o.1; place = o.2; stays = stays; not_granted = not_granted; plain = plain; left = left; is = same_value (sym at ∙ left.at) }))
+  ]
 
   -- where what stood under a key stands now
   later_place : (key : ℕ) (e : Entry) (t : Standing) → entry_at start.entries key ≡ Some e → e.stands ≡ Some t → ¬ (IsGone Moves before_all (map_place e.place))
@@ -129,32 +181,14 @@ module _ (start now : Linked) (from to : ℕ) (items : List ItemMove) (ready : I
 
           left_is : x ≡ record e { stands = Some (record t { source = (left_if not_noted).marked }) }
           left_is = let both : Some x ≡ Some (record e { stands = Some (record t { source = (left_if not_noted).marked }) }) = sym here ∙ (left_if not_noted).at in cc
-      by_note x here (Some cap) note = elim (placed.only key x here) [
-        | inl target ↦ granted_by target
-        | inr o ↦ absurd (still_there o.0 o.1 o.2)
+      by_note x here (Some cap) note = elim (stands_here key x here) [
+        | inl g ↦
+            let source : IsAt start.entries (link_place g.move.source) key = subst (λ (k : ℕ). IsAt start.entries (link_place g.move.source) k) g.key_is (ap (option_map {T = Entry} (λ y. y.place)) (source_of g.move g.used).at ∙ ap Some (source_of g.move g.used).place_is) in
+            let place : e.place ≡ link_place g.move.source = same_value (sym (ap (option_map {T = Entry} (λ y. y.place)) at) ∙ source) in
+            (g.move.target, inl (g.move, g.used, g.grant, ap map_place (sym place), refl), ap (option_map {T = Entry} (λ y. map_place y.place)) here ∙ ap (λ (y : Entry). Some (map_place y.place)) g.is)
+        | inr (inl c) ↦ absurd (let z : ◌≡◌ {A = Option RightsSet} (Some cap) None = sym note ∙ ap granted_of c.is in cc)
+        | inr (inr l) ↦ absurd (let z : ◌≡◌ {A = Option RightsSet} (Some cap) None = sym note ∙ ap granted_of l.is ∙ l.plain.not_granted in cc)
       ]
-        where
-          still_there : (before : Entry) → entry_at start.entries key ≡ Some before → before.place ≡ x.place → ⊥
-          still_there before at_start same =
-              let is : before ≡ e = same_entry start.entries key key before e at_start at refl in
-              let n : ¬ (HasGone start from to items Done e.place) = subst (λ (y : Entry). ¬ (HasGone start from to items Done y.place)) is (not_granted_here key x before here at_start same) in
-              let left : x ≡ record e { stands = Some (record t { source = (left_if n).marked }) } = same_value (sym here ∙ (left_if n).at) in
-              let z : ◌≡◌ {A = Option RightsSet} (Some cap) None = sym note ∙ ap (λ (y : Entry). option_and_then (λ (w : Standing). w.granted) y.stands) left ∙ plain in
-              cc
-
-          granted_by : IsTarget start from to items x.place → (q : Place) × StandsAt Moves (map_place e.place) q × (place_at now.entries key ≡ Some q)
-          granted_by v = elim v.move.grant as (λ b. v.move.grant ≡ b → (q : Place) × StandsAt Moves (map_place e.place) q × (place_at now.entries key ≡ Some q)) [
-            | true ↦ λ grant.
-                let p = granted_to v.move v.used grant in
-                let key_is : p.key ≡ key = have.once (link_place v.move.target) p.key key (ap (option_map {T = Entry} (λ y. y.place)) p.at) (ap (option_map {T = Entry} (λ y. y.place)) here ∙ ap Some (sym v.target)) in
-                let place : e.place ≡ link_place v.move.source = same_value (sym (ap (option_map {T = Entry} (λ y. y.place)) at) ∙ ap (λ (k : ℕ). option_map {T = Entry} (λ y. y.place) (entry_at start.entries k)) (sym key_is) ∙ p.at_start) in
-                (v.move.target, inl (v.move, v.used, grant, ap map_place (sym place), refl), ap (option_map {T = Entry} (λ y. map_place y.place)) here ∙ ap (λ (p : LinkPlace). Some (map_place p)) (sym v.target))
-            | false ↦ λ map.
-                let c = placed.mapped v.move v.used (all v.move v.used) (λ g. let z : false ≡ true = sym map ∙ g in cc) in
-                let is : x ≡ record { place = link_place v.move.target; wanted = true; stands = Some (record { frame = v.move.shows.frame; rights = v.move.rights; source = false; granted = None; parent = Some c.parent }) } =
-                one_entry now have key c.key x (record { place = link_place v.move.target; wanted = true; stands = Some (record { frame = v.move.shows.frame; rights = v.move.rights; source = false; granted = None; parent = Some c.parent }) }) here c.at (sym v.target) in
-                absurd (let z : ◌≡◌ {A = Option RightsSet} (Some cap) None = sym note ∙ ap (λ (y : Entry). option_and_then (λ (w : Standing). w.granted) y.stands) is in cc)
-          ] refl
 
       go : (o : Option Entry) → entry_at now.entries key ≡ o → (q : Place) × StandsAt Moves (map_place e.place) q × (place_at now.entries key ≡ Some q)
       go None here = absurd (decide (HasGone start from to items Done e.place) (λ d. elim d [
@@ -193,75 +227,48 @@ module _ (start now : Linked) (from to : ℕ) (items : List ItemMove) (ready : I
       let w = was_settled (entry_at now.entries u.key) u.entry (sym (at_settled now u.key) ∙ u.at) in
       let here : w.entry.place ≡ link_place place = ap (λ (x : Entry). x.place) (sym w.is) ∙ u.place_is in
       let stands : option_map settled_standing w.entry.stands ≡ Some u.standing = ap (λ (x : Entry). x.stands) (sym w.is) ∙ u.stands in
-      elim (placed.only u.key w.entry w.was) [
-        | inl t ↦ at_target (record { move = t.move; used = t.used; target = t.target ∙ here }) u.key w.entry u.standing w.was here stands u.mapping
-        | inr o ↦ at_old u.key w.entry u.standing w.was here stands u.mapping o.0 o.1 o.2 o.3
-      ]
-    where
-      at_target : IsTarget start from to items (link_place place) → (key : ℕ) (e : Entry) (s : Standing) → entry_at now.entries key ≡ Some e → e.place ≡ link_place place → option_map settled_standing e.stands ≡ Some s
-          → mapping_of (settled now).entries s ≡ m → Becomes Moves before_all place m
-      at_target t key e s at here stands is = elim t.move.grant as (λ b. t.move.grant ≡ b → Becomes Moves before_all place m) [
-        | true ↦ λ grant.
-            let p = granted_to t.move t.used grant in
-            let same : e ≡ record { place = link_place t.move.target; wanted = false; stands = Some (record p.standing { source = true; granted = Some p.by.rights }) } =
-            one_entry now have key p.key e (record { place = link_place t.move.target; wanted = false; stands = Some (record p.standing { source = true; granted = Some p.by.rights }) }) at p.at (here ∙ sym t.target) in
-            let stands_is : s ≡ record p.standing { rights = common p.standing.rights p.by.rights; source = true; granted = Some p.by.rights } = same_value (sym stands ∙ ap (λ (x : Entry). option_map settled_standing x.stands) same) in
-            let before = stood start now from to items ready Done placed have t.move t.used in
-            let key_is : before.key ≡ p.key = ready.places.once (link_place t.move.source) before.key p.key (ap (option_map {T = Entry} (λ x. x.place)) before.at ∙ ap Some before.place_is) p.at_start in
-            let entry_is : before.entry ≡ p.stood_as.0 = same_entry start.entries before.key p.key before.entry p.stood_as.0 before.at p.stood_as.1 key_is in
-            let standing_is : before.standing ≡ p.standing = same_value (sym before.stands ∙ ap (λ (x : Entry). x.stands) entry_is ∙ p.stood_as.2) in
-            let shows : t.move.shows ≡ mapping_of start.entries p.standing = sym before.mapping ∙ ap (mapping_of start.entries) standing_is in
-            let by_is : p.by ≡ t.used.by = same_value (sym p.by_is ∙ t.used.item) in
-            let there = λ (g : IsGone Moves before_all (map_place before.entry.place)). source_stays start now from to items ready Done placed have t.move t.used (subst (λ (q : LinkPlace). IsGone Moves before_all (map_place q)) before.place_is g) in
+      elim (stands_here u.key w.entry w.was) [
+        | inl g ↦
+            let s = source_of g.move g.used in
+            let stands_is : u.standing ≡ record s.standing { rights = common s.standing.rights g.used.by.rights; source = true; granted = Some g.used.by.rights } = same_value (sym stands ∙ ap (λ (x : Entry). option_map settled_standing x.stands) g.is) in
+            let there = λ (gone : IsGone Moves before_all (map_place s.entry.place)). source_stays start now from to items ready Done placed have g.move g.used (subst (λ (q : LinkPlace). IsGone Moves before_all (map_place q)) s.place_is gone) in
             inl (record {
-              move = t.move;
-              used = t.used;
-              target = same_link t.move.target place t.target;
-              frame = ap (λ (x : Mapping). x.frame) (sym is) ∙ ap (λ (x : Standing). x.frame) stands_is ∙ ap (λ (x : Mapping). x.frame) (sym shows);
-              rights = ap (λ (x : Mapping). x.rights) (sym is) ∙ ap (λ (x : Standing). x.rights) stands_is ∙ (λ i. common (sym shows i).rights (by_is i).rights) ∙ sym t.used.rights;
+              move = g.move;
+              used = g.used;
+              target = same_link g.move.target place (ap (λ (x : Entry). x.place) (sym g.is) ∙ here);
+              frame = ap (λ (x : Mapping). x.frame) (sym u.mapping) ∙ ap (λ (x : Standing). x.frame) stands_is ∙ ap (λ (x : Mapping). x.frame) s.mapping;
+              rights = ap (λ (x : Mapping). x.rights) (sym u.mapping) ∙ ap (λ (x : Standing). x.rights) stands_is ∙ ap (λ (x : Mapping). common x.rights g.used.by.rights) s.mapping ∙ sym g.used.rights;
               parent = inr (
-                grant,
-                subst (λ (o : Option Place). ParentLater Moves t.move.shows.parent o) (ap (λ (x : Standing). option_and_then (place_at (settled now).entries) x.parent) standing_is ∙ ap (λ (x : Standing). option_and_then (place_at (settled now).entries) x.parent) (sym stands_is) ∙ ap (λ (x : Mapping). x.parent) is)
-                    (subst (λ (o : Option Place). ParentLater Moves o (option_and_then (place_at (settled now).entries) before.standing.parent)) (ap (λ (x : Mapping). x.parent) before.mapping)
-                    (parent_later before.key before.entry before.standing before.at before.stands there before.standing.parent refl)),
+                g.grant,
+                subst (λ (o : Option Place). ParentLater Moves g.move.shows.parent o) (ap (λ (x : Standing). option_and_then (place_at (settled now).entries) x.parent) (sym stands_is) ∙ ap (λ (x : Mapping). x.parent) u.mapping)
+                    (subst (λ (o : Option Place). ParentLater Moves o (option_and_then (place_at (settled now).entries) s.standing.parent)) (ap (λ (x : Mapping). x.parent) s.mapping)
+                    (parent_later s.key s.entry s.standing s.at s.stands there s.standing.parent refl)),
               );
             })
-        | false ↦ λ map.
-            let not_grant : ¬ (IsTrue t.move.grant) = λ g. let z : false ≡ true = sym map ∙ g in cc in
-            let c = placed.mapped t.move t.used (all t.move t.used) not_grant in
-            let same : e ≡ record { place = link_place t.move.target; wanted = true; stands = Some (record { frame = t.move.shows.frame; rights = t.move.rights; source = false; granted = None; parent = Some c.parent }) } =
-            one_entry now have key c.key e (record { place = link_place t.move.target; wanted = true; stands = Some (record { frame = t.move.shows.frame; rights = t.move.rights; source = false; granted = None; parent = Some c.parent }) }) at c.at (here ∙ sym t.target) in
-            let stands_is : s ≡ record { frame = t.move.shows.frame; rights = t.move.rights; source = false; granted = None; parent = Some c.parent } = same_value (sym stands ∙ ap (λ (x : Entry). option_map settled_standing x.stands) same) in
+        | inr (inl c) ↦
+            let stands_is : u.standing ≡ record { frame = c.move.shows.frame; rights = c.move.rights; source = false; granted = None; parent = Some c.there.parent } = same_value (sym stands ∙ ap (λ (x : Entry). option_map settled_standing x.stands) c.is) in
             inl (record {
-              move = t.move;
-              used = t.used;
-              target = same_link t.move.target place t.target;
-              frame = ap (λ (x : Mapping). x.frame) (sym is) ∙ ap (λ (x : Standing). x.frame) stands_is;
-              rights = ap (λ (x : Mapping). x.rights) (sym is) ∙ ap (λ (x : Standing). x.rights) stands_is;
-              parent = inl (not_grant, ap (λ (x : Mapping). x.parent) (sym is) ∙ ap (λ (x : Standing). option_and_then (place_at (settled now).entries) x.parent) stands_is ∙ place_at_settled now c.parent ∙ source_there t.move t.used not_grant c.parent c.parent_at);
+              move = c.move;
+              used = c.used;
+              target = same_link c.move.target place (ap (λ (x : Entry). x.place) (sym c.is) ∙ here);
+              frame = ap (λ (x : Mapping). x.frame) (sym u.mapping) ∙ ap (λ (x : Standing). x.frame) stands_is;
+              rights = ap (λ (x : Mapping). x.rights) (sym u.mapping) ∙ ap (λ (x : Standing). x.rights) stands_is;
+              parent = inl (c.map, ap (λ (x : Mapping). x.parent) (sym u.mapping) ∙ ap (λ (x : Standing). option_and_then (place_at (settled now).entries) x.parent) stands_is ∙ place_at_settled now c.there.parent ∙ source_there c.move c.used c.map c.there.parent c.there.parent_at);
             })
-      ] refl
-
-      at_old : (key : ℕ) (e : Entry) (s : Standing) → entry_at now.entries key ≡ Some e → e.place ≡ link_place place → option_map settled_standing e.stands ≡ Some s
-          → mapping_of (settled now).entries s ≡ m → (before : Entry) → entry_at start.entries key ≡ Some before → before.place ≡ e.place → ¬ (IsGone Moves before_all (map_place e.place)) → Becomes Moves before_all place m
-      at_old key e s at here stands is before at_start same there =
-          let plain = ready.clean key before at_start in
-          let n = not_granted_here key e before at at_start same in
-          let there' = λ (g : IsGone Moves before_all (map_place before.place)). there (subst (λ (q : LinkPlace). IsGone Moves before_all (map_place q)) same g) in
-          let l = placed.kept key before plain.standing at_start plain.stands there' n in
-          let entry_is : e ≡ record before { stands = Some (record plain.standing { source = l.marked }) } = same_value (sym at ∙ l.at) in
-          let s_is : s ≡ settled_standing (record plain.standing { source = l.marked }) = same_value (sym stands ∙ ap (λ (x : Entry). option_map settled_standing x.stands) entry_is) in
-          let place_is : map_place before.place ≡ place = ap map_place (same ∙ here) in
-          inr (record {
-            before = mapping_of start.entries plain.standing;
-            at = ap (shown before_all) (sym place_is) ∙ key_shows start ready.places key before plain.standing at_start plain.stands;
-            not_gone = λ g. there (subst (λ (q : LinkPlace). IsGone Moves before_all (map_place q)) (sym here) g);
-            not_granted = λ g. n (record { move = g.move; used = g.used; done = all g.move g.used; grant = g.grant; source = ap link_place (g.source ∙ sym place_is) });
-            frame = ap (λ (x : Mapping). x.frame) (sym is) ∙ ap (λ (x : Standing). x.frame) s_is;
-            rights = ap (λ (x : Mapping). x.rights) (sym is) ∙ ap (λ (x : Standing). x.rights) s_is ∙ ap (λ (o : Option RightsSet). left_by o plain.standing.rights) plain.not_granted;
-            parent = subst (λ (o : Option Place). ParentLater Moves (option_and_then (place_at start.entries) plain.standing.parent) o) (ap (λ (x : Standing). option_and_then (place_at (settled now).entries) x.parent) (sym s_is) ∙ ap (λ (x : Mapping). x.parent) is)
-                (parent_later key before plain.standing at_start plain.stands there' plain.standing.parent refl);
-          })
+        | inr (inr l) ↦
+            let s_is : u.standing ≡ settled_standing (record l.plain.standing { source = l.left.marked }) = same_value (sym stands ∙ ap (λ (x : Entry). option_map settled_standing x.stands) l.is) in
+            let place_is : map_place l.before.place ≡ place = ap map_place (l.place ∙ here) in
+            inr (record {
+              before = mapping_of start.entries l.plain.standing;
+              at = ap (shown before_all) (sym place_is) ∙ key_shows start ready.places u.key l.before l.plain.standing l.at l.plain.stands;
+              not_gone = λ g. l.stays (subst (IsGone Moves before_all) (sym place_is) g);
+              not_granted = λ g. l.not_granted (record { move = g.move; used = g.used; done = all g.move g.used; grant = g.grant; source = ap link_place (g.source ∙ sym place_is) });
+              frame = ap (λ (x : Mapping). x.frame) (sym u.mapping) ∙ ap (λ (x : Standing). x.frame) s_is;
+              rights = ap (λ (x : Mapping). x.rights) (sym u.mapping) ∙ ap (λ (x : Standing). x.rights) s_is ∙ ap (λ (o : Option RightsSet). left_by o l.plain.standing.rights) l.plain.not_granted;
+              parent = subst (λ (o : Option Place). ParentLater Moves (option_and_then (place_at start.entries) l.plain.standing.parent) o) (ap (λ (x : Standing). option_and_then (place_at (settled now).entries) x.parent) (sym s_is) ∙ ap (λ (x : Mapping). x.parent) u.mapping)
+                  (parent_later u.key l.before l.plain.standing l.at l.plain.stands l.stays l.plain.standing.parent refl);
+            })
+      ]
 
   -- what is shown of what stands under a key
   shows_key : (key : ℕ) (e : Entry) (t : Standing) (place : Place) → entry_at now.entries key ≡ Some e → e.place ≡ link_place place → e.stands ≡ Some t → (k : Mapping) × (shown (mappings_of (settled now)) place ≡ Some k)
@@ -281,11 +288,10 @@ module _ (start now : Linked) (from to : ℕ) (items : List ItemMove) (ready : I
   shown_by_kind : (place : Place) (m : Mapping) → BecomesBy Moves before_all place m → (k : Mapping) × (shown (mappings_of (settled now)) place ≡ Some k)
   shown_by_kind place m (inl x) =
       let c = placed.mapped x.move x.used (all x.move x.used) x.map in
-      shows_key c.key (record { place = link_place x.move.target; wanted = true; stands = Some (record { frame = x.move.shows.frame; rights = x.move.rights; source = false; granted = None; parent = Some c.parent }) })
-      (record { frame = x.move.shows.frame; rights = x.move.rights; source = false; granted = None; parent = Some c.parent }) place c.at (ap link_place x.target) refl
+      shows_key c.key (child_for x.move c.parent) (record { frame = x.move.shows.frame; rights = x.move.rights; source = false; granted = None; parent = Some c.parent }) place c.at (ap link_place x.target) refl
   shown_by_kind place m (inr (inl x)) =
-      let p = granted_to x.move x.used x.grant in
-      shows_key p.key (record { place = link_place x.move.target; wanted = false; stands = Some (record p.standing { source = true; granted = Some p.by.rights }) }) (record p.standing { source = true; granted = Some p.by.rights }) place p.at (ap link_place x.target) refl
+      let s = source_of x.move x.used in
+      shows_key s.key (granted_for x.move x.used.by.rights s.standing) (record s.standing { source = true; granted = Some x.used.by.rights }) place (granted_to x.move x.used x.grant) (ap link_place x.target) refl
   shown_by_kind place m (inr (inr x)) =
       let u = (shown_by_key start ready.places place x.before).0 x.at in
       let l = placed.kept u.key u.entry u.standing u.at u.stands (λ g. x.not_gone (subst (λ (q : LinkPlace). IsGone Moves before_all (map_place q)) u.place_is g))

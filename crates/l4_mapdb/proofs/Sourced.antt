@@ -4,7 +4,7 @@ use Rattle.l4_fpage.specs.Rights.{RightsSet, common}
 use Rattle.l4_nodes.specs.declared.Place.{Place as LinkPlace}
 use Rattle.l4_links.specs.declared.Standing.{Standing}
 use Rattle.l4_links.specs.declared.Entry.{Entry}
-use Rattle.l4_links.specs.Entries.{Linked, entry_at, IsAt, HavePlaces}
+use Rattle.l4_links.specs.Entries.{Linked, entry_at, HavePlaces}
 use Rattle.l4_mapdb.specs.declared.ItemMove.{ItemMove}
 use Rattle.l4_mapdb.specs.Mappings.{shown}
 use Rattle.l4_mapdb.specs.Transfer.{PageMove, IsGone}
@@ -13,6 +13,13 @@ use Rattle.l4_mapdb.specs.Inside.View.{IsShown}
 use Rattle.l4_mapdb.specs.Inside.Placing.{IsStart, Used, blank_for, IsTarget, HasGone, Placed, IsSourceAt, MovesNone, HasBlank}
 use Rattle.l4_mapdb.proofs.View.{key_shows, shown_by_key, some_standing, some_entry, one_entry}
 use Rattle.l4_mapdb.proofs.Unique.{same_value}
+
+-- what stands at the target of a grant with these rights, and at that of a map item
+abbrev pub granted_for : PageMove → RightsSet → Standing → Entry
+granted_for u cap t = record { place = link_place u.target; wanted = false; stands = Some (record t { source = true; granted = Some cap }) }
+
+abbrev pub child_for : PageMove → ℕ → Entry
+child_for u parent = record { place = link_place u.target; wanted = true; stands = Some (record { frame = u.shows.frame; rights = u.rights; source = false; granted = None; parent = Some parent }) }
 
 module _ (start now : Linked) (from to : ℕ) (items : List ItemMove) (ready : IsStart start from to items) (Done : PageMove → Type 0) (placed : Placed start from to items Done now) (have : HavePlaces now) where
   abbrev Moves : PageMove → Type 0
@@ -37,27 +44,8 @@ module _ (start now : Linked) (from to : ℕ) (items : List ItemMove) (ready : I
   mark e = option_map (λ (x : Standing). x.source) e.stands
 
   -- what was granted stands at the target
-  pub record GrantedTo (u : PageMove) : Type 0 where
-    pub by : ItemMove
-    pub standing : Standing
-    pub key : ℕ
-    pub stood_as : (e : Entry) × (entry_at start.entries key ≡ Some e) × (e.stands ≡ Some standing)
-    pub by_is : slice_get items u.item ≡ Some by
-    pub at_start : IsAt start.entries (link_place u.source) key
-    pub at : entry_at now.entries key ≡ Some (record { place = link_place u.target; wanted = false; stands = Some (record standing { source = true; granted = Some by.rights }) })
-
-  pub granted_place : (u : PageMove) → Moves u → Done u → IsTrue u.grant → GrantedTo u
-  granted_place u used done grant =
-      let s = stood u used in
-      record {
-        by = used.by;
-        standing = s.standing;
-        key = s.key;
-        stood_as = (s.entry, s.at, s.stands);
-        by_is = used.item;
-        at_start = ap (option_map {T = Entry} (λ e. e.place)) s.at ∙ ap Some s.place_is;
-        at = placed.granted u used.by used done grant used.item s.key s.entry s.standing s.at s.place_is s.stands;
-      }
+  pub granted_place : (u : PageMove) (used : Moves u) → Done u → IsTrue u.grant → entry_at now.entries (stood u used).key ≡ Some (granted_for u used.by.rights (stood u used).standing)
+  granted_place u used done grant = let s = stood u used in placed.granted u used.by used done grant used.item s.key s.entry s.standing s.at s.place_is s.stands
 
   -- where a source stands that is not granted, no used move has its target
   no_target : (key : ℕ) (e : Entry) (w : Standing) → entry_at now.entries key ≡ Some e → e.stands ≡ Some w → w.source ≡ true → w.granted ≡ None → IsTarget start from to items e.place → ⊥
@@ -73,13 +61,13 @@ module _ (start now : Linked) (from to : ℕ) (items : List ItemMove) (ready : I
       done : ¬ (Done t.move)
       done d = elim t.move.grant as (λ v. t.move.grant ≡ v → ⊥) [
         | true ↦ λ g.
-            let p = granted_place t.move t.used d g in
-            let same : e ≡ record { place = link_place t.move.target; wanted = false; stands = Some (record p.standing { source = true; granted = Some p.by.rights }) } = one_here key p.key e (record { place = link_place t.move.target; wanted = false; stands = Some (record p.standing { source = true; granted = Some p.by.rights }) }) at p.at (sym t.target) in
-            let z : ◌≡◌ {A = Option RightsSet} None (Some p.by.rights) = sym plain ∙ ap (option_and_then (λ (x : Standing). x.granted)) (sym stands) ∙ ap note same in
+            let p = stood t.move t.used in
+            let same : e ≡ granted_for t.move t.used.by.rights p.standing = one_here key p.key e (granted_for t.move t.used.by.rights p.standing) at (granted_place t.move t.used d g) (sym t.target) in
+            let z : ◌≡◌ {A = Option RightsSet} None (Some t.used.by.rights) = sym plain ∙ ap (option_and_then (λ (x : Standing). x.granted)) (sym stands) ∙ ap note same in
             cc
         | false ↦ λ g.
             let c = placed.mapped t.move t.used d (λ h. let z : false ≡ true = sym g ∙ h in cc) in
-            let same : e ≡ record { place = link_place t.move.target; wanted = true; stands = Some (record { frame = t.move.shows.frame; rights = t.move.rights; source = false; granted = None; parent = Some c.parent }) } = one_here key c.key e (record { place = link_place t.move.target; wanted = true; stands = Some (record { frame = t.move.shows.frame; rights = t.move.rights; source = false; granted = None; parent = Some c.parent }) }) at c.at (sym t.target) in
+            let same : e ≡ child_for t.move c.parent = one_here key c.key e (child_for t.move c.parent) at c.at (sym t.target) in
             let z : ◌≡◌ {A = Option Bool} (Some true) (Some false) = ap Some (sym source) ∙ ap (option_map (λ (x : Standing). x.source)) (sym stands) ∙ ap mark same in
             cc
       ] refl
@@ -129,10 +117,10 @@ module _ (start now : Linked) (from to : ℕ) (items : List ItemMove) (ready : I
         where
           granted : ¬ (HasGone start from to items Done before.place)
           granted g =
-              let p = granted_place g.move g.used g.done g.grant in
-              let key_is : p.key ≡ key = ready.places.once (link_place g.move.source) p.key key p.at_start (ap (option_map {T = Entry} (λ x. x.place)) at_start ∙ ap Some (sym g.source)) in
-              let is : e ≡ record { place = link_place g.move.target; wanted = false; stands = Some (record p.standing { source = true; granted = Some p.by.rights }) } = same_value (sym at ∙ ap (entry_at now.entries) (sym key_is) ∙ p.at) in
-              let z : ◌≡◌ {A = Option RightsSet} None (Some p.by.rights) = sym h.not_granted ∙ ap (option_and_then (λ (x : Standing). x.granted)) (sym stands) ∙ ap note is in
+              let p = stood g.move g.used in
+              let key_is : p.key ≡ key = ready.places.once (link_place g.move.source) p.key key (ap (option_map {T = Entry} (λ x. x.place)) p.at ∙ ap Some p.place_is) (ap (option_map {T = Entry} (λ x. x.place)) at_start ∙ ap Some (sym g.source)) in
+              let is : e ≡ granted_for g.move g.used.by.rights p.standing = same_value (sym at ∙ ap (entry_at now.entries) (sym key_is) ∙ granted_place g.move g.used g.done g.grant) in
+              let z : ◌≡◌ {A = Option RightsSet} None (Some g.used.by.rights) = sym h.not_granted ∙ ap (option_and_then (λ (x : Standing). x.granted)) (sym stands) ∙ ap note is in
               cc
 
   -- a page of an item

@@ -1,5 +1,5 @@
 -- What is known of the used moves of a message, and that its delivery leaves a forest.
-use Rattle.std.proofs.Common.{◌≡◌, ℕ, ◌+◌, ◌<◌, ◌≤◌, ◌^◌, Bool, true, false, ◌&&◌, List, Some, IsTrue, refl, sym, ap, ◌∙◌, subst, slice_get, arith}
+use Rattle.std.proofs.Common.{◌≡◌, ℕ, ◌+◌, ◌<◌, ◌≤◌, ◌^◌, Bool, true, false, ◌&&◌, List, IsTrue, refl, sym, ap, ◌∙◌, subst, slice_get, arith}
 use Rattle.std.specs.FinSet as set
 use Rattle.l4_fpage.specs.Rights.{RightsSet, Read, Write, Execute, common, Within}
 use Rattle.l4_msg.specs.declared.items.Move.{Move}

@@ -1,12 +1,12 @@
 -- What a message moves, by keys, and what is done to pages before they are moved. (this profile's own)
-use Rattle.std.specs.Prelude.{◌≡◌, ◌≢◌, ◌⊎◌, ◌<◌, ◌≤◌, ◌+◌, ◌-◌, ◌*◌, ◌^◌, ℕ, Bool, List, Option, Some, None, true, false, length, slice_get, option_and_then, option_map}
+use Rattle.std.specs.Prelude.{◌≡◌, ◌≢◌, ◌⊎◌, ◌<◌, ◌≤◌, ◌+◌, ◌-◌, ◌*◌, ◌^◌, ℕ, List, Option, Some, None, true, false, length, slice_get, option_and_then, option_map}
 use Rattle.l4_fpage.specs.Pages.{most_pages}
 use Rattle.l4_fpage.specs.Rights.{common, no_rights}
 use Rattle.l4_msg.specs.Moves.{MovePairs}
 use Rattle.l4_nodes.specs.declared.Place.{Place as LinkPlace}
 use Rattle.l4_links.specs.declared.Standing.{Standing}
 use Rattle.l4_links.specs.declared.Entry.{Entry}
-use Rattle.l4_links.specs.Entries.{Entries, Linked, entry_at, standing_at, IsAt, IsSource, Descends, cut_off}
+use Rattle.l4_links.specs.Entries.{Entries, entry_at, standing_at, IsAt, IsSource, Descends, cut_off}
 use Rattle.l4_mapdb.specs.declared.Cause.{Cause}
 use Rattle.l4_mapdb.specs.declared.Cause.TheVariants.{Entangled, NoMemory}
 use Rattle.l4_mapdb.specs.declared.ItemMove.{ItemMove}
