@@ -1,34 +1,14 @@
 //! Writes segments one after another.
-ghost use Rattle.std.specs.Prelude.{◌≡◌, [], ◌++◌, ◌∷◌, None, true, false};
-ghost use Rattle.std.specs.Io.KnownBytes.{Appends};
+ghost use Rattle.std.specs.Prelude.{◌≡◌, None, true};
 ghost use Rattle.l4_segments.specs.Writing.{HasWritten};
-ghost use Rattle.l4_segments.specs.Inside.Writing.{WritesOut, PutsSegment};
+ghost use Rattle.l4_segments.specs.Inside.Writing.{PutsSegment};
 
 use crate::files::write_segment;
 use l4_fpage::PageSize;
 use l4_record::{Segment, SegmentSink};
+use l4_text::write_out;
 use std::alloc::Global;
 use std::io::Write;
-
-/// Writes all of the bytes. Returns whether it could: a write may fail, or take none of them.
-fn write_out<W: Write>(writer: &mut W, bytes: &[u8]) -> bool
-    ensures { WritesOut (W.contents writer.old) (W.contents writer.new) bytes.now result }
-{
-    let mut at = 0;
-    for turn in 0..bytes.len() {
-        if at >= bytes.len() {
-            break;
-        }
-        let Ok(count) = writer.write(&bytes[at..]) else {
-            return false;
-        };
-        if count == 0 {
-            return false;
-        }
-        at += count;
-    }
-    true
-}
 
 /// Why a segment was not written.
 #[derive(Clone, Copy)]
@@ -78,10 +58,10 @@ impl<W: Write> SegmentWriter<W> {
         let Ok(file) = write_segment(self.alloc, self.frames, self.size, segment) else {
             return Some(KeepFault::Memory);
         };
-        if write_out(&mut self.writer, file.as_slice()) {
-            return None;
+        match write_out(&mut self.writer, file.as_slice()) {
+            Ok(()) => None,
+            Err(_) => Some(KeepFault::Write),
         }
-        Some(KeepFault::Write)
     }
 }
 

@@ -17,7 +17,7 @@ pub use faults::RunFault;
 pub use first_numbers::{next_number, quick_number};
 pub use lines::{Ending, LineReader};
 pub use numbers::{decimal_number, number, word};
-pub use output::Output;
+pub use output::{Output, write_out};
 pub use sources::ScriptReader;
 pub use texts::Text;
 pub use tokens::{after_name, after_spaced_name, last_three, next_token};

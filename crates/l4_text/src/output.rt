@@ -37,8 +37,8 @@ impl Model for Held {
     ghost view = { λ a. a.bytes };
 }
 
-/// Writes all of the bytes. A write that fails, or takes none of them, is a fault.
-fn write_out<W: Write>(writer: &mut W, bytes: &[u8]) -> Result<(), RunFault>
+/// Writes all of the bytes. Returns `Write` if a write failed or took no byte; then the first bytes were written, or none.
+pub fn write_out<W: Write>(writer: &mut W, bytes: &[u8]) -> Result<(), RunFault>
     ensures ok { OnOk result (Appends (W.contents writer.old) (W.contents writer.new) bytes.now) }
     ensures err { IfErr result (λ e. (e ≡ RunFault.Write)
         × WentOut (W.contents writer.old) (W.contents writer.new) bytes.now) }
