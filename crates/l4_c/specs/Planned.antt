@@ -1,5 +1,5 @@
 -- Plans as C gets them (this profile's own).
-use Rattle.std.specs.Prelude.{◌≡◌, ◌⊎◌, ℕ, ◌<◌, ◌≤◌, List, [], ◌∷◌, length, codes}
+use Rattle.std.specs.Prelude.{◌≡◌, ◌⊎◌, ℕ, ◌<◌, ◌≤◌, List, [], length, codes}
 use Rattle.l4_fpage.specs.declared.sizes.PageSize.{PageSize}
 use Rattle.l4_msg.specs.Messages.{message_words}
 use Rattle.l4_msg.specs.Regions.{IsEmpty, IsOutOfSpace, InSpace, HasNoRights, messages_of, part_of_list}

@@ -1,8 +1,6 @@
 //! Executes steps, and enters calls: starts a call, and then executes the steps that follow.
 
-ghost use Rattle.std.specs.Prelude.{◌≡◌, None, Some, MatchOption, ◌≤◌, ◌<◌, length, slice_set};
-ghost use Rattle.l4_ipc.specs.Machine.{Machine};
-ghost use Rattle.l4_ipc.specs.Steps.{Steps};
+ghost use Rattle.std.specs.Prelude.{◌≡◌, None, Some, ◌≤◌, ◌<◌, length, slice_set};
 ghost use Rattle.l4_ipc.specs.declared.steps.Step.TheVariants.{Start, Transfer, Expire};
 ghost use Rattle.l4_c.specs.Exports.{Answers, Starts, Names, GoesOn, Follows, Goes, Enters};
 ghost use Rattle.l4_ipc.specs.NextSteps.{step_of, answer_of};

@@ -1,5 +1,5 @@
 -- Each step keeps the queue of senders in order.
-use Rattle.std.proofs.Common.{◌≡◌, ◌≢◌, ℕ, ◌==◌, ◌&&◌, ◌||◌, not, cond, if◌then◌else◌, Bool, true, false, List, [], ◌∷◌, map, Option, Some, None, is_some, Result, Ok, Err, IsTrue, MatchOption, refl, sym, ap, ◌∙◌, subst, inl, inr, ◌⊎◌, option_and_then, eq-eqb, arith}
+use Rattle.std.proofs.Common.{◌≡◌, ◌≢◌, ℕ, ◌==◌, ◌&&◌, ◌||◌, not, cond, if◌then◌else◌, Bool, true, false, List, [], ◌∷◌, map, Option, Some, None, is_some, Result, Ok, Err, IsTrue, refl, sym, ap, ◌∙◌, subst, inl, inr, ◌⊎◌, eq-eqb}
 use Rattle.std.specs.Option.{option_map_or, option_map}
 use Rattle.std.specs.List.{list_any}
 use Rattle.std.specs.Ordering.{nat_cmp, eq_by_cmp}
@@ -12,17 +12,16 @@ use Rattle.l4_threads.specs.declared.Later.{Later}
 use Rattle.l4_threads.specs.declared.Reply.{Reply}
 use Rattle.l4_threads.specs.declared.Receiving.{Receiving}
 use Rattle.l4_threads.specs.declared.Sending.{Sending}
-use Rattle.l4_threads.specs.declared.Source.{Source}
 use Rattle.l4_threads.specs.declared.State.{State}
 use Rattle.l4_threads.specs.declared.State.TheVariants.{Running, Sending as IsSender, Receiving as IsReceiver}
 use Rattle.l4_threads.specs.declared.Thread.{Thread}
 use Rattle.l4_threads.specs.declared.ThreadId.{ThreadId}
 use Rattle.l4_threads.specs.Control.{created, with_pager, freed, without_partner, waits_for, Deletes}
 use Rattle.l4_threads.specs.Queue.{is_in}
-use Rattle.l4_threads.specs.Threads.{Threads, pair_cmp, thread_at, state_of, sends, senders, is_sending, is_running, Before, with_state, out_of_queue, start_send, start_receive, end_call, number_of, first_threads, named}
+use Rattle.l4_threads.specs.Threads.{Threads, pair_cmp, thread_at, sends, senders, is_sending, is_running, Before, with_state, out_of_queue, start_send, start_receive, end_call, number_of, first_threads, named}
 use Rattle.l4_threads.proofs.QueuePairs.{pairs_total, exact_number_pairs}
 use Rattle.l4_threads.proofs.ViewLemmas.{is_in-senders, tied_pair}
-use Rattle.l4_ipc.proofs.Threads.{WasAt, state_at, state_other}
+use Rattle.l4_ipc.proofs.Threads.{state_at, state_other}
 use Rattle.l4_threads.specs.Threads.{failed, nilthread}
 use Rattle.l4_threads.specs.Control.{create_test}
 use Rattle.l4_threads.specs.declared.Source.TheVariants.{Anyone, Thread as One}
@@ -40,7 +39,7 @@ use Rattle.l4_ipc.specs.declared.steps.Step.TheVariants.{Start, Transfer, Expire
 use Rattle.l4_ipc.specs.Machine.{Machine}
 use Rattle.l4_phases.specs.Phases.{enters, going_on}
 use Rattle.l4_ipc.specs.Start.{ipc_next, fault_next}
-use Rattle.l4_ipc.specs.Steps.{Steps, Starts, DeletesThread, sender_next, is_done, expiry}
+use Rattle.l4_ipc.specs.Steps.{Steps, Starts, sender_next, is_done, expiry}
 use Rattle.l4_ipc.proofs.Threads.{past}
 use Rattle.l4_determined.specs.Inside.InOrder.{IsInOrder}
 

@@ -1,5 +1,5 @@
 -- What a served thread does is one.
-use Rattle.std.proofs.Common.{◌≡◌, ◌≢◌, ℕ, ◌<◌, ◌≤◌, ◌+◌, ◌-◌, ◌*◌, ◌/◌, ◌⊎◌, Bool, true, false, List, [], ◌∷◌, Option, Some, None, MatchOption, IsTrue, get_or, refl, sym, ap, ◌∙◌, subst, inl, inr, arith}
+use Rattle.std.proofs.Common.{◌≡◌, ℕ, ◌≤◌, ◌-◌, ◌*◌, ◌/◌, Bool, true, false, List, [], ◌∷◌, Option, Some, None, MatchOption, get_or, refl, sym, ap, ◌∙◌, subst, inl, inr, arith}
 use Rattle.std.specs.FinMap as fin
 use Rattle.std.specs.FinMap.{nat_cmp-IsAntisymmetric}
 use Rattle.std.specs.Cmp.{nat_cmp_total}
@@ -10,16 +10,16 @@ use Rattle.l4_fpage.specs.declared.fpages.Fpage.{Fpage}
 use Rattle.l4_fpage.specs.declared.fpages.Fpage.TheVariants.{Nil, Complete, Sized}
 use Rattle.l4_fpage.specs.declared.sizes.PageSize.{PageSize}
 use Rattle.l4_fpage.proofs.Same.{same_extent, reads_same}
-use Rattle.l4_msg.specs.Messages.{MessageReads, message_words}
+use Rattle.l4_msg.specs.Messages.{message_words}
 use Rattle.l4_msg.specs.Protocols.{FaultReads, RequestReads, GivesPages, nothing, one_item}
 use Rattle.l4_msg.specs.declared.items.Item.TheVariants.{Map}
 use Rattle.l4_msg.specs.declared.messages.Message.{Message}
 use Rattle.l4_msg.specs.declared.protocols.PageFault.{PageFault}
 use Rattle.l4_msg.proofs.Reading.{reading_is_unique}
 use Rattle.l4_pager.specs.Regions.{Regions, Answers as AnswersByRegions, AnswersFault, entry_for, source_of}
-use Rattle.l4_pager.specs.Serving.{Brings, sending, waiting}
+use Rattle.l4_pager.specs.Serving.{Brings, sending}
 use Rattle.l4_pager.specs.declared.regions.Entry.{Entry}
-use Rattle.l4_sigma0.specs.Owners.{Owners, owner_of, NamesPages, Wants, MayHaveAll, Gives, Answers as GrantsFrames}
+use Rattle.l4_sigma0.specs.Owners.{Owners, NamesPages, Wants, Gives, Answers as GrantsFrames}
 use Rattle.l4_threads.specs.Threads.{Threads}
 use Rattle.l4_threads.specs.declared.Reply.{Reply}
 use Rattle.l4_threads.specs.declared.Reply.TheVariants.{Ipc, Hit, Answered, FaultFailed, Unmapped, Controlled, Gone}
@@ -28,7 +28,7 @@ use Rattle.l4_ipc.specs.declared.calls.Call.{Call}
 use Rattle.l4_ipc.specs.Reading.{reply_of}
 use Rattle.l4_ipc.proofs.OneState.{same_value}
 use Rattle.l4_servers.specs.Servers.{Servers, servers, regions_of}
-use Rattle.l4_servers.specs.Acting.{IsReady, IsFirstReady, sigma0, space_of_sender, AnswersBySigma0, Answers, IsAnswer, Follows, ActsNext}
+use Rattle.l4_servers.specs.Acting.{space_of_sender, Answers, Follows, ActsNext}
 use Rattle.l4_sigma0.proofs.Wanted.{fault_alone}
 
 -- PAGES THAT ARE GIVEN

@@ -1,5 +1,5 @@
 -- The words of the parts of a state end by themselves.
-use Rattle.std.proofs.Common.{◌≡◌, ℕ, ◌<◌, ◌≤◌, ◌==◌, get_or, Bool, true, false, if◌then◌else◌, List, [], ◌∷◌, ◌++◌, length, take, drop, flat_map, Option, Some, None, refl, sym, ap, subst, ◌∙◌, arith}
+use Rattle.std.proofs.Common.{◌≡◌, ℕ, ◌<◌, ◌≤◌, ◌==◌, get_or, Bool, true, false, if◌then◌else◌, List, ◌∷◌, ◌++◌, length, take, drop, Option, Some, None, refl, sym, ap, subst, ◌∙◌, arith}
 use Rattle.std.proofs.lemmas.List.{take_at, drop_at}
 use Rattle.l4_fpage.specs.Fpages.{fpage_word, ReadsAs}
 use Rattle.l4_fpage.specs.Rights.{RightsSet, bits_of, set_of_bits}
@@ -27,8 +27,8 @@ use Rattle.l4_threads.specs.declared.Source.TheVariants.{Anyone, Thread as One}
 use Rattle.l4_threads.specs.declared.State.{State}
 use Rattle.l4_threads.specs.declared.State.TheVariants.{Running, Sending as Sends, Receiving as Receives}
 use Rattle.l4_threads.specs.declared.Thread.{Thread}
-use Rattle.l4_keys.specs.Words.{wide, counted, bit, size_word, item_words, items_words, reply_words, source_words, receiving_words, then_words, sending_words, state_words, thread_words, parent_words, mapping_words, entry_words, table_words, name_words, names_words}
-use Rattle.l4_keys.proofs.Prefixes.{heads, tails, same_bit, same_wide, ends_wide, ends_counted, ends_each, apart}
+use Rattle.l4_keys.specs.Words.{counted, size_word, item_words, items_words, source_words, receiving_words, then_words, sending_words, state_words, thread_words, parent_words, mapping_words, entry_words, table_words, name_words, names_words}
+use Rattle.l4_keys.proofs.Prefixes.{heads, tails, same_bit, ends_wide, ends_counted, ends_each, apart}
 
 pub same_size : (a b : PageSize) → size_word a ≡ size_word b → a ≡ b
 same_size Kib4 Kib4 e = refl

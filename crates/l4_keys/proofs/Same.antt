@@ -1,5 +1,5 @@
 -- A kernel and its servers are known by their words.
-use Rattle.std.proofs.Common.{◌≡◌, ℕ, ◌≤◌, Bool, true, false, IsTrue, List, [], ◌∷◌, ◌++◌, Option, Some, None, is_some, refl, sym, ap, subst, ◌∙◌, arith}
+use Rattle.std.proofs.Common.{◌≡◌, ℕ, true, false, IsTrue, List, ◌∷◌, ◌++◌, Option, Some, None, is_some, refl, sym, ap, subst, ◌∙◌, arith}
 use Rattle.std.proofs.lemmas.Bool.{false≢true}
 use Rattle.std.specs.Cmp.{nat_cmp_total}
 use Rattle.std.specs.FinMap as fin
@@ -9,15 +9,13 @@ use Rattle.l4_mapdb.specs.Mappings.{Mappings, shown}
 use Rattle.l4_mapdb.specs.declared.Mapping.{Mapping}
 use Rattle.l4_mapdb.specs.declared.Place.{Place}
 use Rattle.l4_mapdb.proofs.Places.{same_mappings}
-use Rattle.l4_pager.specs.Regions.{Regions}
 use Rattle.l4_sigma0.specs.Owners.{Owners, owner_of}
 use Rattle.l4_servers.specs.Servers.{Servers}
 use Rattle.l4_threads.specs.Queue.{pairs_of}
 use Rattle.l4_threads.specs.Threads.{Threads, thread_at}
-use Rattle.l4_threads.specs.declared.Thread.{Thread}
 use Rattle.l4_ipc.specs.Machine.{Machine}
 use Rattle.l4_keys.specs.Listings.{Lists}
-use Rattle.l4_keys.specs.Words.{wide, counted, size_word, thread_words, mapping_words, table_words}
+use Rattle.l4_keys.specs.Words.{counted, size_word}
 use Rattle.l4_keys.specs.Keys.{AreOfThread, AreOfThreads, has_thread, place, has_page, AreOfPage, has_space, AreOfSpace, AreOfMappings, has_table, AreOfTable, has_owner, AreOfFrame, AreOfServers, AreOfKernel}
 use Rattle.l4_keys.proofs.Prefixes.{heads, tails, ends_wide, ends_counted, apart}
 use Rattle.l4_keys.proofs.Ends.{same_size, ends_thread, ends_mapping, ends_table}

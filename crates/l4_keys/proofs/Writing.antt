@@ -1,5 +1,5 @@
 -- Lists that are written: the next thing, and the end.
-use Rattle.std.proofs.Common.{◌≡◌, ℕ, ◌+◌, ◌<◌, ◌≤◌, Bool, true, false, IsTrue, Some, arith, List, [], ◌∷◌, ◌++◌, is_some, Result, Ok, Err, OnOk, refl, sym, ap, subst, ◌∙◌, append_assoc}
+use Rattle.std.proofs.Common.{◌≡◌, ℕ, ◌+◌, ◌≤◌, Bool, true, false, IsTrue, Some, arith, List, [], ◌∷◌, ◌++◌, is_some, Result, Ok, Err, OnOk, refl, sym, ap, subst, ◌∙◌, append_assoc}
 use Rattle.l4_pager.specs.Regions.{Regions}
 use Rattle.l4_sigma0.specs.Owners.{Owners}
 use Rattle.l4_sigma0.specs.Listed.{NoneOwnedFrom, IsNextOwned}

@@ -1,6 +1,6 @@
 //! The words of the parts of a state.
-ghost use Rattle.std.specs.Prelude.{◌≡◌, ◌++◌, ◌∷◌, [], flat_map, OnOk, length};
-ghost use Rattle.l4_keys.specs.Words.{wide, counted, counts_words, bit, size_word, item_words, items_words, reply_words, source_words, receiving_words, then_words, sending_words, state_words, thread_words, parent_words, mapping_words, entry_words, table_words};
+ghost use Rattle.std.specs.Prelude.{◌≡◌, ◌++◌, OnOk};
+ghost use Rattle.l4_keys.specs.Words.{counted, counts_words, size_word, item_words, items_words, reply_words, source_words, receiving_words, then_words, sending_words, thread_words, parent_words, mapping_words, entry_words, table_words};
 
 use l4_fpage::PageSize;
 use l4_mapdb::{Mapping, Place};

@@ -1,5 +1,4 @@
 //! Reads plans.
-ghost use Rattle.std.specs.Prelude.{◌≡◌, List, ℕ};
 ghost use Rattle.l4_orders.specs.Files.{ReadsPlan};
 ghost use Rattle.l4_orders.specs.Inside.Parts.{parts_of, IsNew};
 ghost use Rattle.l4_orders.specs.Inside.Taking.{ReadsLines};

@@ -1,7 +1,5 @@
 -- A call and the acts that follow it lead to one state, unless memory runs out or the history is full.
-use Rattle.std.proofs.Common.{◌≡◌, ◌≢◌, ℕ, ◌+◌, ◌<◌, ◌≤◌, ◌⊎◌, Bool, true, false, cond, List, [], ◌∷◌, ◌++◌, length, flat_map, Option, Some, None, Result, Ok, Err, MatchOption, IsTrue, refl, sym, ap, ◌∙◌, subst, inl, inr, arith, append_assoc}
-use Rattle.std.proofs.lemmas.Bool.{false≢true}
-use Rattle.l4_threads.specs.Threads.{Threads, space_of}
+use Rattle.std.proofs.Common.{◌≡◌, ℕ, ◌+◌, ◌<◌, ◌≤◌, false, List, [], ◌∷◌, ◌++◌, length, flat_map, Result, Ok, refl, sym, ap, ◌∙◌, subst, inl, inr, arith, append_assoc}
 use Rattle.l4_ipc.specs.declared.calls.Call.{Call}
 use Rattle.l4_ipc.specs.declared.steps.Answer.{Answer}
 use Rattle.l4_ipc.specs.declared.steps.Refused.{Refused}
@@ -9,21 +7,21 @@ use Rattle.l4_ipc.specs.declared.steps.Step.{Step}
 use Rattle.l4_ipc.specs.declared.steps.Step.TheVariants.{Start}
 use Rattle.l4_ipc.specs.Following.{Done, AreNext}
 use Rattle.l4_ipc.specs.Machine.{Machine}
-use Rattle.l4_ipc.specs.Steps.{Steps, IsIdle}
+use Rattle.l4_ipc.specs.Steps.{Steps}
 use Rattle.l4_ipc.proofs.OneState.{one_step}
-use Rattle.l4_answers.specs.Reports.{Report, RefusedLine, RefusedAct}
+use Rattle.l4_answers.specs.Reports.{Report}
 use Rattle.l4_record.specs.Replays.{RanOut}
-use Rattle.l4_record.specs.Seated.{CanEnter, is_among, with_number, Refuses as RefusesCall}
+use Rattle.l4_record.specs.Seated.{is_among, Refuses as RefusesCall}
 use Rattle.l4_record.specs.declared.refusals.RecordRefusal.{RecordRefusal}
 use Rattle.l4_record.proofs.OneAnswer.{one_answer}
 use Rattle.l4_servers.specs.Servers.{Servers}
-use Rattle.l4_servers.specs.Acting.{NoneReady, IsFirstReady, ActsNext}
+use Rattle.l4_servers.specs.Acting.{NoneReady, ActsNext}
 use Rattle.l4_shell.specs.Refusals.{call_refusal}
-use Rattle.l4_shell.specs.Sessions.{Session, kept_in, done_reports, ended_in, waiting_reports, steps_in, Act, IsEntered, done_entry, after_act, AreActs, most_acts, RefusesAct, StopsActing, Follows}
+use Rattle.l4_shell.specs.Sessions.{Session, kept_in, done_reports, steps_in, Act, IsEntered, after_act, AreActs, most_acts, StopsActing, Follows}
 use Rattle.l4_determined.specs.Inside.InOrder.{IsInOrder}
 use Rattle.l4_determined.proofs.InOrder.{step_in_order}
 use Rattle.l4_determined.proofs.OneNext.{NoneRanOut, one_end, next_in_order}
-use Rattle.l4_determined.proofs.OneAct.{SameAct, one_act}
+use Rattle.l4_determined.proofs.OneAct.{one_act}
 use Rattle.l4_shell.specs.Lacking.{lacks_by_code, LacksNothing}
 use Rattle.l4_shell.specs.Inside.Alike.{AreAlike}
 use Rattle.l4_shell.proofs.Quiet.{nothing_parts, nothing_both, quiet_step, quiet_steps, not_entered}

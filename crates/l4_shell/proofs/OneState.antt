@@ -1,5 +1,5 @@
 -- The request of a line leads to one state, unless memory runs out or the history is full, and keeps the queue in order.
-use Rattle.std.proofs.Common.{◌≡◌, ◌≢◌, ℕ, ◌<◌, ◌≤◌, ◌⊎◌, Bool, true, false, List, [], ◌∷◌, length, Option, Some, None, Result, Ok, Err, MatchOption, IsTrue, All, Any, refl, sym, ap, ◌∙◌, subst, inl, inr, arith}
+use Rattle.std.proofs.Common.{◌≡◌, ◌≢◌, ℕ, ◌⊎◌, true, false, List, [], ◌∷◌, length, Option, Some, None, Result, Ok, Err, MatchOption, sym, ap, ◌∙◌, subst, inl, inr, arith}
 use Rattle.l4_fpage.specs.declared.sizes.PageSize.{PageSize}
 use Rattle.l4_msg.specs.Regions.{InSpace, IsOutOfSpace, IsPlan, messages_of, part_of_list}
 use Rattle.l4_plan_lines.specs.Plans.{sending_words}
@@ -7,13 +7,13 @@ use Rattle.l4_msg.specs.declared.regions.Region.{Region}
 use Rattle.l4_threads.specs.Threads.{space_of}
 use Rattle.l4_ipc.specs.declared.calls.Call.{Call}
 use Rattle.l4_ipc.specs.Machine.{Machine}
-use Rattle.l4_pager.specs.Regions.{Regions, AddFails, CanAdd, IsBad, Meet, max_regions}
+use Rattle.l4_pager.specs.Regions.{Regions, AddFails, CanAdd, Meet}
 use Rattle.l4_pager.specs.Serving.{waiting}
 use Rattle.l4_pager.specs.declared.regions.Entry.{Entry}
 use Rattle.l4_pager.specs.declared.regions.PagerRefusal.{PagerRefusal}
 use Rattle.l4_pager.specs.declared.regions.PagerRefusal.TheVariants.{Overlap, NoRegion, Full, BadRegion}
 use Rattle.l4_plan.specs.Plan.{Listing}
-use Rattle.l4_plan.specs.Shortest.{IsShortest, IsTooLong}
+use Rattle.l4_plan.specs.Shortest.{IsShortest}
 use Rattle.l4_plan.specs.declared.plans.PlanRefusal.{PlanRefusal}
 use Rattle.l4_plan.specs.declared.plans.PlanRefusal.TheVariants.{Empty, OutOfSpace, NoRights, TooLong, Several, NoPart}
 use Rattle.l4_plan_lines.proofs.LargestBlocks.{same_starts}
@@ -28,9 +28,9 @@ use Rattle.l4_record.specs.Seated.{with_number}
 use Rattle.l4_names.specs.Names.{Names}
 use Rattle.l4_commands.specs.Calls.{root, send_call, delete_call}
 use Rattle.l4_shell.specs.Delegations.{ArePlanWords, HasNoPlan}
-use Rattle.l4_shell.specs.Refusals.{lacks_memory, call_refusal, region_refusal, plan_refusal}
+use Rattle.l4_shell.specs.Refusals.{lacks_memory, call_refusal, region_refusal}
 use Rattle.l4_commands.specs.Requests.{Unread, names_after}
-use Rattle.l4_shell.specs.Sessions.{Session, State, Act, AreActs, after_act, StopsActing, Follows, RefusesLine, RefusesFor, Refuses, Enters, Creates, ServesThread, RegionAdded, AddsRegion, Delegates, CarriesOut, AnswersLine}
+use Rattle.l4_shell.specs.Sessions.{Session, State, Act, AreActs, after_act, StopsActing, Follows, RefusesLine, RefusesFor, Enters, Creates, ServesThread, RegionAdded, AddsRegion, Delegates, CarriesOut, AnswersLine}
 use Rattle.l4_commands.specs.declared.requests.Request.{Request}
 use Rattle.l4_commands.specs.declared.requests.Request.TheVariants.{Enter, CreateThread, EndThread, SendPlan, ListPages, TellParent, AddRegion, ServeThread, GiveName, TellReply, TellSteps, BeginUnordered, BeginFinally, StateRule}
 use Rattle.l4_determined.specs.Inside.InOrder.{IsInOrder}

@@ -1,29 +1,26 @@
 -- What answers that lack nothing say.
-use Rattle.std.proofs.Common.{◌≡◌, ◌≢◌, ℕ, Bool, true, false, List, [], ◌∷◌, ◌++◌, Option, Some, None, Result, Ok, Err, IsTrue, codes, refl, sym, ap, ◌∙◌, subst, inl, inr, ◌⊎◌}
+use Rattle.std.proofs.Common.{◌≡◌, ◌≢◌, ℕ, true, false, List, [], ◌∷◌, ◌++◌, Result, Ok, Err, sym, ◌∙◌, subst, inl, inr}
 use Rattle.std.specs.List.{flat_map}
 use Rattle.std.proofs.lemmas.Bool.{false≢true}
-use Rattle.l4_threads.specs.declared.Reply.{Reply}
 use Rattle.l4_ipc.specs.declared.calls.Call.{Call}
 use Rattle.l4_ipc.specs.declared.steps.Answer.{Answer}
-use Rattle.l4_ipc.specs.declared.steps.Lower.TheVariants.{NoMemory as LowerNoMemory}
 use Rattle.l4_ipc.specs.declared.steps.Outcome.{Outcome}
 use Rattle.l4_ipc.specs.declared.steps.Outcome.TheVariants.{Started, NoMemory, Expired}
 use Rattle.l4_ipc.specs.declared.steps.Refused.{Refused}
-use Rattle.l4_ipc.specs.declared.steps.Refused.TheVariants.{Lower, UnknownThread}
 use Rattle.l4_ipc.specs.declared.steps.Step.{Step}
 use Rattle.l4_ipc.specs.declared.steps.Step.TheVariants.{Start, Transfer, Expire}
 use Rattle.l4_ipc.specs.Following.{Done, AreNext}
 use Rattle.l4_ipc.specs.Machine.{Machine}
 use Rattle.l4_ipc.specs.Steps.{Steps}
-use Rattle.l4_answers.specs.Refusals.{Refusal, kernel_refusal}
-use Rattle.l4_answers.specs.Reports.{Report, RefusedLine, RefusedAct, Transferred}
+use Rattle.l4_answers.specs.Refusals.{kernel_refusal}
+use Rattle.l4_answers.specs.Reports.{Report, Transferred}
 use Rattle.l4_record.specs.Replays.{RanOut}
-use Rattle.l4_record.specs.Seated.{CanEnter, is_among, Refuses as RefusesCall}
+use Rattle.l4_record.specs.Seated.{is_among, Refuses as RefusesCall}
 use Rattle.l4_record.specs.declared.refusals.RecordRefusal.{RecordRefusal}
 use Rattle.l4_record.specs.declared.refusals.RecordRefusal.TheVariants.{HistoryFull, NoMemory as WantOfMemory, Kernel as ByKernel}
 use Rattle.l4_record.proofs.OneAnswer.{one_answer}
-use Rattle.l4_shell.specs.Refusals.{call_refusal, lacks_memory}
-use Rattle.l4_shell.specs.Sessions.{own_report, ended_reports, done_reports, steps_in}
+use Rattle.l4_shell.specs.Refusals.{call_refusal}
+use Rattle.l4_shell.specs.Sessions.{own_report, ended_reports, done_reports}
 use Rattle.l4_determined.proofs.OneNext.{NoneRanOut}
 use Rattle.l4_shell.specs.Lacking.{lacks, lacks_by_code, LacksNothing}
 

@@ -30,7 +30,6 @@ use Rattle.l4_ipc.specs.Reading.{reply_of}
 use Rattle.l4_ipc.specs.Following.{Done}
 use Rattle.l4_pager.specs.Serving.{waiting}
 use Rattle.l4_pager.specs.declared.regions.Entry.{Entry}
-use Rattle.l4_pager.specs.declared.regions.PagerRefusal.{PagerRefusal}
 use Rattle.l4_pager.specs.declared.regions.PagerRefusal.TheVariants.{Overlap, NoRegion, Full as FullTable, BadRegion}
 use Rattle.l4_servers.specs.Servers.{Servers, with_served, without, RegionFails}
 use Rattle.l4_servers.specs.declared.servers.RegionRefusal.{RegionRefusal}
@@ -40,10 +39,9 @@ use Rattle.l4_plan.specs.declared.plans.PlanRefusal.TheVariants.{Empty, OutOfSpa
 use Rattle.l4_record.specs.declared.refusals.RecordRefusal.{RecordRefusal}
 use Rattle.l4_record.specs.declared.refusals.RecordRefusal.TheVariants.{HistoryFull, NoMemory, Kernel as ByKernel}
 use Rattle.l4_record.specs.Seated.{is_among, with_number, Refuses as RefusesCall}
-use Rattle.l4_record.specs.Segments.{kept_count}
 use Rattle.l4_record.specs.Sizes.{last_start}
 use Rattle.l4_answers.specs.Refusals.{Refusal, message_refusal, thread_refusal, unmap_refusal, kernel_refusal}
-use Rattle.l4_answers.specs.Reports.{Report, RefusedLine, UnreadLine, RefusedAct, Waits, Named, Ended, Page, Shown, Parent, AddedRegion}
+use Rattle.l4_answers.specs.Reports.{Report, RefusedLine, Waits, Named, Ended, Page, Shown, Parent}
 use Rattle.l4_names.specs.Names.{Names, given}
 use Rattle.l4_text.specs.Grammar.{TextLine}
 use Rattle.l4_commands.specs.declared.commands.ScriptFault.{ScriptFault}
@@ -54,7 +52,7 @@ use Rattle.l4_commands.specs.Requests.{Unread, asked_of}
 use Rattle.l4_commands.specs.Calls.{root, delete_call}
 use Rattle.l4_shell.specs.Refusals.{script_refusal, plan_refusal, too_many_names, lacks_memory, call_refusal, region_refusal}
 use Rattle.l4_shell.specs.Room.{is_full, says_full, any_full}
-use Rattle.l4_shell.specs.Sessions.{Session, State, first_state, kept_in, segment_entries, without_kept, between_lines, own_report, ended_reports, done_reports, done_entry, ended_in, waiting_reports, steps_in, Act, IsEntered, after_act, AreActs, StopsActing, Follows, RefusesLine, RefusesFor, Refuses, Enters, LacksRoom, ServesThread, RegionAdded, ended_answer, place_in, place_reports, ListsPages, CarriesOut, AnswersLine, AnswersLines, IsAnswered}
+use Rattle.l4_shell.specs.Sessions.{Session, State, first_state, kept_in, segment_entries, without_kept, between_lines, own_report, ended_reports, done_reports, done_entry, ended_in, waiting_reports, steps_in, Act, IsEntered, after_act, AreActs, StopsActing, Follows, RefusesLine, RefusesFor, Refuses, Enters, RegionAdded, ended_answer, place_in, place_reports, ListsPages, CarriesOut, AnswersLine, AnswersLines, IsAnswered}
 use Rattle.l4_shell.proofs.Lengthened.{are_acts_longer, line_longer}
 
 -- CODES

@@ -1,5 +1,5 @@
 //! The messages of delegations.
-ghost use Rattle.std.specs.Prelude.{◌≡◌, IfOk, IfErr};
+ghost use Rattle.std.specs.Prelude.{IfOk, IfErr};
 ghost use Rattle.l4_fpage.specs.declared.sizes.PageSize.{PageSize as APageSize};
 ghost use Rattle.l4_msg.specs.declared.regions.Region.{Region as ARegion};
 ghost use Rattle.l4_plan.specs.Shortest.{IsShortest};

@@ -1,5 +1,5 @@
 //! Reports a call, and what follows it: the acts of served threads.
-ghost use Rattle.std.specs.Prelude.{◌≡◌, ◌++◌, ℕ, List};
+ghost use Rattle.std.specs.Prelude.{◌≡◌, ℕ, List};
 ghost use Rattle.std.specs.List.{flat_map};
 ghost use Rattle.l4_phases.specs.Phases.{ended_if};
 ghost use Rattle.l4_ipc.specs.NextSteps.{answer_of};
