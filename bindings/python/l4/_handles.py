@@ -20,6 +20,18 @@ def _free(free: Callable[..., None], handle: Structure, lock: Any) -> None:
             free(byref(handle))
 
 
+def all_items(kind: Any, write: Callable[[Any, int], Any], spare: int = 0) -> Any:
+    """Returns an array of this type with all items that a function of the library writes, and with some spare places. With a room of 0, the
+    function counts them and writes nothing. Raises Refused if the function is refused."""
+    out, told = None, write(None, 0)
+    if not told.refusal:
+        out = (kind * (told.count + spare))()
+        told = write(out, len(out))
+    if told.refusal:
+        raise Refused(told.refusal)
+    return out
+
+
 class Unique:
     """An object that the modules copy and pickle cannot duplicate: they raise TypeError."""
 

@@ -5,12 +5,13 @@ queries after a line `finally` are the outcome. The user guide describes plans.
 """
 from __future__ import annotations
 
-from ctypes import byref, c_uint64, create_string_buffer
+from ctypes import byref, c_char, c_uint64
 from dataclasses import dataclass
 from enum import Enum
 from typing import Any, Callable, Optional, Tuple
 
 from . import _library
+from ._handles import all_items
 from ._library import Forks, library, number, of_type
 from .refusals import BadPlan, Refused
 from .words import PAGE_BYTES
@@ -61,22 +62,13 @@ class Orders:
 
 def _text(write: Callable[..., Any], search: _library.l4_orders, outcome: int) -> str:
     """Returns a text of an outcome."""
-    room = 1 + write(byref(search), outcome, None, 0).count
-    text = create_string_buffer(room)
-    told = write(byref(search), outcome, text, room)
-    if told.refusal:
-        raise Refused(told.refusal)
-    return text.raw[: told.count].decode("utf-8", "surrogateescape")
+    text = all_items(c_char, lambda out, room: write(byref(search), outcome, out, room), spare=1)
+    return text.raw[:-1].decode("utf-8", "surrogateescape")
 
 
 def _lines(search: _library.l4_orders, outcome: int) -> Tuple[int, ...]:
     """Returns the numbers of the lines of an outcome's order."""
-    room = library.l4_orders_lines(byref(search), outcome, None, 0).count
-    lines = (c_uint64 * room)()
-    told = library.l4_orders_lines(byref(search), outcome, lines, room)
-    if told.refusal:
-        raise Refused(told.refusal)
-    return tuple(lines)
+    return tuple(all_items(c_uint64, lambda out, room: library.l4_orders_lines(byref(search), outcome, out, room)))
 
 
 def _outcome(search: _library.l4_orders, place: int) -> PlanOutcome:

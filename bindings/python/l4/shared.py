@@ -3,13 +3,13 @@ from __future__ import annotations
 
 import threading
 import time
-from ctypes import byref, create_string_buffer
+from ctypes import byref, c_char
 from dataclasses import dataclass
 from itertools import count
 from typing import Any, Callable, ContextManager, Iterable, Iterator, List, Optional, Set, Tuple, Union
 
 from . import _library
-from ._handles import Handle, Unique
+from ._handles import Handle, Unique, all_items
 from ._library import Forks, library, number, of_type
 from .calls import Call
 from .kernel import Expire, Kernel, Outcome, Transfer, step_of
@@ -190,12 +190,7 @@ class Segment(Handle):
         >>> kernel.hand_out().to_bytes()[:8]
         b'LSG4\\x01\\x00\\x00\\x00'
         """
-        told = self._answer(library.l4_segment_bytes, None, 0)
-        out = create_string_buffer(max(told.count, 1))
-        told = self._answer(library.l4_segment_bytes, out, told.count)
-        if told.refusal:
-            raise Refused(told.refusal)
-        return out.raw[: told.count]
+        return all_items(c_char, lambda out, room: self._answer(library.l4_segment_bytes, out, room)).raw
 
 
 class SharedKernel(Unique, Queries):

@@ -7,7 +7,8 @@ import sys
 import unittest
 from pathlib import Path
 
-from l4 import _library
+from l4 import Refused, _library
+from l4._handles import all_items
 
 PACKAGE = Path(__file__).resolve().parents[1]
 HEADER = Path(__file__).resolve().parents[3] / "include" / "l4.h"
@@ -23,6 +24,7 @@ TYPES = {
     "const uint32_t *": ctypes.POINTER(ctypes.c_uint32),
     "uint64_t *": ctypes.POINTER(ctypes.c_uint64),
     "uint8_t *": ctypes.c_char_p,
+    "const uint8_t *": ctypes.c_char_p,
     **{struct.__name__: struct for struct in _library.STRUCTS},
 }
 
@@ -96,6 +98,12 @@ class Library(unittest.TestCase):
                 _library.number(value, "a word")
         with self.assertRaises(TypeError):
             _library.number("1", "a word")
+
+    def test_memory_may_run_out_for_a_count_alone(self):
+        refusals = [_library.L4_NO_MEMORY, _library.L4_OK]
+        with self.assertRaises(Refused) as raised:
+            all_items(ctypes.c_char, lambda out, room: _library.l4_count(refusal=refusals.pop(0), count=9))
+        self.assertEqual((raised.exception.code, refusals), ("NoMemory", [_library.L4_OK]))
 
 
 if __name__ == "__main__":

@@ -1014,15 +1014,8 @@ impl Handle<l4_segment> {
 
     /// Returns the file of the segment, or the number of the refusal.
     pub(crate) fn bytes(&self) -> Result<Vec<u8>, u32> {
-        // SAFETY: as in `enabled`; an array with a room of 0 is neither read nor written.
-        let counted = unsafe { l4_segment_bytes(self.cell.get(), std::ptr::null_mut(), 0) };
-        let mut bytes = vec![0; counted.count as usize];
-        // SAFETY: as in `enabled`; the bytes belong to this function, and their room is their length.
-        let told = unsafe { l4_segment_bytes(self.cell.get(), bytes.as_mut_ptr(), bytes.len()) };
-        match told.refusal {
-            L4_OK => Ok(bytes),
-            refusal => Err(refusal),
-        }
+        // SAFETY: as in `enabled`; the room is that of the place, which belongs to `all`.
+        all(|out, room| unsafe { l4_segment_bytes(self.cell.get(), out, room) })
     }
 }
 
@@ -1068,17 +1061,8 @@ impl Handle<l4_orders> {
 
     /// Returns the numbers of the lines of an outcome's order, or the number of the refusal.
     pub(crate) fn lines(&self, outcome: usize) -> Result<Vec<u64>, u32> {
-        // SAFETY: as in `enabled`; the room is that of the lines, and none is written if it is 0.
-        let write = |lines: *mut u64, room: usize| unsafe {
-            l4_orders_lines(self.cell.get(), outcome, lines, room)
-        };
-        let mut lines = vec![0; write(std::ptr::null_mut(), 0).count as usize];
-        let told = write(lines.as_mut_ptr(), lines.len());
-        if told.refusal == L4_OK {
-            Ok(lines)
-        } else {
-            Err(told.refusal)
-        }
+        // SAFETY: as in `enabled`; the room is that of the place, which belongs to `all`.
+        all(|out, room| unsafe { l4_orders_lines(self.cell.get(), outcome, out, room) })
     }
 }
 
@@ -1195,6 +1179,22 @@ fn text(write: impl FnOnce(*mut c_char, usize) -> usize) -> String {
     String::from_utf8_lossy(&bytes[..length]).into_owned()
 }
 
+/// Returns all items that a function of the library writes, or the number of the refusal. With a room of 0, the function counts them and
+/// writes nothing.
+fn all<T: Clone + Default>(write: impl Fn(*mut T, usize) -> l4_count) -> Result<Vec<T>, u32> {
+    let counted = write(ptr::null_mut(), 0);
+    if counted.refusal != L4_OK {
+        return Err(counted.refusal);
+    }
+    let mut items = vec![T::default(); counted.count as usize];
+    let told = write(items.as_mut_ptr(), items.len());
+    if told.refusal == L4_OK {
+        Ok(items)
+    } else {
+        Err(told.refusal)
+    }
+}
+
 /// Returns a text of any length that a function of the library writes to a place with this room, or the number of the refusal.
 fn whole(write: impl Fn(*mut c_char, usize) -> l4_count) -> Result<String, u32> {
     let mut bytes = vec![0u8; TEXT_ROOM];
@@ -1230,6 +1230,7 @@ pub(crate) use tests::{refusal_code, refusal_text};
 #[cfg(test)]
 mod tests {
     use super::*;
+    use std::cell::Cell;
     use std::collections::BTreeSet;
     use std::path::Path;
     use std::{env, fs};
@@ -1244,6 +1245,16 @@ mod tests {
     pub(crate) fn refusal_text(refusal: u32) -> String {
         // SAFETY: as in `reply_text`.
         text(|out, room| unsafe { l4_refusal_text(refusal, out, room) })
+    }
+
+    #[test]
+    fn memory_may_run_out_for_a_count_alone() {
+        let refusal = Cell::new(L4_NO_MEMORY);
+        let told = all::<u8>(|_, _| l4_count {
+            refusal: refusal.replace(L4_OK),
+            count: 9,
+        });
+        assert_eq!(told, Err(L4_NO_MEMORY));
     }
 
     /// The type as C writes it.
