@@ -46,9 +46,9 @@
  * RESULTS
  *
  * Results are returned by value. The first member of each, refusal, is L4_OK or a number that says why the call was refused. A function
- * that makes an object (except l4_orders_search), l4_pager_add and l4_lock_give return this number itself. When a step is refused, nothing
- * has changed, and every other member is 0, except detail: the number that some refusals carry. The comment at each function lists its
- * refusals in the order in which they are tested.
+ * that makes an object (except l4_orders_search and l4_checkpoint_read), l4_pager_add and l4_lock_give return this number itself. When a
+ * step is refused, nothing has changed, and every other member is 0, except detail: the number that some refusals carry. The comment at
+ * each function lists its refusals in the order in which they are tested.
  *
  * RESERVED MEMBERS
  *
@@ -951,29 +951,37 @@ void l4_orders_free(l4_orders *orders);
 
 /* CHECKPOINTS
  *
- * A checkpoint is the state of a kernel as bytes: its threads with what each is doing, the queue of senders, the spaces and the mappings. You
- * keep it as a file, to continue a run later or to share a fault. It has no history. */
+ * A checkpoint is the state of a kernel as bytes: its threads with what each is doing, the queue of senders, the spaces and the mappings.
+ * You keep it as a file, to continue a run later or to share a fault. It has no history. The README of the crate l4_checkpoints describes
+ * each byte; the bytes are the same on every computer.
+ *
+ * To write the state of a locked kernel, copy it with l4_lock_copy: `entries` is then what l4_lock_length returns, if no call came between
+ * the two. A kernel that was read from a checkpoint has no history and no seats. */
 
-/* Writes the checkpoint of a kernel that was booted with this number of frames. `entries` is the number of steps in its history since boot, or
- * 0 if you keep none. The bytes are written to the array, up to its length, and count is how many there are; with a room of 0, the call only
- * counts them. The kernel is unchanged. Refusals in this order: B1; NoMemory. Nothing is written then. */
+/* Writes the checkpoint of a kernel to the array, up to its length, and returns how many bytes the checkpoint has. `frames` is the number
+ * of frames with which the kernel was booted; with another number, l4_checkpoint_read may refuse the bytes. `entries` is the number of
+ * steps in its history since boot, or 0 if you keep none.
+ *
+ * With a room of 0, the call only counts the bytes. The array has the whole checkpoint if count is at most room: a step between two calls
+ * may change the count. The kernel is unchanged. Refusals in this order: B1; K6 if frames is not 1 to 4,096; L1 if entries exceeds 2^63;
+ * NoMemory. Nothing is written then. */
 l4_count l4_checkpoint_write(l4_kernel *kernel, uint32_t frames, size_t entries, uint8_t *out, size_t room);
 
-/* What is wrong with bytes that are not a checkpoint, and what the position is, in bytes from 0: another first word; an unknown version; a
- * number of frames that no kernel has; a page size that no kernel has; a number of steps above 2^63; the bytes end too early; the checksum
- * is wrong; bytes follow the checksum; or the words are not those of a kernel. The position is where the bytes depart from a checkpoint. */
-#define L4_OTHER_MAGIC UINT32_C(1)
-#define L4_OTHER_VERSION UINT32_C(2)
-#define L4_NO_FRAMES UINT32_C(3)
-#define L4_NO_PAGE_SIZE UINT32_C(4)
-#define L4_TOO_MANY_ENTRIES UINT32_C(5)
-#define L4_CUT UINT32_C(6)
-#define L4_OTHER_CHECKSUM UINT32_C(7)
-#define L4_EXTRA UINT32_C(8)
-#define L4_NO_STATE UINT32_C(9)
+/* What is wrong with bytes that are not a checkpoint: they do not begin with "LCP4"; their version is unknown; no kernel has this number of
+ * frames; no kernel has this page size; the number of entries exceeds 2^63; they end too early; the checksum is wrong; bytes follow the
+ * checksum; or the words are not those of a kernel. */
+#define L4_CHECKPOINT_MAGIC UINT32_C(1)
+#define L4_CHECKPOINT_VERSION UINT32_C(2)
+#define L4_CHECKPOINT_FRAMES UINT32_C(3)
+#define L4_CHECKPOINT_PAGE_SIZE UINT32_C(4)
+#define L4_CHECKPOINT_ENTRIES UINT32_C(5)
+#define L4_CHECKPOINT_CUT UINT32_C(6)
+#define L4_CHECKPOINT_CHECKSUM UINT32_C(7)
+#define L4_CHECKPOINT_EXTRA UINT32_C(8)
+#define L4_CHECKPOINT_STATE UINT32_C(9)
 
-/* The number of frames and the number of steps that were passed to l4_checkpoint_write; after B6, what is wrong (L4_OTHER_MAGIC ..) and the
- * position. */
+/* The result of l4_checkpoint_read: the numbers that were passed to l4_checkpoint_write. After B6, fault is what is wrong with the bytes
+ * (L4_CHECKPOINT_MAGIC ..), and position is where, in bytes from 0; otherwise both are 0. */
 typedef struct l4_checkpoint {
     uint32_t refusal;
     uint32_t fault;
@@ -983,8 +991,9 @@ typedef struct l4_checkpoint {
     uint32_t reserved;
 } l4_checkpoint;
 
-/* Reads a checkpoint of `length` bytes into an empty handle, which then owns exactly the kernel that was written; you free it with l4_free.
- * After a refusal the handle is unchanged. Refusals in this order: B2; B6 or NoMemory. */
+/* Reads a checkpoint of `length` bytes into an empty handle, which then owns exactly the kernel that was written. You free it with l4_free.
+ * The bytes are not needed afterwards. After a refusal the handle is unchanged. Refusals in this order: B2; B6 for bytes that are not a
+ * checkpoint, or NoMemory. */
 l4_checkpoint l4_checkpoint_read(l4_kernel *kernel, const uint8_t *bytes, size_t length);
 
 /* CONSTRUCTORS AND READERS. These functions are inline, and do not call the library unless they take a handle. */

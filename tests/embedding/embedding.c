@@ -857,25 +857,25 @@ static int is_no_checkpoint(const uint8_t *bytes, size_t length, uint32_t fault,
 
 /* A checkpoint of a kernel in which root waits for a message and sigma0 sends one: 122 words after the heading, and a checksum. */
 static void bad_checkpoints(uint8_t *bytes) {
-    EXPECT(is_no_checkpoint(bytes, 551, L4_CUT, 520) && is_no_checkpoint(bytes, 31, L4_CUT, 0) && is_no_checkpoint(NULL, 0, L4_CUT, 0));
-    EXPECT(is_no_checkpoint(bytes, 553, L4_EXTRA, 552));
+    EXPECT(is_no_checkpoint(bytes, 551, L4_CHECKPOINT_CUT, 520) && is_no_checkpoint(bytes, 31, L4_CHECKPOINT_CUT, 0) && is_no_checkpoint(NULL, 0, L4_CHECKPOINT_CUT, 0));
+    EXPECT(is_no_checkpoint(bytes, 553, L4_CHECKPOINT_EXTRA, 552));
     bytes[551] ^= 1;
-    EXPECT(is_no_checkpoint(bytes, 552, L4_OTHER_CHECKSUM, 520));
+    EXPECT(is_no_checkpoint(bytes, 552, L4_CHECKPOINT_CHECKSUM, 520));
     bytes[551] ^= 1;
     bytes[0] ^= 1;
-    EXPECT(is_no_checkpoint(bytes, 552, L4_OTHER_MAGIC, 0));
+    EXPECT(is_no_checkpoint(bytes, 552, L4_CHECKPOINT_MAGIC, 0));
     bytes[0] ^= 1;
     bytes[4] ^= 3;
-    EXPECT(is_no_checkpoint(bytes, 552, L4_OTHER_VERSION, 4));
+    EXPECT(is_no_checkpoint(bytes, 552, L4_CHECKPOINT_VERSION, 4));
     bytes[4] ^= 3;
     bytes[8] = 0;
-    EXPECT(is_no_checkpoint(bytes, 552, L4_NO_FRAMES, 8));
+    EXPECT(is_no_checkpoint(bytes, 552, L4_CHECKPOINT_FRAMES, 8));
     bytes[8] = 16;
     bytes[13] ^= 1;
-    EXPECT(is_no_checkpoint(bytes, 552, L4_NO_PAGE_SIZE, 12));
+    EXPECT(is_no_checkpoint(bytes, 552, L4_CHECKPOINT_PAGE_SIZE, 12));
     bytes[13] ^= 1;
     bytes[23] = 0x81;
-    EXPECT(is_no_checkpoint(bytes, 552, L4_TOO_MANY_ENTRIES, 16));
+    EXPECT(is_no_checkpoint(bytes, 552, L4_CHECKPOINT_ENTRIES, 16));
     bytes[23] = 0;
 }
 

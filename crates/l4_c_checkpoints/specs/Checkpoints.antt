@@ -1,8 +1,10 @@
 -- Checkpoints that C gets and passes (this profile's own).
-use Rattle.std.specs.Prelude.{◌≡◌, ◌⊎◌, ℕ, List, length, codes, Option, None, Some}
+use Rattle.std.specs.Prelude.{◌≡◌, ◌⊎◌, ◌<◌, ◌≤◌, ℕ, List, length, codes, Option, None, Some}
+use Rattle.l4_fpage.specs.Pages.{max_frames}
 use Rattle.l4_ipc.specs.Machine.{Machine}
+use Rattle.l4_record.specs.Sizes.{max_handed_out}
 use Rattle.l4_refusals.specs.Texts.{spelled}
-use Rattle.l4_checkpoints.specs.Checkpoints.{IsWritten, IsCheckpoint, IsNoCheckpoint}
+use Rattle.l4_checkpoints.specs.Checkpoints.{IsCheckpoint, IsNoCheckpoint}
 use Rattle.l4_checkpoints.specs.declared.faults.CheckpointFault.{CheckpointFault}
 use Rattle.l4_checkpoints.specs.declared.faults.CheckpointFaultKind.{CheckpointFaultKind}
 use Rattle.l4_checkpoints.specs.declared.faults.CheckpointFaultKind.TheVariants.{NoMemory, Magic, Version, Frames, Pages, Numbers, Cut, Checksum, Extra, Machine as IsOfWords}
@@ -16,11 +18,14 @@ use Rattle.l4_c_checkpoints.specs.declared.reading.CheckpointResult.{CheckpointR
 abbrev pub count_result : ℕ → ℕ → CountResult
 count_result code count = record { refusal = code; count = count }
 
--- the bytes of the machine's checkpoint are counted, and written as far as there is room; or memory ran out
+-- A number of frames that no kernel has is refused first (K6), and then a number of entries that no history has (L1). Otherwise the bytes of
+-- the machine's checkpoint are counted, and written as far as there is room, or memory ran out. Nothing is written after a refusal.
 abbrev pub Writes : ℕ → ℕ → Machine → List ℕ → CountResult → List ℕ → Type 0
 Writes frames entries m old r new =
-    ((bytes : List ℕ) × IsWritten frames entries m bytes × (r ≡ count_result 0 (length bytes)) × (new ≡ placed bytes old))
-    ⊎ ((r ≡ count_result (spelled (codes "NoMemory")) 0) × (new ≡ old))
+    (((frames ≡ 0) ⊎ (max_frames < frames)) × (r ≡ count_result (spelled (codes "K6")) 0) × (new ≡ old))
+    ⊎ ((1 ≤ frames) × (frames ≤ max_frames) × (max_handed_out < entries) × (r ≡ count_result (spelled (codes "L1")) 0) × (new ≡ old))
+    ⊎ ((bytes : List ℕ) × IsCheckpoint frames entries m bytes × (r ≡ count_result 0 (length bytes)) × (new ≡ placed bytes old))
+    ⊎ ((1 ≤ frames) × (frames ≤ max_frames) × (entries ≤ max_handed_out) × (r ≡ count_result (spelled (codes "NoMemory")) 0) × (new ≡ old))
 
 -- an empty handle is refused (B1)
 abbrev pub WritesCheckpoint : Option Machine → ℕ → ℕ → List ℕ → CountResult → List ℕ → Type 0
@@ -32,34 +37,22 @@ WritesCheckpoint (Some m) frames entries old r new = Writes frames entries m old
 abbrev pub refusal_result : ℕ → CheckpointResult
 refusal_result code = record { refusal = code; fault = 0; position = 0; entries = 0; frames = 0; reserved = 0 }
 
--- memory ran out, or the bytes are not a checkpoint
-abbrev pub fault_code : CheckpointFaultKind → ℕ
-fault_code NoMemory = spelled (codes "NoMemory")
-fault_code Magic = spelled (codes "B6")
-fault_code Version = spelled (codes "B6")
-fault_code Frames = spelled (codes "B6")
-fault_code Pages = spelled (codes "B6")
-fault_code Numbers = spelled (codes "B6")
-fault_code Cut = spelled (codes "B6")
-fault_code Checksum = spelled (codes "B6")
-fault_code Extra = spelled (codes "B6")
-fault_code IsOfWords = spelled (codes "B6")
+-- bytes that are not a checkpoint (B6): what is wrong with them, and where
+abbrev pub no_checkpoint : ℕ → ℕ → CheckpointResult
+no_checkpoint fault position = record { refusal = spelled (codes "B6"); fault = fault; position = position; entries = 0; frames = 0; reserved = 0 }
 
--- what is wrong with the bytes
-abbrev pub fault_number : CheckpointFaultKind → ℕ
-fault_number NoMemory = 0
-fault_number Magic = 1
-fault_number Version = 2
-fault_number Frames = 3
-fault_number Pages = 4
-fault_number Numbers = 5
-fault_number Cut = 6
-fault_number Checksum = 7
-fault_number Extra = 8
-fault_number IsOfWords = 9
-
-abbrev pub fault_result : CheckpointFault → CheckpointResult
-fault_result f = record { refusal = fault_code f.kind; fault = fault_number f.kind; position = f.position; entries = 0; frames = 0; reserved = 0 }
+-- memory ran out, or the bytes have this fault
+abbrev pub fault_result : CheckpointFaultKind → ℕ → CheckpointResult
+fault_result NoMemory position = refusal_result (spelled (codes "NoMemory"))
+fault_result Magic position = no_checkpoint 1 position
+fault_result Version position = no_checkpoint 2 position
+fault_result Frames position = no_checkpoint 3 position
+fault_result Pages position = no_checkpoint 4 position
+fault_result Numbers position = no_checkpoint 5 position
+fault_result Cut position = no_checkpoint 6 position
+fault_result Checksum position = no_checkpoint 7 position
+fault_result Extra position = no_checkpoint 8 position
+fault_result IsOfWords position = no_checkpoint 9 position
 
 abbrev pub checkpoint_result : ℕ → ℕ → CheckpointResult
 checkpoint_result frames entries = record { refusal = 0; fault = 0; position = 0; entries = entries; frames = frames; reserved = 0 }
@@ -74,5 +67,5 @@ abbrev pub ReadsCheckpoint : Option Machine → List ℕ → CheckpointResult �
 ReadsCheckpoint (Some held) bytes r new = (r ≡ refusal_result (spelled (codes "B2"))) × (new ≡ Some held)
 ReadsCheckpoint None bytes r new =
     ((frames : ℕ) × (entries : ℕ) × (m : Machine) × IsCheckpoint frames entries m bytes × (r ≡ checkpoint_result frames entries) × (new ≡ Some m))
-    ⊎ ((f : CheckpointFault) × IsFault bytes f × (r ≡ fault_result f) × (new ≡ None))
+    ⊎ ((f : CheckpointFault) × IsFault bytes f × (r ≡ fault_result f.kind f.position) × (new ≡ None))
     ⊎ ((r ≡ refusal_result (spelled (codes "NoMemory"))) × (new ≡ None))

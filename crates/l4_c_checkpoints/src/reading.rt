@@ -1,9 +1,9 @@
 //! Reads checkpoints.
 ghost use Rattle.std.specs.Prelude.{◌≡◌};
-ghost use Rattle.l4_c_checkpoints.specs.Checkpoints.{refusal_result, fault_code, fault_number, fault_result, checkpoint_result, ReadsCheckpoint};
+ghost use Rattle.l4_c_checkpoints.specs.Checkpoints.{refusal_result, no_checkpoint, fault_result, checkpoint_result, ReadsCheckpoint};
 
 use l4_c_values::{HELD, KernelHandle, NO_MEMORY};
-use l4_checkpoints::{Checkpoint, CheckpointFault, CheckpointFaultKind, read_checkpoint};
+use l4_checkpoints::{Checkpoint, CheckpointFaultKind, read_checkpoint};
 use std::alloc::Global;
 
 /// B6: the bytes are not a checkpoint.
@@ -35,45 +35,36 @@ fn refused(refusal: u32) -> CheckpointResult
     }
 }
 
-/// Returns the number of the refusal for a fault.
-fn fault_code(kind: CheckpointFaultKind) -> u32
-    ensures { result ≡ fault_code kind }
-{
-    match kind {
-        CheckpointFaultKind::NoMemory => NO_MEMORY,
-        _ => NO_CHECKPOINT,
-    }
-}
-
-/// Returns the number of a fault.
-fn fault_number(kind: CheckpointFaultKind) -> u32
-    ensures { result ≡ fault_number kind }
-{
-    match kind {
-        CheckpointFaultKind::NoMemory => 0,
-        CheckpointFaultKind::Magic => 1,
-        CheckpointFaultKind::Version => 2,
-        CheckpointFaultKind::Frames => 3,
-        CheckpointFaultKind::Pages => 4,
-        CheckpointFaultKind::Numbers => 5,
-        CheckpointFaultKind::Cut => 6,
-        CheckpointFaultKind::Checksum => 7,
-        CheckpointFaultKind::Extra => 8,
-        CheckpointFaultKind::Machine => 9,
-    }
-}
-
-/// Returns the result for bytes with this fault.
-fn fault_told(fault: CheckpointFault) -> CheckpointResult
-    ensures { result ≡ fault_result fault }
+/// Returns the result for bytes that are not a checkpoint: what is wrong with them, and where.
+fn no_checkpoint(fault: u32, position: u64) -> CheckpointResult
+    ensures { result ≡ no_checkpoint fault position }
 {
     CheckpointResult {
-        refusal: fault_code(fault.kind),
-        fault: fault_number(fault.kind),
-        position: fault.position as u64,
+        refusal: NO_CHECKPOINT,
+        fault,
+        position,
         entries: 0,
         frames: 0,
         reserved: 0,
+    }
+}
+
+/// Returns the result for a fault of this kind at a position.
+fn fault_told(kind: CheckpointFaultKind, position: usize) -> CheckpointResult
+    ensures { result ≡ fault_result kind position }
+{
+    let position = position as u64;
+    match kind {
+        CheckpointFaultKind::NoMemory => refused(NO_MEMORY),
+        CheckpointFaultKind::Magic => no_checkpoint(1, position),
+        CheckpointFaultKind::Version => no_checkpoint(2, position),
+        CheckpointFaultKind::Frames => no_checkpoint(3, position),
+        CheckpointFaultKind::Pages => no_checkpoint(4, position),
+        CheckpointFaultKind::Numbers => no_checkpoint(5, position),
+        CheckpointFaultKind::Cut => no_checkpoint(6, position),
+        CheckpointFaultKind::Checksum => no_checkpoint(7, position),
+        CheckpointFaultKind::Extra => no_checkpoint(8, position),
+        CheckpointFaultKind::Machine => no_checkpoint(9, position),
     }
 }
 
@@ -91,7 +82,8 @@ fn checkpoint_told(frames: u32, entries: usize) -> CheckpointResult
     }
 }
 
-/// Reads a checkpoint, and fills an empty handle with its kernel. The refusals are B2, B6 and NoMemory, in this order.
+/// Reads a checkpoint, and fills an empty handle with its kernel. The refusals are B2, and then B6 or
+/// NoMemory. After a refusal the handle is unchanged.
 #[unsafe(no_mangle)]
 pub extern "C" fn l4_checkpoint_read(
     alloc: Global,
@@ -106,7 +98,7 @@ pub extern "C" fn l4_checkpoint_read(
     }
     let read = match read_checkpoint(alloc, bytes) {
         Ok(read) => read,
-        Err(fault) => return fault_told(fault),
+        Err(fault) => return fault_told(fault.kind, fault.position),
     };
     let Checkpoint {
         frames,
