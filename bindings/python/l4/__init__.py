@@ -33,7 +33,7 @@ from .outcomes import Orders, PlanOutcome, SearchEnd, orders
 from .plans import Plan, Region
 from .protocols import FrameRequest, PageFault
 from .queries import Mapping, Place, Thread, ThreadState
-from .refusals import BadPlan, IpcFailed, Refused, TooLong
+from .refusals import BadCheckpoint, BadPlan, CheckpointFault, IpcFailed, Refused, TooLong
 from .replies import Reply, ReplyKind
 from .shared import Entry, Link, Receipt, Seat, Segment, SharedKernel, Start
 from .tables import Pager, Sigma0
@@ -68,8 +68,10 @@ __all__ = [
     "UNKNOWN",
     "Agreement",
     "Answer",
+    "BadCheckpoint",
     "BadPlan",
     "Call",
+    "CheckpointFault",
     "Difference",
     "Done",
     "Entered",

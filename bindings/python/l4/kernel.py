@@ -2,16 +2,16 @@
 from __future__ import annotations
 
 import enum
-from ctypes import byref, create_string_buffer
+from ctypes import byref, c_char, create_string_buffer
 from dataclasses import dataclass
 from typing import Any, Callable, Iterator, Optional, Tuple, Union
 
 from . import _library
-from ._handles import Handle
+from ._handles import Handle, all_items
 from ._library import library, number, of_type
 from .calls import Call
 from .queries import Queries
-from .refusals import Refused
+from .refusals import BadCheckpoint, Refused
 from .words import MAX_THREADS, PAGE_BYTES
 
 
@@ -174,37 +174,42 @@ class Kernel(Handle, Queries):
     def checkpoint(self, entries: int = 0) -> bytes:
         """Returns the state of the kernel as bytes. You keep them as a file, to continue a run later or to share a fault.
 
-        `entries` is the number of steps in its history since boot, or 0 if you keep none. Raises Refused with NoMemory if an allocation
-        fails.
+        `entries` is the number of steps in its history since boot, or 0 if you keep none. Raises Refused, in this order, with L1 if `entries`
+        exceeds 2^63, and with NoMemory if an allocation fails.
 
         >>> from l4 import Call, Message, ThreadId
         >>> kernel = Kernel(1)
         >>> _ = kernel.start(1, Call.send(ThreadId.ROOT, Message.of(untyped=[5])))
-        >>> again = Kernel.from_checkpoint(kernel.checkpoint())
-        >>> again.enter(2, Call.receive()).steps[0].step
-        Transfer(sender=1, receiver=2)
+        >>> again, entries = Kernel.from_checkpoint(kernel.checkpoint(1))
+        >>> again.enter(2, Call.receive()).steps[0].step, entries
+        (Transfer(sender=1, receiver=2), 1)
         """
         given = self._frames, number(entries, "the number of entries", 64)
+
+        def write(out: Any, room: int) -> Any:
+            return self._told(self._ask(library.l4_checkpoint_write, *given, out, room))
+
+        # no other thread changes the kernel between the count and the bytes
         with self._turn:
-            room = self._told(self._ask(library.l4_checkpoint_write, *given, None, 0)).count
-            out = create_string_buffer(room)
-            self._told(self._ask(library.l4_checkpoint_write, *given, out, room))
-        return out.raw
+            return all_items(c_char, write).raw
 
     @classmethod
-    def from_checkpoint(cls, data: bytes) -> Kernel:
-        """Returns exactly the kernel that `checkpoint` wrote. Raises Refused with B6 if the bytes are not a checkpoint, and with NoMemory if
-        an allocation fails."""
-        given, told = of_type(data, bytes, "a checkpoint"), []
+    def from_checkpoint(cls, data: bytes) -> Tuple[Kernel, int]:
+        """Returns exactly the kernel that `checkpoint` wrote, and the number of entries that was passed. Raises BadCheckpoint (B6) with the
+        position if the bytes are not a checkpoint, and Refused with NoMemory if an allocation fails."""
+        given, told = of_type(data, bytes, "a checkpoint"), _library.l4_checkpoint()
 
         def read(handle: Any) -> int:
-            told.append(library.l4_checkpoint_read(handle, given, len(given)))
-            return told[0].refusal
+            nonlocal told
+            told = library.l4_checkpoint_read(handle, given, len(given))
+            if told.refusal == _library.L4_B6:
+                raise BadCheckpoint(told.fault, told.position)
+            return told.refusal
 
         made = cls.__new__(cls)
         Handle.__init__(made, _library.l4_kernel(), read, library.l4_free)
-        made._frames = told[0].frames
-        return made
+        made._frames = told.frames
+        return made, told.entries
 
     @classmethod
     def _copied(cls, copy: Callable[[Any], int], source: Handle, frames: int) -> Kernel:

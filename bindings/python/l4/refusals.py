@@ -1,6 +1,7 @@
 """The exceptions for refused calls and failed Ipcs."""
 from __future__ import annotations
 
+import enum
 from typing import Optional, Sequence
 
 from . import _library
@@ -67,6 +68,58 @@ class BadPlan(Refused):
 
     def __str__(self) -> str:
         return super().__str__() if self.line is None else f"line {self.line}: {super().__str__()}"
+
+
+class CheckpointFault(enum.Enum):
+    """What is wrong with bytes that are not a checkpoint."""
+
+    #: They do not begin with `LCP4`.
+    MAGIC = _library.L4_CHECKPOINT_MAGIC
+    #: The version of the form is unknown.
+    VERSION = _library.L4_CHECKPOINT_VERSION
+    #: No kernel has this number of frames.
+    FRAMES = _library.L4_CHECKPOINT_FRAMES
+    #: No kernel has this page size.
+    PAGE_SIZE = _library.L4_CHECKPOINT_PAGE_SIZE
+    #: The number of entries exceeds 2^63.
+    ENTRIES = _library.L4_CHECKPOINT_ENTRIES
+    #: They end too early.
+    CUT = _library.L4_CHECKPOINT_CUT
+    #: The checksum is wrong.
+    CHECKSUM = _library.L4_CHECKPOINT_CHECKSUM
+    #: Bytes follow the checksum.
+    EXTRA = _library.L4_CHECKPOINT_EXTRA
+    #: The words are not those of a kernel.
+    STATE = _library.L4_CHECKPOINT_STATE
+
+
+_FAULTS = {
+    CheckpointFault.MAGIC: "a checkpoint begins with LCP4",
+    CheckpointFault.VERSION: "the version of the form must be 1",
+    CheckpointFault.FRAMES: "the number of frames must be from 1 to 4,096",
+    CheckpointFault.PAGE_SIZE: "the page size must be 4,096 or 1,024 bytes",
+    CheckpointFault.ENTRIES: "the number of entries exceeds 2^63",
+    CheckpointFault.CUT: "the checkpoint is cut off",
+    CheckpointFault.CHECKSUM: "the checksum is not that of the checkpoint",
+    CheckpointFault.EXTRA: "bytes follow the checkpoint",
+    CheckpointFault.STATE: "the words are not those of a kernel",
+}
+
+
+class BadCheckpoint(Refused):
+    """Bytes that are not a checkpoint (B6). `fault` is what is wrong with them, and `position` where, in bytes from 0."""
+
+    fault: CheckpointFault
+    position: int
+
+    def __init__(self, fault: int, position: int) -> None:
+        super().__init__(_library.L4_B6)
+        self.args = (fault, position)
+        self.fault = CheckpointFault(fault)
+        self.position = position
+
+    def __str__(self) -> str:
+        return f"byte {self.position}: {_FAULTS[self.fault]}"
 
 
 _ERRORS = {

@@ -184,15 +184,15 @@ constants! {
     L4_MOST_STATES = 2;
     L4_LACKED_MEMORY = 3;
     L4_LACKED_HISTORY = 4;
-    L4_OTHER_MAGIC = 1;
-    L4_OTHER_VERSION = 2;
-    L4_NO_FRAMES = 3;
-    L4_NO_PAGE_SIZE = 4;
-    L4_TOO_MANY_ENTRIES = 5;
-    L4_CUT = 6;
-    L4_OTHER_CHECKSUM = 7;
-    L4_EXTRA = 8;
-    L4_NO_STATE = 9;
+    L4_CHECKPOINT_MAGIC = 1;
+    L4_CHECKPOINT_VERSION = 2;
+    L4_CHECKPOINT_FRAMES = 3;
+    L4_CHECKPOINT_PAGE_SIZE = 4;
+    L4_CHECKPOINT_ENTRIES = 5;
+    L4_CHECKPOINT_CUT = 6;
+    L4_CHECKPOINT_CHECKSUM = 7;
+    L4_CHECKPOINT_EXTRA = 8;
+    L4_CHECKPOINT_STATE = 9;
     L4_SIGMA0_ID = 0x4001;
     L4_ROOT_ID = 0x8001;
     L4_NIL_FPAGE = 0;
@@ -720,6 +720,33 @@ impl Handle<l4_kernel> {
     pub(crate) fn copy(&self) -> Result<Handle<l4_kernel>, u32> {
         // SAFETY: as in `enabled`; the handle that `made` passes is empty, live and not shared, so it is not this one.
         Handle::made(|copy| unsafe { l4_copy(self.cell.get(), copy) })
+    }
+
+    /// Returns the checkpoint of the kernel, or the number of the refusal.
+    pub(crate) fn checkpoint(&self, frames: u32, entries: usize) -> Result<Vec<u8>, u32> {
+        // SAFETY: as in `enabled`; the room is that of the place, which belongs to `all`.
+        all(|out, room| unsafe { l4_checkpoint_write(self.cell.get(), frames, entries, out, room) })
+    }
+
+    /// Reads a checkpoint into a handle of its own, with the numbers that stand in it, or returns what is wrong with the bytes.
+    pub(crate) fn read(bytes: &[u8]) -> Result<(Handle<l4_kernel>, l4_checkpoint), l4_checkpoint> {
+        let mut told = l4_checkpoint {
+            refusal: L4_OK,
+            fault: 0,
+            position: 0,
+            entries: 0,
+            frames: 0,
+            reserved: 0,
+        };
+        let made = Handle::made(|handle| {
+            // SAFETY: as in `boot`; the bytes live as long as their borrow, and a slice's pointer is aligned and never null.
+            told = unsafe { l4_checkpoint_read(handle, bytes.as_ptr(), bytes.len()) };
+            told.refusal
+        });
+        match made {
+            Ok(handle) => Ok((handle, told)),
+            Err(_) => Err(told),
+        }
     }
 
     pub(crate) fn start(&mut self, thread: u32, call: &l4_call, words: &[u32]) -> l4_answer {

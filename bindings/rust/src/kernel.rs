@@ -1,7 +1,7 @@
 //! Kernels, their steps, and queries about their state.
 use crate::ffi;
 use crate::refusals::unknown;
-use crate::{queries, Call, PageSize, Refusal, Reply, Rights, Thread, MAX_THREADS};
+use crate::{queries, BadCheckpoint, Call, PageSize, Refusal, Reply, Rights, Thread, MAX_THREADS};
 use std::{fmt, iter};
 
 /// A step that does not start a call.
@@ -244,6 +244,7 @@ pub struct Mapping {
 /// kernel use a [`SharedKernel`](crate::SharedKernel). The methods name threads by their numbers. A refused step changes nothing.
 pub struct Kernel {
     handle: ffi::Handle<ffi::l4_kernel>,
+    frames: u32,
 }
 
 impl Kernel {
@@ -274,7 +275,7 @@ impl Kernel {
     /// ```
     pub fn boot_sized(frames: u32, page_size: PageSize) -> Result<Kernel, Refusal> {
         match ffi::Handle::boot(frames, page_size.bytes()) {
-            Ok(handle) => Ok(Kernel { handle }),
+            Ok(handle) => Ok(Kernel { handle, frames }),
             Err(number) => Err(Refusal::of(number, 0)),
         }
     }
@@ -303,14 +304,60 @@ impl Kernel {
     /// ```
     pub fn try_clone(&self) -> Result<Kernel, Refusal> {
         match self.handle.copy() {
-            Ok(handle) => Ok(Kernel { handle }),
+            Ok(handle) => Ok(Kernel::of(handle, self.frames)),
             Err(number) => Err(Refusal::of(number, 0)),
         }
     }
 
-    /// Returns the kernel that owns this handle.
-    pub(crate) fn of(handle: ffi::Handle<ffi::l4_kernel>) -> Kernel {
-        Kernel { handle }
+    /// Returns the kernel that owns this handle, and that was booted with this number of frames.
+    pub(crate) fn of(handle: ffi::Handle<ffi::l4_kernel>, frames: u32) -> Kernel {
+        Kernel { handle, frames }
+    }
+
+    /// Returns the state of the kernel as bytes. You keep them as a file, to continue a run later or to share a fault.
+    ///
+    /// `entries` is the number of steps in its history since boot, or 0 if you keep none.
+    ///
+    /// # Errors
+    ///
+    /// In this order: L1 if `entries` exceeds 2^63; NoMemory.
+    ///
+    /// # Examples
+    ///
+    /// ```
+    /// use l4::{Call, Fpage, Kernel, Message, Step, ThreadId, Timeout};
+    /// let mut kernel = Kernel::boot(1)?;
+    /// kernel.start(1, &Call::send(ThreadId::ROOT, &Message::new(0, &[5], &[])?, Timeout::Never))?;
+    /// let (mut again, entries) = Kernel::from_checkpoint(&kernel.checkpoint(1)?)?;
+    /// let entered = again.enter(2, &Call::receive(ThreadId::ANY, Fpage::NIL, Timeout::Never))?;
+    /// assert_eq!(entered.steps[0].step, Step::Transfer { sender: 1, receiver: 2 });
+    /// assert_eq!(entries, 1);
+    /// # Ok::<(), Box<dyn std::error::Error>>(())
+    /// ```
+    pub fn checkpoint(&self, entries: u64) -> Result<Vec<u8>, Refusal> {
+        // a number that no usize has is above 2^63, and is refused
+        let entries = usize::try_from(entries).unwrap_or(usize::MAX);
+        match self.handle.checkpoint(self.frames, entries) {
+            Ok(bytes) => Ok(bytes),
+            Err(number) => Err(Refusal::of(number, 0)),
+        }
+    }
+
+    /// Returns exactly the kernel that [`checkpoint`](Kernel::checkpoint) wrote, and the number of entries that was passed.
+    ///
+    /// # Errors
+    ///
+    /// [`Refusal::NotACheckpoint`] with the fault and its position, or [`Refusal::NoMemory`].
+    pub fn from_checkpoint(bytes: &[u8]) -> Result<(Kernel, u64), BadCheckpoint> {
+        match ffi::Handle::read(bytes) {
+            Ok((handle, told)) => Ok((Kernel::of(handle, told.frames), told.entries)),
+            Err(told) => Err(BadCheckpoint::of(&told)),
+        }
+    }
+
+    /// Returns the number of frames with which the kernel was booted.
+    pub fn frames(&self) -> u32 {
+        self.frames
     }
 
     /// Returns the size of the pages and frames with which the kernel was booted.

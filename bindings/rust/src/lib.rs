@@ -53,8 +53,8 @@
 //!
 //! # Later versions
 //!
-//! [`Refusal`], [`Reply`], [`Outcome`], [`Step`], [`ThreadState`], [`Timeout`], [`PageSize`] and [`SearchEnd`] may get more variants in a
-//! later version. They are marked `#[non_exhaustive]`, so a `match` on one of them needs an arm `_` in another crate.
+//! [`Refusal`], [`Reply`], [`Outcome`], [`Step`], [`ThreadState`], [`Timeout`], [`PageSize`], [`SearchEnd`] and [`CheckpointFault`] may get
+//! more variants in a later version. They are marked `#[non_exhaustive]`, so a `match` on one of them needs an arm `_` in another crate.
 #![warn(missing_docs)]
 #![deny(unsafe_code)]
 #![warn(clippy::undocumented_unsafe_blocks)]
@@ -81,6 +81,7 @@ macro_rules! grows {
 }
 
 mod calls;
+mod checkpoints;
 mod ffi;
 mod kernel;
 mod outcomes;
@@ -94,6 +95,7 @@ mod tables;
 mod words;
 
 pub use calls::{Call, FpageCount, Ipc, Timeout};
+pub use checkpoints::{BadCheckpoint, CheckpointFault};
 pub use kernel::{Answer, Done, Entered, Kernel, Mapping, Mappings, Outcome, Place, Step, Verdict};
 pub use outcomes::{orders, orders_sized, BadPlan, Orders, PlanOutcome, SearchEnd};
 pub use plans::{NoPlan, Plan, Region};
@@ -158,4 +160,5 @@ mod growth {
     grows!(Timeout: Never Zero);
     grows!(PageSize: Kib4 Kib1);
     grows!(SearchEnd: AllOrders MostStates Memory History);
+    grows!(CheckpointFault: Magic Version Frames PageSize Entries Cut Checksum Extra State);
 }

@@ -216,12 +216,14 @@ impl fmt::Debug for Segment {
 }
 
 /// What threads share: the locked kernel, the condition variable that wakes waiting threads when a call is entered or a wait is ended, the
-/// seats whose waits are to end, and the history's length. The seats are changed only while the kernel is locked.
+/// seats whose waits are to end, the history's length, and the number of frames at boot. The seats are changed only while the kernel is
+/// locked.
 struct Shared {
     lock: Mutex<Handle<ffi::l4_lock>>,
     entered: Condvar,
     ended: Mutex<HashSet<u32>>,
     steps: AtomicU64,
+    frames: u32,
 }
 
 impl Shared {
@@ -276,6 +278,7 @@ impl SharedKernel {
                     entered: Condvar::new(),
                     ended: Mutex::new(HashSet::new()),
                     steps: AtomicU64::new(0),
+                    frames,
                 }),
             }),
             Err(number) => Err(Refusal::of(number, 0)),
@@ -412,7 +415,7 @@ impl SharedKernel {
     /// NoMemory.
     pub fn copy(&self) -> Result<Kernel, Refusal> {
         match self.shared.lock().copy() {
-            Ok(handle) => Ok(Kernel::of(handle)),
+            Ok(handle) => Ok(Kernel::of(handle, self.shared.frames)),
             Err(number) => Err(Refusal::of(number, 0)),
         }
     }
