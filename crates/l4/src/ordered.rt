@@ -8,8 +8,8 @@ use crate::opened;
 use crate::progress::Progress;
 use l4_options::ScriptOptions;
 use l4_orders::{
-    Explored, GaveUp, LineFault, Plan, PlanFault, breaks_any, graph_text, orders_text, read_plan,
-    rules_text, watched_orders, witness_text,
+    Explored, GaveUp, LineFault, Plan, PlanFault, breaks_any, graph_text, line_code, orders_text,
+    read_plan, rules_text, watched_orders, witness_text,
 };
 use l4_programs::{NOT_UNDERSTOOD, WatchedReader, WatchedWriter, stopped};
 use l4_refusals::{number_of, text_of};
@@ -45,16 +45,7 @@ pub(crate) fn wanted_by(witness: Option<u32>, brief: bool, dot: bool) -> Wanted 
 
 /// Returns the code of a line that cannot be part of a plan.
 pub(crate) fn code_of(fault: LineFault) -> &'static str {
-    match fault {
-        LineFault::Long => "S3",
-        LineFault::Cut => "S4",
-        LineFault::Unread => "S2",
-        LineFault::Repeated => "O1",
-        LineFault::OfNoThread => "O2",
-        LineFault::NoQuery => "O3",
-        LineFault::Steps => "O4",
-        LineFault::NoThread(_) => "O5",
-    }
+    str::from_utf8(line_code(fault)).unwrap_or("")
 }
 
 /// Returns what a code means of a line of a plan.

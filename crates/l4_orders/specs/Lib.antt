@@ -2,6 +2,7 @@ pub mod Plans
 pub mod Turns
 pub mod Orders
 pub mod Reading
+pub mod Codes
 pub mod Drawing
 pub mod Files
 pub mod Telling

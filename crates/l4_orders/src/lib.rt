@@ -1,6 +1,7 @@
 //! Every order in which the threads of a script can execute their lines, and the outcomes: what `l4 orders` does.
 #![tactic(auto)]
 
+mod codes;
 mod executing;
 mod graphs;
 mod lacking;
@@ -15,6 +16,7 @@ mod states;
 mod stuck;
 mod telling;
 
+pub use codes::line_code;
 pub use graphs::graph_text;
 pub use l4_merges::{Edge, Explored, Found, GaveUp, Seen, Unwatched, Watch};
 pub use orders::{all_orders, watched_orders};

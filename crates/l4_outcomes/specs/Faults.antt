@@ -1,8 +1,9 @@
 -- Why there is no search of a text, in numbers (this profile's own).
 use Rattle.std.specs.Prelude.{◌≡◌, ◌⊎◌, ℕ, List, codes}
 use Rattle.l4_refusals.specs.Texts.{spelled}
+use Rattle.l4_orders.specs.Codes.{line_code}
 use Rattle.l4_orders.specs.declared.parts.LineFault.{LineFault}
-use Rattle.l4_orders.specs.declared.parts.LineFault.TheVariants.{Long, Cut, Unread, Repeated, OfNoThread, NoQuery, Steps, NoThread}
+use Rattle.l4_orders.specs.declared.parts.LineFault.TheVariants.{NoThread}
 use Rattle.l4_orders.specs.declared.parts.PlanFault.{PlanFault}
 use Rattle.l4_orders.specs.declared.parts.PlanFault.TheVariants.{Stopped, Malformed, NoUnordered}
 use Rattle.l4_outcomes.specs.declared.faults.SearchResult.{SearchResult}
@@ -14,17 +15,6 @@ search_result code thread line = record { refusal = code; detail = thread; line 
 -- a reason with this code that names no line
 abbrev pub refused_by : List ℕ → SearchResult
 refused_by code = search_result (spelled code) 0 0
-
--- the code of a line that cannot be part of a plan
-abbrev pub line_code : LineFault → List ℕ
-line_code Long = codes "S3"
-line_code Cut = codes "S4"
-line_code Unread = codes "S2"
-line_code Repeated = codes "O1"
-line_code OfNoThread = codes "O2"
-line_code NoQuery = codes "O3"
-line_code Steps = codes "O4"
-line_code (NoThread thread) = codes "O5"
 
 -- the thread that the refusal of a line names, or 0
 abbrev pub line_thread : LineFault → ℕ

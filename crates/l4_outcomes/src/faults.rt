@@ -1,9 +1,9 @@
 //! Why there is no search.
 ghost use Rattle.std.specs.Prelude.{◌≡◌};
-ghost use Rattle.l4_outcomes.specs.Faults.{search_result, line_code, line_thread, fault_result, IsLack};
+ghost use Rattle.l4_outcomes.specs.Faults.{search_result, line_thread, fault_result, IsLack};
 
 use l4_merges::Failure;
-use l4_orders::{LineFault, PlanFault};
+use l4_orders::{LineFault, PlanFault, line_code};
 use l4_refusals::number_of;
 
 /// The result of a search: 0 if there is one, or a refusal. `line` is the number of the line of the plan that is refused, and `detail` the
@@ -24,22 +24,6 @@ pub fn without_line(refusal: u32) -> SearchResult
         refusal,
         detail: 0,
         line: 0,
-    }
-}
-
-/// Returns the code of a line that cannot be part of a plan.
-fn line_code(fault: LineFault) -> &'static [u8]
-    ensures { result.now ≡ line_code fault }
-{
-    match fault {
-        LineFault::Long => b"S3",
-        LineFault::Cut => b"S4",
-        LineFault::Unread => b"S2",
-        LineFault::Repeated => b"O1",
-        LineFault::OfNoThread => b"O2",
-        LineFault::NoQuery => b"O3",
-        LineFault::Steps => b"O4",
-        LineFault::NoThread(_) => b"O5",
     }
 }
 
