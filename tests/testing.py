@@ -9,7 +9,6 @@ import contextlib
 import difflib
 import os
 import pathlib
-import re
 import shlex
 import shutil
 import subprocess
@@ -75,11 +74,6 @@ class Result(NamedTuple):
         return f"status {self.status}{said or ', nothing written'}"
 
 
-def without_progress(text):
-    """A text without the lines in which a search of orders says how far it is. How many there are depends on the time."""
-    return re.sub(r"^searched: .*\n", "", text, flags=re.M)
-
-
 def run(words, given="", out=None, seconds=SECONDS, **settings):
     """Runs a program on a text or on a file. Its output goes to a file, if one is named. The settings are variables of its environment."""
     words = [str(program(word) if place == 0 and word in PROGRAMS else word) for place, word in enumerate(words)]
@@ -94,7 +88,7 @@ def run(words, given="", out=None, seconds=SECONDS, **settings):
             how["input"] = given.encode("latin-1")
         how["stdout"] = files.enter_context(open(out, "wb")) if out else subprocess.PIPE
         done = subprocess.run(words, **how)
-    return Result(done.returncode, (done.stdout or b"").decode("latin-1"), without_progress(done.stderr.decode("latin-1")))
+    return Result(done.returncode, (done.stdout or b"").decode("latin-1"), done.stderr.decode("latin-1"))
 
 
 def run_open(words, given, seconds=5):

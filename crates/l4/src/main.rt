@@ -43,7 +43,7 @@ use ordered::{print_orders, wanted_by};
 use recorded::run_to;
 use reports::{report_no_plan, report_no_thread, report_refused, report_unproved};
 use segments::tell_segments;
-use std::io::{Read, Write};
+use std::io::{IsTerminal, Read, Write};
 use std::process::ExitCode;
 use std::rt::Files;
 use std::time::Clock;
@@ -406,8 +406,12 @@ fn print_words<R: Print + Eprint>(rt: &R, words: &[u32]) -> u8 {
     text_ended(rt, told, &writer)
 }
 
-/// Executes a command.
-fn execute<R: AllocGlobal + Files + Input + Print + Eprint + Clock>(rt: &R, asked: Options) -> u8
+/// Executes a command. `terminal` says whether standard error is a terminal.
+fn execute<R: AllocGlobal + Files + Input + Print + Eprint + Clock>(
+    rt: &R,
+    asked: Options,
+    terminal: bool,
+) -> u8
     requires { IsInRange asked }
 {
     match asked {
@@ -451,21 +455,26 @@ fn execute<R: AllocGlobal + Files + Input + Print + Eprint + Clock>(rt: &R, aske
             witness,
             brief,
             dot,
-        } => print_orders(rt, &plan, most, wanted_by(witness, brief, dot)),
+        } => print_orders(rt, &plan, most, wanted_by(witness, brief, dot), terminal),
         Options::Encode(words) => print_words(rt, words.as_slice()),
         Options::Show(text) => show(rt, text.as_str()),
     }
 }
 
-/// Executes the command that these words request.
-fn obey<R: AllocGlobal + Files + Input + Print + Eprint + Clock>(rt: &R, words: &[String]) -> u8 {
+/// Executes the command that these words request. `terminal` says whether standard error is a terminal.
+fn obey<R: AllocGlobal + Files + Input + Print + Eprint + Clock>(
+    rt: &R,
+    words: &[String],
+    terminal: bool,
+) -> u8 {
     match options(rt.alloc(), words) {
-        Ok(asked) => execute(rt, asked),
+        Ok(asked) => execute(rt, asked, terminal),
         Err(fault) => misread(rt, &fault),
     }
 }
 
 fn main(rt: HostRuntime) -> ExitCode {
     let words = command_words(&rt);
-    ExitCode::from(status_of(words, |words| obey(&rt, words)))
+    let terminal = rt.stderr().is_terminal();
+    ExitCode::from(status_of(words, |words| obey(&rt, words, terminal)))
 }

@@ -153,13 +153,14 @@ fn print_found<R: AllocGlobal + Print + Eprint>(
     ruled_status(plan, explored)
 }
 
-/// Searches all orders of a plan, and prints what is wanted. Returns the exit status.
+/// Searches all orders of a plan, and prints what is wanted, and its progress if standard error is a terminal. Returns the exit status.
 #[inline(never)]
 pub(crate) fn print_orders<R: AllocGlobal + Files + Input + Print + Eprint + Clock>(
     rt: &R,
     options: &ScriptOptions,
     most: u32,
     wanted: Wanted,
+    terminal: bool,
 ) -> u8
     requires { IsFrameCount options.now.frames }
 {
@@ -178,7 +179,7 @@ pub(crate) fn print_orders<R: AllocGlobal + Files + Input + Print + Eprint + Clo
         options.size,
         &plan,
         u64::from(most),
-        &mut Progress::new(rt),
+        &mut Progress::new(rt, terminal),
     );
     match searched {
         Ok(explored) => print_found(rt, &plan, &explored, wanted),

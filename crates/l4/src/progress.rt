@@ -3,7 +3,7 @@
 use l4_orders::Watch;
 use std::time::{Clock, Instant};
 
-/// Prints each second how far a search is. Prints nothing if the clock cannot be read.
+/// Prints each second how far a search is. Prints nothing if standard error is not a terminal, or the clock cannot be read.
 #[derive(Drop)]
 pub(crate) struct Progress<'a, R> {
     rt: &'a R,
@@ -11,11 +11,15 @@ pub(crate) struct Progress<'a, R> {
 }
 
 impl<'a, R: Clock + Eprint> Progress<'a, R> {
-    /// Starts with the first second.
-    pub(crate) fn new(rt: &'a R) -> Progress<'a, R> {
+    /// Starts with the first second. `terminal` says whether standard error is a terminal.
+    pub(crate) fn new(rt: &'a R, terminal: bool) -> Progress<'a, R> {
         Progress {
             rt,
-            last: Instant::now(rt).ok(),
+            last: if terminal {
+                Instant::now(rt).ok()
+            } else {
+                None
+            },
         }
     }
 }
