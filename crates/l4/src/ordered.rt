@@ -6,6 +6,7 @@ ghost use Rattle.l4_options.specs.Ranges.{IsFrameCount};
 
 use crate::opened;
 use crate::progress::Progress;
+use l4_merges::Failure;
 use l4_options::ScriptOptions;
 use l4_orders::{
     Explored, GaveUp, LineFault, Plan, PlanFault, breaks_any, graph_text, line_code, orders_text,
@@ -84,6 +85,18 @@ fn no_plan<Q: Read>(
             let words = words_of("O6");
             let _ = eprintln!(rt; "error: O6: {words}");
             NOT_UNDERSTOOD
+        }
+    }
+}
+
+/// Reports why a search has not begun, or why an order could not be executed again. Returns the exit status.
+pub(crate) fn not_searched(rt: &impl Eprint, failure: Failure) -> u8 {
+    match failure {
+        Failure::Memory => stopped(rt, RunFault::Memory, None, None),
+        Failure::Full => {
+            let words = words_of("L1");
+            let _ = eprintln!(rt; "error: L1: {words}");
+            INCOMPLETE
         }
     }
 }
@@ -183,6 +196,6 @@ pub(crate) fn print_orders<R: AllocGlobal + Files + Input + Print + Eprint + Clo
     );
     match searched {
         Ok(explored) => print_found(rt, &plan, &explored, wanted),
-        Err(_) => stopped(rt, RunFault::Memory, file, None),
+        Err(failure) => not_searched(rt, failure),
     }
 }

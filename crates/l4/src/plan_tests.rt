@@ -4,7 +4,7 @@ ghost use Rattle.l4_fpage.specs.Pages.{max_frames};
 ghost use Rattle.l4_orders.specs.Rules.{breaks_any};
 ghost use Rattle.l4.specs.Statuses.{ruled_status};
 
-use crate::ordered::{code_of, ruled_status, words_of};
+use crate::ordered::{code_of, not_searched, ruled_status, words_of};
 use crate::tested::{Place, printed, report_untested};
 use l4_options::ScriptOptions;
 use l4_orders::{
@@ -156,6 +156,6 @@ pub(crate) fn test_plan<Q: Read, R: AllocGlobal + Print + Eprint>(
     };
     match all_orders(rt.alloc(), script.frames, script.size, &plan, MOST) {
         Ok(explored) => report_searched(rt, place, &plan, &explored),
-        Err(_) => report_untested(rt, place, stopped(rt, RunFault::Memory, None, None)),
+        Err(failure) => report_untested(rt, place, not_searched(rt, failure)),
     }
 }
