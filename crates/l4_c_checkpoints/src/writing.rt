@@ -29,9 +29,9 @@ fn write(alloc: Global, kernel: &Kernel, frames: u32, entries: usize, out: &mut 
     }
 }
 
-/// Writes the checkpoint of a kernel that booted with so many frames, and whose history has so many entries since boot, to the array, up to
-/// its length. Returns how many bytes it has. The refusals are B1, K6, L1 and NoMemory, in this order. Nothing is written after a
-/// refusal.
+/// Writes the checkpoint of a kernel to the array, up to its length, and returns how many bytes it has. `frames` is the number of frames with
+/// which the kernel was booted, and `entries` the number of entries in its history since boot. The refusals are B1, K6, L1 and NoMemory, in
+/// this order. Nothing is written after a refusal.
 #[unsafe(no_mangle)]
 pub extern "C" fn l4_checkpoint_write(
     alloc: Global,

@@ -60,7 +60,7 @@ fn go_on(rt: &impl Print, kernel: &mut Kernel) -> io::Result<()> {
     }
 }
 
-/// Writes a kernel to a checkpoint, reads it back, and goes on with both.
+/// Writes a kernel to a checkpoint, reads it back, and executes the next step on both.
 fn tell<R: AllocGlobal + Print>(rt: &R) -> Result<(), Stop> {
     let booted = Kernel::boot(rt.alloc(), FRAMES, PageSize::Kib4).map_err(Stop::Refused)?;
     let mut kernel = waiting(booted)?;
