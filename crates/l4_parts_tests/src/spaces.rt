@@ -56,14 +56,11 @@ fn keeps_pages(rt: HostRuntime) -> Result<(), Fail> {
         (5, Some(5)),
         (6, None),
     ] {
-        // among all pages, and among those below 6
-        let found = [spaces.next_present(7, page), spaces.next_in(7, page, 6)];
-        assert_eq!(rt; found, [next, next], "from {page}");
+        assert_eq!(rt; spaces.next_present(7, page), next, "from {page}");
     }
-    assert_eq!(rt;
-        [spaces.next_in(7, 4, 5), spaces.next_present(6, 0)],
-        [None, None]
-    );
+    assert_eq!(rt; spaces.next_node(7, 4, 6), Some((5, 51)));
+    assert_eq!(rt; spaces.next_node(7, 4, 5), None);
+    assert_eq!(rt; spaces.next_present(6, 0), None);
     spaces.clear(7, 3);
     spaces.clear(7, 4);
     assert_eq!(rt; spaces.next_present(7, 0), Some(5));

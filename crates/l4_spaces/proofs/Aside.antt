@@ -76,18 +76,8 @@ clear_here m q = map.get-remove places_total m q q ∙ ap (λ b. cond b None (ma
 pub clear_other : (m : Pages) (q p : ℕ × ℕ) → p ≢ q → map.get (map.remove m q) p ≡ map.get m p
 clear_other m q p ne = map.get-remove places_total m q p ∙ ap (λ b. cond b None (map.get m p)) (apart p q ne)
 
--- a page of the space was written, or of another one
+-- a page of the space was cleared, or one of another space was written
 module _ (s : Tables) (k page : ℕ) (old new : Rows) (a : AreTablesOf s k old) (others : (other : ℕ) → other ≢ page → entry new other ≡ entry old other) (whole : AreWhole new) (full : length new ≤ space_tables) where
-  pub put_aside : (key : ℕ) → entry new page ≡ Some key → AreTablesOf (record s { pages = map.insert s.pages (k, page) key }) k new
-  put_aside key here = record {
-    keys = λ p. elim (cases_eq p page) [
-      | inl e ↦ ap (λ (n : ℕ). map.get (map.insert s.pages (k, page) key) (k, n)) e ∙ put_here s.pages (k, page) key ∙ sym here ∙ sym (ap (entry new) e)
-      | inr ne ↦ put_other s.pages (k, page) (k, p) key (λ e. ne (ap (λ (q : ℕ × ℕ). q.1) e)) ∙ a.keys p ∙ sym (others p ne)
-    ];
-    whole = whole;
-    full = full;
-  }
-
   pub clear_aside : entry new page ≡ None → AreTablesOf (record s { pages = map.remove s.pages (k, page) }) k new
   clear_aside here = record {
     keys = λ p. elim (cases_eq p page) [

@@ -1,24 +1,11 @@
--- A table that is filled place by place, and spaces that are copied one by one.
-use Rattle.std.proofs.Common.{◌≡◌, ℕ, ◌<◌, ◌≤◌, cond, nat_eq, List, [], ◌∷◌, length, slice_index_or, Option, None, refl, sym, ap, ◌∙◌, subst, arith}
+-- Spaces that are copied one by one.
+use Rattle.std.proofs.Common.{◌≡◌, ℕ, ◌≤◌, cond, nat_eq, [], ◌∷◌, length, refl, sym, ap, subst}
 use Rattle.std.specs.List.{AllZip}
-use Rattle.std.proofs.lemmas.List.{get_or_default, same_lists}
 use Rattle.l4_spaces.specs.Tables.{space_tables}
 use Rattle.l4_spaces.specs.Rows.{Rows, entry, is_made, AreWhole}
 use Rattle.l4_spaces.specs.Inside.Seen.{Space, Live, numbers, tables_of, shown, IsLaid}
 use Rattle.l4_spaces.proofs.Listing.{same_shown}
 use Rattle.l4_spaces.proofs.Showing.{once_same}
-
--- the first places of the copy have the keys of these places, and the others have none
-pub record IsFilled (keys copy : List (Option ℕ)) (n : ℕ) : Type 0 where
-  pub long : length copy ≡ length keys
-  pub done : (i : ℕ) → i < n → slice_index_or copy i None ≡ slice_index_or keys i None
-  pub left : (i : ℕ) → n ≤ i → slice_index_or copy i None ≡ None
-
-pub filled_all : (keys copy : List (Option ℕ)) (n : ℕ) → length keys ≤ n → IsFilled keys copy n → copy ≡ keys
-filled_all keys copy n all f =
-    let long = f.long in
-    same_lists copy keys long (λ k d lt.
-    get_or_default copy k d None lt ∙ f.done k (omega (arith, long, all, lt)) ∙ get_or_default keys k None d (omega (arith, long, lt)))
 
 -- the space has the number of the other one, and its tables
 pub record IsSpaceCopy (old new : Space) : Type 0 where

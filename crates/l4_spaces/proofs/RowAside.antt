@@ -1,10 +1,10 @@
 -- One table of a space, of which many pages are written.
-use Rattle.std.proofs.Common.{◌≡◌, ◌≢◌, ◌+◌, ◌*◌, ◌/◌, ◌%◌, ◌<◌, ◌≤◌, ◌⊎◌, ℕ, true, List, [], length, Option, Some, None, slice_index_or, slice_set, sym, ap, ◌∙◌, subst, inl, inr, arith}
+use Rattle.std.proofs.Common.{◌≡◌, ◌+◌, ◌*◌, ◌/◌, ◌%◌, ◌<◌, ◌≤◌, ◌⊎◌, ℕ, true, List, [], length, Option, Some, None, slice_index_or, slice_set, sym, ap, ◌∙◌, subst, inl, inr, arith}
 use Rattle.std.proofs.lemmas.Bool.{cases_eq}
 use Rattle.std.proofs.lemmas.List.{get_or-set_same, get_or-set_other, length-set}
 use Rattle.std.specs.FinMap as map
 use Rattle.l4_spaces.specs.Tables.{Tables, key_of, table_pages, space_tables}
-use Rattle.l4_spaces.specs.Rows.{Rows, row, entry, is_made, AreWhole, AreTablesOf, IsRowOf, InTable}
+use Rattle.l4_spaces.specs.Rows.{Rows, row, is_made, AreWhole, AreTablesOf, IsRowOf, InTable}
 use Rattle.l4_spaces.proofs.Rows.{row_here, row_other}
 use Rattle.l4_spaces.proofs.Aside.{put_here, put_other, clear_here, clear_other}
 

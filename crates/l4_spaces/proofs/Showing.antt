@@ -1,6 +1,6 @@
 -- What a contract sees once a space was written, has come or has gone.
-use Rattle.std.proofs.Common.{◌≡◌, ◌≢◌, ℕ, zero, suc, ◌+◌, ◌*◌, ◌/◌, ◌%◌, ◌<◌, ◌≤◌, ◌==◌, ◌&&◌, ◌||◌, Bool, true, false, nat_eq, nat_lt, not, cond, List, [], ◌∷◌, ◌++◌, drop, length, filter, slice_index_or, slice_set, Option, Some, None, is_some, MatchOption, Vec, refl, sym, ap, ◌∙◌, subst, inl, inr, arith}
-use Rattle.std.specs.List.{list_any, count_by}
+use Rattle.std.proofs.Common.{◌≡◌, ◌≢◌, ℕ, suc, ◌+◌, ◌*◌, ◌/◌, ◌%◌, ◌≤◌, ◌==◌, ◌&&◌, ◌||◌, Bool, true, false, nat_eq, nat_lt, not, cond, List, [], ◌∷◌, ◌++◌, drop, length, filter, slice_index_or, slice_set, Option, Some, None, is_some, MatchOption, Vec, refl, sym, ap, ◌∙◌, subst, inl, inr, arith}
+use Rattle.std.specs.List.{list_any}
 use Rattle.std.specs.Ordering.{nat_cmp, eq_by_cmp, is_eq}
 use Rattle.std.specs.Cmp.{nat_cmp_total, tied_itself}
 use Rattle.std.specs.FinMap as map
@@ -8,8 +8,7 @@ use Rattle.std.specs.FinMap.{nat_cmp-IsAntisymmetric}
 use Rattle.std.specs.FinSet as set
 use Rattle.std.specs.declared.alloc.Global.{Global}
 use Rattle.std.proofs.lemmas.Bool.{cases_lt, cases_eq}
-use Rattle.std.proofs.lemmas.List.{get_or_past}
-use Rattle.std.proofs.lemmas.List.Sums.{sum_by-cons}
+use Rattle.std.proofs.lemmas.List.{get_or_past, get_or_default}
 use Rattle.l4_spaces.specs.Tables.{Tables, place_cmp, key_of, table_pages, space_tables, HasRoom, KeepsRoom, KeepsOthersRoom, Empties, IsPresent, NonePresentFrom, IsNextPresent, NonePresentIn, IsNextIn, IsTableIn}
 use Rattle.l4_spaces.specs.Rows.{Rows, row, entry, is_made, IsReady, AreWhole, AreMade, NoneIn, IsFirstIn, IsTableFrom}
 use Rattle.l4_spaces.specs.Inside.Seen.{Space, Live, numbers, has, tables_of, IsOnce, StandsAt, key_at, is_there, shown, IsLaid}
@@ -39,80 +38,35 @@ absent_key ss s k page view h = found_in ss s k page [] view (no_tables_of ss k 
 
 -- room
 
-missing_yes : (f : ℕ → Bool) (x : ℕ) → f x ≡ true → ◌≡◌ {A = ℕ} (cond (not (f x)) 1 0) 0
-missing_yes f x h = ap (λ b. cond {A = ℕ} (not b) 1 0) h
-
-missing_no : (f : ℕ → Bool) (x : ℕ) → f x ≡ false → ◌≡◌ {A = ℕ} (cond (not (f x)) 1 0) 1
-missing_no f x h = ap (λ b. cond {A = ℕ} (not b) 1 0) h
-
-count_more : (f : ℕ → Bool) (x : ℕ) (xs : List ℕ) → count_by (λ x. not (f x)) (x ∷ xs) ≡ cond (not (f x)) 1 0 + count_by (λ x. not (f x)) xs
-count_more f x xs = sum_by-cons (λ x. cond (not (f x)) 1 0) x xs
-
-count_le : (f g : ℕ → Bool) → ((x : ℕ) → f x ≡ true → g x ≡ true) → (xs : List ℕ) → count_by (λ x. not (g x)) xs ≤ count_by (λ x. not (f x)) xs
-count_le f g h [] = omega arith
-count_le f g h (x ∷ xs) =
-    let r = count_le f g h xs in
-    let one : cond (not (g x)) 1 0 ≤ cond (not (f x)) 1 0 =
-    decided (f x)
-    (λ t. omega (arith, missing_yes g x (h x t)))
-    (λ u. decided (g x)
-    (λ t. omega (arith, missing_yes g x t))
-    (λ t. omega (arith, missing_no f x u, missing_no g x t))) in
-    omega (arith, count_more g x xs, count_more f x xs, r, one)
-
-count_none : (f : ℕ → Bool) (xs : List ℕ) → ((i : ℕ) → i < length xs → f (slice_index_or xs i 0) ≡ true) → count_by (λ x. not (f x)) xs ≡ 0
-count_none f [] h = refl
-count_none f (x ∷ xs) h = omega (arith, count_more f x xs, count_none f xs (λ i lt. h (suc i) (omega arith)), missing_yes f x (h 0 (omega arith)))
-
-first_counts : (f : ℕ → Bool) (x : ℕ) (xs : List ℕ) → count_by (λ x. not (f x)) (x ∷ xs) ≤ 0 → (f x ≡ true) × (count_by (λ x. not (f x)) xs ≤ 0)
-first_counts f x xs le = (decided (f x) (λ t. t) (λ u. absurd (omega (arith, count_more f x xs, missing_no f x u, le))), omega (arith, count_more f x xs, le))
-
-none_counts : (f : ℕ → Bool) (xs : List ℕ) → count_by (λ x. not (f x)) xs ≤ 0 → (i : ℕ) → i < length xs → f (slice_index_or xs i 0) ≡ true
-none_counts f [] le i lt = absurd (omega arith)
-none_counts f (x ∷ xs) le zero lt = (first_counts f x xs le).0
-none_counts f (x ∷ xs) le (suc i) lt = none_counts f xs (first_counts f x xs le).1 i (omega arith)
-
-pub room_le : (s t : Tables) (k : ℕ) (pages : List ℕ) → ((high : ℕ) → set.contains s.tables (k, high) ≡ true → set.contains t.tables (k, high) ≡ true) → s.room ≤ t.room → HasRoom s k pages → HasRoom t k pages
-unfolding HasRoom
-room_le s t k pages h le room =
-    let c = count_le (λ page. set.contains s.tables (k, page / table_pages)) (λ page. set.contains t.tables (k, page / table_pages)) (λ x. h (x / table_pages)) pages in
-    omega (arith, c, room, le)
-
--- the same tables and room keep the room
+-- the same tables keep the room
 pub keeps : (a b : Live) (s : Tables) → shown a ≡ s → ((p : ℕ × ℕ) → is_there a p ≡ true → is_there b p ≡ true) → KeepsRoom s (shown b)
-keeps a b s view h k pages room =
-    let zero_room : s.room ≡ 0 = sym (ap (λ (t : Tables). t.room) view) in
-    room_le s (shown b) k pages (λ high t. there_shown b k high ∙ h (k, high) (sym (made a s k high view) ∙ t)) (omega (arith, zero_room)) room
+unfolding HasRoom
+keeps a b s view h k pages room i d lt =
+    let high : ℕ = slice_index_or pages i d / table_pages in
+    there_shown b k high ∙ h (k, high) (sym (made a s k high view) ∙ room i d lt)
 
 pub keeps_others : (a b : Live) (s : Tables) (space : ℕ) → shown a ≡ s → ((q : ℕ) → q ≢ space → tables_of b q ≡ tables_of a q) → KeepsOthersRoom space s (shown b)
-keeps_others a b s space view h k pages ne room =
-    let zero_room : s.room ≡ 0 = sym (ap (λ (t : Tables). t.room) view) in
-    room_le s (shown b) k pages (λ high t. there_shown b k high ∙ ap (λ (ts : Rows). is_made ts high) (h k ne) ∙ sym (made a s k high view) ∙ t) (omega (arith, zero_room)) room
-
-drops_first : (f : ℕ → Bool) (x : ℕ) (xs : List ℕ) → count_by (λ x. not (f x)) xs ≤ count_by (λ x. not (f x)) (x ∷ xs)
-drops_first f x xs = omega (arith, count_more f x xs)
+unfolding HasRoom
+keeps_others a b s space view h k pages ne room i d lt =
+    let high : ℕ = slice_index_or pages i d / table_pages in
+    there_shown b k high ∙ ap (λ (ts : Rows). is_made ts high) (h k ne) ∙ sym (made a s k high view) ∙ room i d lt
 
 pub rest_has : (s : Tables) (k page : ℕ) (rest : List ℕ) → HasRoom s k (page ∷ rest) → HasRoom s k rest
 unfolding HasRoom
-rest_has s k page rest room = let a = drops_first (λ page. set.contains s.tables (k, page / table_pages)) page rest in omega (arith, a, room)
-
-pub first_made : (ss : Live) (s : Tables) (k page : ℕ) (rest : List ℕ) → shown ss ≡ s → HasRoom s k (page ∷ rest) → is_made (tables_of ss k) (page / table_pages) ≡ true
-unfolding HasRoom
-first_made ss s k page rest view room =
-    let zero_room : s.room ≡ 0 = sym (ap (λ (t : Tables). t.room) view) in
-    sym (made ss s k (page / table_pages) view) ∙ (first_counts (λ page. set.contains s.tables (k, page / table_pages)) page rest (omega (arith, room, zero_room))).0
+rest_has s k page rest room i d lt = room (suc i) d (omega (arith, lt))
 
 pub all_made : (ss : Live) (s : Tables) (k : ℕ) (pages : List ℕ) → shown ss ≡ s → HasRoom s k pages → AreMade (tables_of ss k) pages (length pages)
 unfolding HasRoom
-all_made ss s k pages view room i lt =
-    let zero_room : s.room ≡ 0 = sym (ap (λ (t : Tables). t.room) view) in
-    sym (made ss s k (slice_index_or pages i 0 / table_pages) view) ∙ none_counts (λ page. set.contains s.tables (k, page / table_pages)) pages (omega (arith, room, zero_room)) i lt
+all_made ss s k pages view room i lt = sym (made ss s k (slice_index_or pages i 0 / table_pages) view) ∙ room i 0 lt
+
+pub first_made : (ss : Live) (s : Tables) (k page : ℕ) (rest : List ℕ) → shown ss ≡ s → HasRoom s k (page ∷ rest) → is_made (tables_of ss k) (page / table_pages) ≡ true
+first_made ss s k page rest view room = all_made ss s k (page ∷ rest) view room 0 (omega arith)
 
 pub room_made : (ss : Live) (k : ℕ) (pages : List ℕ) → AreMade (tables_of ss k) pages (length pages) → HasRoom (shown ss) k pages
 unfolding HasRoom
-room_made ss k pages h =
-    let c = count_none (λ page. set.contains (shown ss).tables (k, page / table_pages)) pages (λ i lt. there_shown ss k (slice_index_or pages i 0 / table_pages) ∙ h i lt) in
-    omega (arith, c)
+room_made ss k pages h i d lt =
+    there_shown ss k (slice_index_or pages i d / table_pages)
+    ∙ ap (λ (page : ℕ). is_made (tables_of ss k) (page / table_pages)) (get_or_default pages i d 0 lt) ∙ h i lt
 
 -- a page with a key has its table, and so has a page whose table is whole
 

@@ -1,6 +1,5 @@
 -- The page tables of all spaces as one value: the node of each present page, the spaces that exist, and their tables (this profile's own).
-use Rattle.std.specs.Prelude.{◌≡◌, ◌≢◌, ℕ, ◌<◌, ◌≤◌, ◌==◌, ◌+◌, ◌*◌, ◌/◌, List, Option, None, cond, length, slice_index_or, not, IsTrue, is_some, refl}
-use Rattle.std.specs.List.{count_by}
+use Rattle.std.specs.Prelude.{◌≡◌, ◌≢◌, ℕ, ◌<◌, ◌≤◌, ◌==◌, ◌+◌, ◌*◌, ◌/◌, List, Option, None, cond, length, slice_index_or, All, IsTrue, is_some, refl}
 use Rattle.std.specs.Ordering.{nat_cmp, ordering_then}
 use Rattle.std.specs.declared.cmp.Ordering.{Ordering}
 use Rattle.std.specs.Coded.{Coded, code_by, coded×, coded_ℕ}
@@ -22,18 +21,17 @@ space_pages = space_tables * table_pages
 abbrev pub place_cmp : ℕ × ℕ → ℕ × ℕ → Ordering
 place_cmp a b = ordering_then (nat_cmp a.0 b.0) (nat_cmp a.1 b.1)
 
--- the keys of the nodes of present pages, the spaces and the tables that exist, and the room for more tables, which `HasRoom` uses
+-- the keys of the nodes of present pages, and the spaces and the tables that exist
 pub record Tables : Type 0 where
   pub pages : map.FinMap place_cmp ℕ
   pub spaces : set.FinSet nat_cmp
   pub tables : set.FinSet place_cmp
-  pub room : ℕ
 
 abbrev pub tables_code : Coded Tables
 tables_code =
-    code_by (map.FinMap place_cmp ℕ × (set.FinSet nat_cmp × (set.FinSet place_cmp × ℕ)))
-    (coded× (map.code (coded× coded_ℕ coded_ℕ) coded_ℕ) (coded× (set.code coded_ℕ) (coded× (set.code (coded× coded_ℕ coded_ℕ)) coded_ℕ)))
-    (λ s. (s.pages, (s.spaces, (s.tables, s.room)))) (λ p. record { pages = p.0; spaces = p.1.0; tables = p.1.1.0; room = p.1.1.1 }) (λ _. refl)
+    code_by (map.FinMap place_cmp ℕ × (set.FinSet nat_cmp × set.FinSet place_cmp))
+    (coded× (map.code (coded× coded_ℕ coded_ℕ) coded_ℕ) (coded× (set.code coded_ℕ) (set.code (coded× coded_ℕ coded_ℕ))))
+    (λ s. (s.pages, (s.spaces, s.tables))) (λ p. record { pages = p.0; spaces = p.1.0; tables = p.1.1 }) (λ _. refl)
 
 -- the key of a page's node, if the page is present
 abbrev pub key_of : Tables → ℕ → ℕ → Option ℕ
@@ -49,9 +47,9 @@ IsSpace s space = IsTrue (set.contains s.spaces space)
 abbrev pub IsPage : ℕ → Type 0
 IsPage page = page < space_pages
 
--- These pages of the space can be set one after another without an allocation: those whose table does not exist are no more than the room.
+-- These pages of the space can be set without an allocation: the table of each exists.
 unfoldable pub HasRoom : Tables → ℕ → List ℕ → Type 0
-HasRoom s space pages = count_by (λ page. not (set.contains s.tables (space, page / table_pages))) pages ≤ s.room
+HasRoom s space pages = All (λ page. IsTrue (set.contains s.tables (space, page / table_pages))) pages
 
 -- there is at least as much room as before
 abbrev pub KeepsRoom : Tables → Tables → Type 0

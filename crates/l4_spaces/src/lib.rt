@@ -277,22 +277,9 @@ impl Spaces {
         ensures pages { self.new.pages ≡ map.insert self.old.pages (space, page) key }
         ensures spaces { self.new.spaces ≡ self.old.spaces }
 
-        // The room for the remaining pages is kept; if the page was present, all room is kept.
+        // The room for the remaining pages is kept.
         ensures rest { (rest : List ℕ) → HasRoom self.old space (page ∷ rest)
             → HasRoom self.new space rest }
-        ensures room { IsPresent self.old space page → KeepsRoom self.old self.new }
-    {
-        self.fill(space, page, key);
-    }
-
-    /// Writes the key of a page that is present or that there is room for. No table is taken by that, so all room is kept.
-    fn fill(&mut self, space: u64, page: u32, key: usize)
-        requires there { IsSpace self.old space }
-        requires few { IsKey key }
-        requires room { IsPresent self.old space page ⊎ (rest : List ℕ)
-            × HasRoom self.old space (page ∷ rest) }
-        ensures pages { self.new.pages ≡ map.insert self.old.pages (space, page) key }
-        ensures spaces { self.new.spaces ≡ self.old.spaces }
         ensures room { KeepsRoom self.old self.new }
     {
         let Some(at) = index_of(&self.spaces, space) else {
@@ -323,17 +310,6 @@ impl Spaces {
             return None;
         };
         let Some((next, _)) = tables::next_page(&self.spaces[at].1, page, SPACE_PAGES) else {
-            return None;
-        };
-        Some(next)
-    }
-
-    /// Returns the least present page of the space that is not below `page`, if it is below `end`. Does not look at pages from `end` on.
-    pub fn next_in(&self, space: u64, page: u32, end: u32) -> Option<u32>
-        ensures { MatchOption result (NonePresentIn self.now space page end)
-            (IsNextIn self.now space page end) }
-    {
-        let Some((next, _)) = self.next_node(space, page, end) else {
             return None;
         };
         Some(next)

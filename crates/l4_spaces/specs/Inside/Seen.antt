@@ -57,7 +57,6 @@ shown ss = record {
   pages = map.from_entries (gather (key_at ss) (places table_pages ss));
   spaces = set.from_list (numbers ss);
   tables = set.retain (set.from_list (places 1 ss)) (is_there ss);
-  room = 0;
 }
 
 abbrev pub seen : Inside → Tables
