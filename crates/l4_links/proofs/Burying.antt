@@ -7,14 +7,14 @@ use Rattle.l4_links.specs.declared.Standing.{Standing}
 use Rattle.l4_nodes.specs.declared.nodes.Node.{Node}
 use Rattle.l4_nodes.specs.declared.nodes.Slot.{Slot}
 use Rattle.l4_links.specs.Inside.Trees.{Limb, Sheds, SameOrder}
-use Rattle.l4_links.specs.Inside.Orders.{IsIn, first_of, last_of, position}
+use Rattle.l4_links.specs.Inside.Orders.{IsIn, first_of, position}
 use Rattle.l4_nodes.specs.Slots.{Slots, slot_at, node_at, spot_of}
 use Rattle.l4_links.specs.Inside.Nodes.{limbs, Doom, dooms, IsOrder, IsForest, TakesSlot}
 use Rattle.l4_links.specs.Inside.Stacks.{IsStack, HasStack, IsBuried, IsLeft, Buries}
 use Rattle.l4_links.specs.Inside.Keeping.{standing_of, entries_of, IsWithin, IsFresh, IsSound}
 use Rattle.l4_links.specs.Entries as entries
 use Rattle.l4_links.proofs.Writes.{no_some, same_some, map_from, no_slot, doom_of, limb_of, worth_of, marks_of}
-use Rattle.l4_links.proofs.Linking.{parted, first_in, begins_with, last_some}
+use Rattle.l4_links.proofs.Linking.{parted, first_in, begins_with, first_left}
 use Rattle.l4_links.proofs.Positions.{same_order_out}
 use Rattle.l4_links.proofs.Neighbours.{neighbours_at}
 use Rattle.l4_links.proofs.Growing.{tree_sheds}
@@ -70,12 +70,6 @@ buried_there old cur first begin count key c none =
     let n = stacked_none (dooms cur) c.stack c.is_stack.stacked key (first_in c.stack key c.at_is) in
     no_some n.0 (sym (ap (option_map doom_of) none) ∙ n.1)
 
--- where the list begins without a key
-first_left : (front back : List ℕ) (key : ℕ) (prev next begin after : Option ℕ) → prev ≡ last_of None front → next ≡ first_of back None → (prev ≡ None → after ≡ next) → (prev ≢ None → after ≡ begin)
-    → first_of (front ++ key ∷ back) None ≡ begin → first_of (front ++ back) None ≡ after
-first_left [] back key prev next begin after p n onto stay f = sym n ∙ sym (onto p)
-first_left (x ∷ xs) back key prev next begin after p n onto stay f = f ∙ sym (stay (λ none. last_some x xs (sym p ∙ none)))
-
 -- one more node is buried
 pub buried_more : (old cur new : Slots) (first begin after : Option ℕ) (count key : ℕ) (node : Node) → BuriedSoFar old cur first begin (Some key) count → node_at cur key ≡ Some node
     → (node.prev ≡ None → after ≡ node.next) → (node.prev ≢ None → after ≡ begin) → ((xs ys : List ℕ) → IsOrder cur (xs ++ key ∷ ys) → IsOrder new (xs ++ ys)) → TakesSlot key cur new
@@ -108,7 +102,7 @@ buried_more old cur new first begin after count key node c is_key onto stay out 
       same =
           order_on (limbs cur) (limbs new) (position c.before) (position (p.front ++ key ∷ p.back)) (position (p.front ++ p.back)) was_limb
           (subst (λ (z : List ℕ). SameOrder (limbs cur) (position c.before) (position z)) p.is c.same) (same_order_out (limbs new) p.front key p.back none_new);
-      first_is = λ f. first_left p.front p.back key node.prev node.next begin after near.0 near.1 onto stay (sym (ap (λ (z : List ℕ). first_of z None) p.is) ∙ c.first_is f);
+      first_is = λ f. first_left p.front p.back p.back key node.prev node.next begin after near.0 near.1 onto stay (sym (ap (λ (z : List ℕ). first_of z None) p.is) ∙ c.first_is f);
       each = λ k. elim (cases_eq k key) [
         | inl ke ↦ inl (subst (λ (z : ℕ). IsBuried old new z) (sym ke) (elim (c.each key) [
           | inl b ↦ no_some node (sym (ap (option_and_then (λ (z : Slot). z.node)) b.gone) ∙ is_key)

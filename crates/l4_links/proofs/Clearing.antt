@@ -5,15 +5,15 @@ use Rattle.std.specs.Option.{option_map}
 use Rattle.l4_nodes.specs.declared.nodes.Node.{Node}
 use Rattle.l4_links.specs.Leads.{Leads, step}
 use Rattle.l4_links.specs.Inside.Trees.{Limb, parent_at, Sheds}
-use Rattle.l4_links.specs.Inside.Orders.{first_of, last_of, position}
+use Rattle.l4_links.specs.Inside.Orders.{position}
 use Rattle.l4_nodes.specs.Slots.{Slots, node_at}
 use Rattle.l4_links.specs.Inside.Nodes.{limbs, IsOrder, IsForest, Parts, Prunes, Clears}
 use Rattle.l4_links.proofs.Positions.{same_order_out}
 use Rattle.l4_links.proofs.Growing.{tree_sheds}
 use Rattle.l4_links.proofs.Neighbours.{neighbours_at, some_from, no_node}
 use Rattle.l4_links.proofs.Runs.{parent_is, run_from_leads}
-use Rattle.l4_links.proofs.Writes.{limb_of}
-use Rattle.l4_links.proofs.Linking.{last_some}
+use Rattle.l4_links.proofs.Writes.{no_some, limb_of}
+use Rattle.l4_links.proofs.Linking.{first_left}
 
 -- a key does not descend from itself
 pub apart : (slots : Slots) (ks : List ℕ) → IsForest slots ks → (k : ℕ) → ¬ (Leads (parent_at (limbs slots)) k k)
@@ -28,24 +28,19 @@ top_left old mid top p there none =
       | Some n ↦ λ e. some_from old mid top n (sym (p.limbs_kept top off)) e none
     ] refl
 
-first_gone : (front left : List ℕ) (top : ℕ) (rest : List ℕ) (prev next first : Option ℕ) → prev ≡ last_of None front → next ≡ first_of left None → first_of (front ++ top ∷ rest) None ≡ first
-    → ((prev ≡ None → first_of (front ++ left) None ≡ next) × (prev ≢ None → first_of (front ++ left) None ≡ first))
-first_gone [] left top rest prev next first p n f = (λ _. sym n, λ some. absurd (some p))
-first_gone (x ∷ xs) left top rest prev next first p n f = (λ none. absurd (last_some x xs (sym p ∙ none)), λ _. f)
-
 -- what the cut and the writes to the neighbours make of the nodes
 pub cleared : (old mid new : Slots) (top : ℕ) (node : Node) (first after : Option ℕ) → Prunes top old mid → node_at mid top ≡ Some node → Parts top mid new → ((xs ys : List ℕ) → IsOrder mid (xs ++ top ∷ ys) → IsOrder new (xs ++ ys))
     → (node.prev ≡ None → after ≡ node.next) → (node.prev ≢ None → after ≡ first) → Clears top first after old new
 cleared old mid new top node first after p at q order onto keep =
     let near = neighbours_at mid p.front top p.left node p.forest.order at in
     let none_top : limbs new top ≡ None = ap (option_map limb_of) q.gone in
-    let away : (a : ℕ) (x : Limb) → limbs new a ≡ Some x → a ≢ top = λ a x is e. (let w : ◌≡◌ {A = Option Limb} None (Some x) = sym none_top ∙ sym (ap (limbs new) e) ∙ is in absurd (let z : ◌≡◌ {A = Option Limb} None (Some x) = w in cc)) in
+    let away : (a : ℕ) (x : Limb) → limbs new a ≡ Some x → a ≢ top = λ a x is e. no_some x (sym none_top ∙ sym (ap (limbs new) e) ∙ is) in
     let gone_mid : (k : ℕ) → Leads (parent_at (limbs old)) k top → limbs mid k ≡ None = λ k l. ap (option_map limb_of) (p.gone k l) in
     let sheds : Sheds (limbs mid) (limbs new) = record {
       left = λ a. elim (cases_eq a top) [ inl e ↦ inl (ap (limbs new) e ∙ none_top) | inr ne ↦ inr (q.limbs_same a ne) ];
       closed = λ a b x is up. q.limbs_same b (λ e.
           let was : limbs mid a ≡ Some x = sym (q.limbs_same a (away a x is)) ∙ is in
-          let old_up : ¬ (Leads (parent_at (limbs old)) a top) = λ l. (let w : ◌≡◌ {A = Option Limb} None (Some x) = sym (gone_mid a l) ∙ was in absurd (let z : ◌≡◌ {A = Option Limb} None (Some x) = w in cc)) in
+          let old_up : ¬ (Leads (parent_at (limbs old)) a top) = λ l. no_some x (sym (gone_mid a l) ∙ was) in
           let was_old : limbs old a ≡ Some x = sym (p.limbs_kept a old_up) ∙ was in
           old_up (step (parent_is (limbs old) a x was_old ∙ up ∙ ap (λ (z : ℕ). Some z) e)));
     } in
@@ -68,9 +63,5 @@ cleared old mid new top node first after p at q order onto keep =
         order = order p.front p.left p.forest.order;
         tree = tree_sheds (limbs mid) (limbs new) (position (p.front ++ top ∷ p.left)) (position (p.front ++ p.left)) p.forest.tree sheds (same_order_out (limbs new) p.front top p.left none_top);
       };
-      first_is = λ f. (let g = first_gone p.front p.left top p.rest node.prev node.next first near.0 near.1 f in
-          elim (node.prev) as (λ o. node.prev ≡ o → first_of (p.front ++ p.left) None ≡ after) [
-            | None ↦ λ e. g.0 e ∙ sym (onto e)
-            | Some k ↦ λ e. (let some : node.prev ≢ None = λ z. absurd (let w : ◌≡◌ {A = Option ℕ} (Some k) None = sym e ∙ z in cc) in g.1 some ∙ sym (keep some))
-          ] refl);
+      first_is = first_left p.front p.rest p.left top node.prev node.next first after near.0 near.1 onto keep;
     }

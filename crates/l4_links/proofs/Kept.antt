@@ -13,7 +13,7 @@ use Rattle.l4_nodes.specs.Slots.{Slots, slot_at, node_at, SetsWanted}
 use Rattle.l4_links.specs.Inside.Nodes.{limbs, links, values, marks, Marks, Worth, capped_worth, IsOrder, IsForest, IsLow, IsMarked, IsStamped, AreUnmarked, HasLow, HasMarks, NoSource, HasSeen, sources, Comes, Prunes, Clears, CapsBelow, IsSame}
 use Rattle.l4_links.specs.Inside.Keeping.{IsWithin, LiesWithin, IsFresh, BeginsWalk, sources_walk, IsSound, IsLive}
 use Rattle.l4_links.proofs.Writes.{no_some, same_some, map_from, stamped_same, limb_of, link_of, worth_of, marks_of}
-use Rattle.l4_links.proofs.Linking.{parted, link_at, last_some}
+use Rattle.l4_links.proofs.Linking.{parted, link_at, first_same, last_some}
 use Rattle.l4_links.proofs.Neighbours.{in_list}
 pub use Rattle.l4_links.proofs.Neighbours.{forest_links}
 use Rattle.l4_links.proofs.Runs.{run_from_leads, parent_is}
@@ -197,11 +197,6 @@ within_child old new ks parent key above rights f within at s c k p x l h is up 
           within k p x l h was up (sym (c.values_same k ne) ∙ v) (sym (c.values_same p (new_key p up_is.0 up_is.1)) ∙ w)
     ]
 
--- the list begins with the same key
-pub first_same : (xs : List ℕ) (k : ℕ) (ys zs : List ℕ) → first_of (xs ++ k ∷ ys) None ≡ first_of (xs ++ k ∷ zs) None
-first_same [] k ys zs = refl
-first_same (x ∷ xs) k ys zs = refl
-
 -- two orders of the same links begin with the same key
 pub first_unique : (slots : Slots) (ks ls : List ℕ) → IsOrder slots ks → IsOrder slots ls → first_of ks None ≡ first_of ls None
 first_unique slots [] [] a b = refl
@@ -347,7 +342,7 @@ live_child old new first stamp parent key above rights s at sprouts c forest =
     record {
       keys = p.front ++ parent ∷ key ∷ p.back;
       forest = forest p.front p.back (subst (λ (z : List ℕ). IsForest old z) p.is s.forest);
-      first_is = first_same p.front parent (key ∷ p.back) p.back ∙ sym (ap (λ (z : List ℕ). first_of z None) p.is) ∙ s.first_is;
+      first_is = first_same p.front parent (key ∷ p.back) p.back None ∙ sym (ap (λ (z : List ℕ). first_of z None) p.is) ∙ s.first_is;
       within = within_child old new s.keys parent key (worth_of above) rights s.forest s.within (ap (option_map worth_of) at) sprouts c;
       stamped = stamped_comes (record { frame = above.frame; rights = common above.rights rights; source = false; granted = None }) key old new stamp c s.stamped;
     }
@@ -380,7 +375,7 @@ sound_cleared old new first after stamp fresh walk top s p f = sound_live new af
 pub sound_pruned : (old new : Slots) (first : Option ℕ) (stamp fresh walk top : ℕ) → IsSound old first stamp walk → Prunes top old new → IsFresh stamp fresh → IsSound new first fresh walk
 sound_pruned old new first stamp fresh walk top s p f =
     sound_fresh new first stamp fresh walk (p.front ++ top ∷ p.left) p.forest
-    (first_same p.front top p.left p.rest ∙ first_unique old (p.front ++ top ∷ p.rest) s.keys p.was.order s.forest.order ∙ s.first_is)
+    (first_same p.front top p.left p.rest None ∙ first_unique old (p.front ++ top ∷ p.rest) s.keys p.was.order s.forest.order ∙ s.first_is)
     (within_kept old new (p.front ++ top ∷ p.left) p.forest s.within (λ k x is. (let off = left old new top p limb_of k x is in (p.limbs_kept k off, p.values_kept k off))))
     (λ some k m is. s.stamped some k m (sym (p.marks_kept k (left old new top p marks_of k m is)) ∙ is)) f
   where

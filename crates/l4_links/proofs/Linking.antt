@@ -79,9 +79,15 @@ pub last_in : (x : ℕ) (xs : List ℕ) (a : ℕ) → last_of (Some x) xs ≡ So
 last_in x [] a e = inl (let w : ◌≡◌ {A = Option ℕ} (Some x) (Some a) = e in cc)
 last_in x (y ∷ xs) a e = inr (last_in y xs a e)
 
-first_same : (xs : List ℕ) (p : ℕ) (ys zs : List ℕ) (after : Option ℕ) → first_of (xs ++ p ∷ ys) after ≡ first_of (xs ++ p ∷ zs) after
+pub first_same : (xs : List ℕ) (p : ℕ) (ys zs : List ℕ) (after : Option ℕ) → first_of (xs ++ p ∷ ys) after ≡ first_of (xs ++ p ∷ zs) after
 first_same [] p ys zs after = refl
 first_same (x ∷ xs) p ys zs after = refl
+
+-- where a list begins without a key, by the key's neighbours, whatever else has gone with it
+pub first_left : (front rest back : List ℕ) (key : ℕ) (prev next begin after : Option ℕ) → prev ≡ last_of None front → next ≡ first_of back None → (prev ≡ None → after ≡ next) → (prev ≢ None → after ≡ begin)
+    → first_of (front ++ key ∷ rest) None ≡ begin → first_of (front ++ back) None ≡ after
+first_left [] rest back key prev next begin after p n onto stay f = sym n ∙ sym (onto p)
+first_left (x ∷ xs) rest back key prev next begin after p n onto stay f = f ∙ sym (stay (λ none. last_some x xs (sym p ∙ none)))
 
 -- the link of one key of the list
 pub link_at : (at : ℕ → Option Link) (before : Option ℕ) (xs : List ℕ) (k : ℕ) (ys : List ℕ) (after : Option ℕ) → IsLinked at before (xs ++ k ∷ ys) after
@@ -151,6 +157,10 @@ linked_first old new before k (n ∷ ys) l once out c =
           l.1.1,
     )
 
+-- a key outside of a list is none of it
+apart : (x : ℕ) (ks : List ℕ) → ¬ (IsIn ks x) → (o : ℕ) → IsIn ks o → ◌≢◌ {A = Option ℕ} (Some x) (Some o)
+apart x ks out o i w = out (subst (λ (z : ℕ). IsIn ks z) (sym (same_some w)) i)
+
 pub linked_out : (old new : ℕ → Option Link) (before : Option ℕ) (xs : List ℕ) (k : ℕ) (ys : List ℕ) → IsLinked old before (xs ++ k ∷ ys) None → IsOnce (xs ++ k ∷ ys)
     → ((o : ℕ) → IsIn (xs ++ k ∷ ys) o → before ≢ Some o) → TakesOut old new k → IsLinked new before (xs ++ ys) None
 linked_out old new before [] k ys l once out c = linked_first old new before k ys l once out c
@@ -161,9 +171,6 @@ linked_out old new before (x ∷ []) k ys l once out c =
       c.before x (record { prev = before; next = Some k }) prev_is l.0 ∙ ap (λ (z : Option ℕ). Some (record { prev = before; next = z })) next_is,
       linked_first old new (Some x) k ys l.1 once.1 (apart x (k ∷ ys) once.0) c,
     )
-  where
-    apart : (x : ℕ) (ks : List ℕ) → ¬ (IsIn ks x) → (o : ℕ) → IsIn ks o → ◌≢◌ {A = Option ℕ} (Some x) (Some o)
-    apart x ks out o i w = let oe : o ≡ x = cc in out (subst (λ (z : ℕ). IsIn ks z) oe i)
 linked_out old new before (x ∷ y ∷ xs) k ys l once out c =
     let e : c.link ≡ record { prev = last_of (Some x) (y ∷ xs); next = first_of ys None } = same_link old k c.was (link_at old (Some x) (y ∷ xs) k ys None l.1) in
     let next_is : c.link.next ≡ first_of ys None = ap (λ (z : Link). z.next) e in
@@ -175,9 +182,6 @@ linked_out old new before (x ∷ y ∷ xs) k ys l once out c =
           ∙ l.0,
       linked_out old new (Some x) (y ∷ xs) k ys l.1 once.1 (apart x (y ∷ xs ++ k ∷ ys) once.0) c,
     )
-  where
-    apart : (x : ℕ) (ks : List ℕ) → ¬ (IsIn ks x) → (o : ℕ) → IsIn ks o → ◌≢◌ {A = Option ℕ} (Some x) (Some o)
-    apart x ks out o i w = let oe : o ≡ x = cc in out (subst (λ (z : ℕ). IsIn ks z) oe i)
 
 -- the links behind a part of the list
 link_behind : (at : ℕ → Option Link) (before : Option ℕ) (run back : List ℕ) (after : Option ℕ) → IsLinked at before (run ++ back) after → (b : Option ℕ) × IsLinked at b back after
