@@ -7,7 +7,7 @@ use Rattle.l4_fpage.specs.declared.sizes.PageSize.{PageSize}
 use Rattle.l4_fpage.specs.declared.sizes.PageSize.TheVariants.{Kib4, Kib1}
 use Rattle.l4_fpage.proofs.PageSizes.{frames_fit}
 use Rattle.l4_msg.specs.declared.items.Item.{Item}
-use Rattle.l4_mapdb.specs.declared.ItemMove.{ItemMove}
+use Rattle.l4_msg.specs.declared.items.ItemMove.{ItemMove}
 use Rattle.l4_mapdb.specs.declared.Mapping.{Mapping}
 use Rattle.l4_mapdb.specs.declared.Place.{Place}
 use Rattle.l4_forest.specs.Boot.{IsFirst}

@@ -9,7 +9,7 @@ use Rattle.l4_fpage.specs.declared.fpages.Fpage.{Fpage}
 use Rattle.l4_msg.specs.declared.items.Item.{Item}
 use Rattle.l4_mapdb.specs.declared.Cause.{Cause}
 use Rattle.l4_mapdb.specs.declared.Cause.TheVariants.{Entangled as IsTangle, NoMemory as WantOfMemory}
-use Rattle.l4_mapdb.specs.declared.ItemMove.{ItemMove}
+use Rattle.l4_msg.specs.declared.items.ItemMove.{ItemMove}
 use Rattle.l4_mapdb.specs.Causes.{HasCause}
 use Rattle.l4_mapdb.specs.declared.Mapping.{Mapping}
 use Rattle.l4_mapdb.specs.declared.Place.{Place}

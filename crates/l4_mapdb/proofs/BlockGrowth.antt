@@ -7,7 +7,7 @@ use Rattle.l4_links.specs.declared.Standing.{Standing}
 use Rattle.l4_links.specs.declared.Entry.{Entry}
 use Rattle.l4_links.specs.declared.Halt.{Halt}
 use Rattle.l4_links.specs.Entries.{Linked, entry_at, IsAt, moved_place, IsShared, IsHalted, brought, AddsChildren}
-use Rattle.l4_mapdb.specs.declared.ItemMove.{ItemMove}
+use Rattle.l4_msg.specs.declared.items.ItemMove.{ItemMove}
 use Rattle.l4_mapdb.specs.declared.sources.UsedMove.{UsedMove}
 use Rattle.l4_mapdb.specs.Inside.Messages.{plain, IsMoved, turn, turn_of}
 use Rattle.l4_mapdb.specs.Inside.Growing.{move_from, child_at, child_of, IsGround, Earlier, Grown, IsStopped}

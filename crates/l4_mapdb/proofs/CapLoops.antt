@@ -4,7 +4,7 @@ use Rattle.std.proofs.lemmas.Bool.{cases_lt}
 use Rattle.std.proofs.lemmas.Option.{slice_get_within}
 use Rattle.l4_fpage.specs.Rights.{RightsSet}
 use Rattle.l4_links.specs.Entries.{Entries, IsAt, NoKeyIn, IsNextKeyIn}
-use Rattle.l4_mapdb.specs.declared.ItemMove.{ItemMove}
+use Rattle.l4_msg.specs.declared.items.ItemMove.{ItemMove}
 use Rattle.l4_mapdb.specs.Inside.Cutting.{IsGrantedAt, IsGrantOf, IsGrantBy, IsGrantBelow, Capped}
 use Rattle.l4_mapdb.proofs.Caps.{capped_both, capped_as, capped_none, place_same, granted_same}
 use Rattle.l4_mapdb.proofs.Unique.{same_value}

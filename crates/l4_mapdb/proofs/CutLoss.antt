@@ -9,7 +9,7 @@ use Rattle.l4_links.specs.Leads.{step, steps}
 use Rattle.l4_links.specs.Entries.{Entries, Linked, entry_at, standing_at, IsAt, Descends, HavePlaces, AreTrees, Buries}
 use Rattle.l4_mapdb.specs.declared.Place.{Place}
 use Rattle.l4_mapdb.specs.declared.Mapping.{Mapping}
-use Rattle.l4_mapdb.specs.declared.ItemMove.{ItemMove}
+use Rattle.l4_msg.specs.declared.items.ItemMove.{ItemMove}
 use Rattle.l4_mapdb.specs.Mappings.{Mappings, shown, parent_of, Chain}
 use Rattle.l4_mapdb.specs.Mappings as map
 use Rattle.l4_mapdb.specs.Losing.{LosesRights}

@@ -6,7 +6,7 @@ use Rattle.l4_links.specs.declared.Standing.{Standing}
 use Rattle.l4_links.specs.declared.Entry.{Entry}
 use Rattle.l4_links.specs.Leads.{Leads, step, steps}
 use Rattle.l4_links.specs.Entries.{Entries, Linked, entry_at, standing_at, parent_of, HavePlaces, AreTrees, HaveRights, IsAt, Descends, cut_off, Clears}
-use Rattle.l4_mapdb.specs.declared.ItemMove.{ItemMove}
+use Rattle.l4_msg.specs.declared.items.ItemMove.{ItemMove}
 use Rattle.l4_mapdb.specs.declared.sources.UsedMove.{UsedMove}
 use Rattle.l4_mapdb.specs.Inside.Messages.{stand_at, IsMoved, turn, turn_of, IsNextMove, IsWanted, Before, Goes, IsClearedAt}
 use Rattle.l4_mapdb.proofs.Leading.{leads_on, leads_within}

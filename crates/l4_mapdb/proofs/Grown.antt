@@ -9,7 +9,7 @@ use Rattle.l4_links.specs.Leads.{step}
 use Rattle.l4_links.specs.Entries.{Linked, entry_at, IsAt, HavePlaces, parent_of}
 use Rattle.l4_mapdb.specs.declared.Place.{Place}
 use Rattle.l4_mapdb.specs.declared.Mapping.{Mapping}
-use Rattle.l4_mapdb.specs.declared.ItemMove.{ItemMove}
+use Rattle.l4_msg.specs.declared.items.ItemMove.{ItemMove}
 use Rattle.l4_mapdb.specs.declared.sources.UsedMove.{UsedMove}
 use Rattle.l4_mapdb.specs.Mappings.{Mappings, shown}
 use Rattle.l4_mapdb.specs.Transfer.{PageMove, IsUsed, IsEntangled, IsGranted, IsGone, ParentLater, Becomes, Delivers}

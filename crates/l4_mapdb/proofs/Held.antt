@@ -8,7 +8,7 @@ use Rattle.l4_links.specs.declared.Standing.{Standing}
 use Rattle.l4_links.specs.declared.Entry.{Entry}
 use Rattle.l4_links.specs.Entries.{Linked, entry_at, parent_of, IsAt, IsInPages, Descends, moved_place, IsShared, HasChild}
 use Rattle.l4_links.proofs.Moving.{decide_in}
-use Rattle.l4_mapdb.specs.declared.ItemMove.{ItemMove}
+use Rattle.l4_msg.specs.declared.items.ItemMove.{ItemMove}
 use Rattle.l4_mapdb.specs.declared.sources.UsedMove.{UsedMove}
 use Rattle.l4_mapdb.specs.Inside.Messages.{IsMoved}
 use Rattle.l4_mapdb.specs.Inside.Tangles.{AreApart}

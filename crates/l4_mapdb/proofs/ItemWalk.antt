@@ -3,7 +3,7 @@ use Rattle.std.proofs.Common.{◌≡◌, ◌≢◌, ℕ, ◌+◌, ◌≤◌, len
 use Rattle.std.proofs.lemmas.Bool.{cases_lt}
 use Rattle.std.proofs.lemmas.Option.{slice_get_within}
 use Rattle.l4_links.specs.Entries.{Linked}
-use Rattle.l4_mapdb.specs.declared.ItemMove.{ItemMove}
+use Rattle.l4_msg.specs.declared.items.ItemMove.{ItemMove}
 use Rattle.l4_mapdb.specs.Transfer.{PageMove}
 use Rattle.l4_mapdb.specs.Inside.Placing.{Used, IsBefore, earlier, same, IsDone, Placed}
 use Rattle.l4_mapdb.proofs.Placed.{placed_as}

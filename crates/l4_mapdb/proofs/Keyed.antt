@@ -8,7 +8,7 @@ use Rattle.l4_links.specs.Entries.{Linked, entry_at, standing_at, IsStanding, Ha
 use Rattle.l4_links.specs.Entries as links
 use Rattle.l4_mapdb.specs.declared.Place.{Place}
 use Rattle.l4_mapdb.specs.declared.Mapping.{Mapping}
-use Rattle.l4_mapdb.specs.declared.ItemMove.{ItemMove}
+use Rattle.l4_msg.specs.declared.items.ItemMove.{ItemMove}
 use Rattle.l4_mapdb.specs.Mappings.{shown, IsPresent, IsOrDescends}
 use Rattle.l4_mapdb.specs.Transfer.{PageMove, IsUsed, IsEntangled}
 use Rattle.l4_mapdb.proofs.Unique.{same_value}

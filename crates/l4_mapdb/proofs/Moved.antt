@@ -10,7 +10,7 @@ use Rattle.l4_links.specs.declared.Entry.{Entry}
 use Rattle.l4_links.specs.Entries.{Linked, entry_at, IsAt, HavePlaces}
 use Rattle.l4_mapdb.specs.declared.Place.{Place}
 use Rattle.l4_mapdb.specs.declared.Mapping.{Mapping}
-use Rattle.l4_mapdb.specs.declared.ItemMove.{ItemMove}
+use Rattle.l4_msg.specs.declared.items.ItemMove.{ItemMove}
 use Rattle.l4_mapdb.specs.Mappings.{Mappings, shown, parent_of, child, further}
 use Rattle.l4_mapdb.specs.Transfer.{PageMove, IsGone, StandsAt, ParentLater, Becomes, Moved}
 use Rattle.l4_mapdb.proofs.Filled.{BecomesBy}

@@ -6,7 +6,7 @@ use Rattle.l4_links.specs.declared.Standing.{Standing}
 use Rattle.l4_links.specs.declared.Entry.{Entry}
 use Rattle.l4_links.specs.Entries.{Entries, Linked, entry_at, standing_at, IsAt, Sprouts, TakesOver}
 use Rattle.l4_mapdb.specs.declared.Place.{Place}
-use Rattle.l4_mapdb.specs.declared.ItemMove.{ItemMove}
+use Rattle.l4_msg.specs.declared.items.ItemMove.{ItemMove}
 use Rattle.l4_mapdb.specs.Transfer.{PageMove}
 use Rattle.l4_mapdb.proofs.Single.{KnownMoves, one_target}
 use Rattle.l4_mapdb.specs.View.{link_place, mappings_of}

@@ -6,7 +6,7 @@ use Rattle.l4_links.specs.declared.Entry.{Entry}
 use Rattle.l4_links.specs.Leads.{Leads, step, steps}
 use Rattle.l4_links.specs.Entries.{Entries, Linked, entry_at, standing_at, IsStanding, parent_of, HavePlaces, AreTrees, HaveRights, IsAt, cut_off}
 use Rattle.l4_mapdb.specs.declared.Place.{Place}
-use Rattle.l4_mapdb.specs.declared.ItemMove.{ItemMove}
+use Rattle.l4_msg.specs.declared.items.ItemMove.{ItemMove}
 use Rattle.l4_mapdb.specs.declared.Cause.{Cause}
 use Rattle.l4_mapdb.specs.declared.Cause.TheVariants.{Entangled, NoMemory}
 use Rattle.l4_mapdb.specs.Causes.{HasCause}

@@ -6,7 +6,7 @@ use Rattle.l4_links.specs.declared.Standing.{Standing}
 use Rattle.l4_links.specs.declared.Entry.{Entry}
 use Rattle.l4_links.specs.Leads.{Leads, step}
 use Rattle.l4_links.specs.Entries.{Entries, Linked, entry_at, standing_at, parent_of, IsAt, HavePlaces, HaveRights}
-use Rattle.l4_mapdb.specs.declared.ItemMove.{ItemMove}
+use Rattle.l4_msg.specs.declared.items.ItemMove.{ItemMove}
 use Rattle.l4_mapdb.specs.declared.sources.UsedMove.{UsedMove}
 use Rattle.l4_mapdb.specs.Inside.Messages.{plain, IsMoved, turn, turn_of, IsNextMove}
 use Rattle.l4_mapdb.specs.Inside.Tangles.{AreApart}

@@ -4,7 +4,7 @@ use Rattle.l4_nodes.specs.declared.Place.{Place as LinkPlace}
 use Rattle.l4_links.specs.declared.Standing.{Standing}
 use Rattle.l4_links.specs.declared.Entry.{Entry}
 use Rattle.l4_links.specs.Entries.{Entries, Linked, entry_at, IsAt}
-use Rattle.l4_mapdb.specs.declared.ItemMove.{ItemMove}
+use Rattle.l4_msg.specs.declared.items.ItemMove.{ItemMove}
 use Rattle.l4_mapdb.specs.declared.Cause.{Cause}
 use Rattle.l4_mapdb.specs.declared.Cause.TheVariants.{Entangled, NoMemory}
 use Rattle.l4_mapdb.specs.declared.sources.UsedMove.{UsedMove}

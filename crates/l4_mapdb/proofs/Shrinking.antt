@@ -6,7 +6,7 @@ use Rattle.l4_links.specs.declared.Standing.{Standing}
 use Rattle.l4_links.specs.declared.Entry.{Entry}
 use Rattle.l4_links.specs.Leads.{Leads}
 use Rattle.l4_links.specs.Entries.{Linked, entry_at, parent_of, IsAt, HavePlaces}
-use Rattle.l4_mapdb.specs.declared.ItemMove.{ItemMove}
+use Rattle.l4_msg.specs.declared.items.ItemMove.{ItemMove}
 use Rattle.l4_mapdb.specs.declared.sources.UsedMove.{UsedMove}
 use Rattle.l4_mapdb.specs.Inside.Messages.{IsMoved, turn, turn_of, IsNextMove}
 use Rattle.l4_mapdb.specs.Inside.Growing.{child_of, TakesBack, IsGround, Earlier, Between, Grown}

@@ -5,7 +5,7 @@ use Rattle.l4_nodes.specs.declared.Place.{Place as LinkPlace}
 use Rattle.l4_links.specs.declared.Standing.{Standing}
 use Rattle.l4_links.specs.declared.Entry.{Entry}
 use Rattle.l4_links.specs.Entries.{Linked, entry_at, HavePlaces}
-use Rattle.l4_mapdb.specs.declared.ItemMove.{ItemMove}
+use Rattle.l4_msg.specs.declared.items.ItemMove.{ItemMove}
 use Rattle.l4_mapdb.specs.Mappings.{shown}
 use Rattle.l4_mapdb.specs.Transfer.{PageMove, IsGone}
 use Rattle.l4_mapdb.specs.View.{link_place, map_place, mapping_of, mappings_of}

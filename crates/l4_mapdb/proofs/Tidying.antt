@@ -5,7 +5,7 @@ use Rattle.l4_nodes.specs.declared.Place.{Place as LinkPlace}
 use Rattle.l4_links.specs.declared.Standing.{Standing}
 use Rattle.l4_links.specs.declared.Entry.{Entry}
 use Rattle.l4_links.specs.Entries.{Entries, entry_at, standing_at, IsAt, HasKey, SetsPlain, SetsWanted, IsNextKeyIn}
-use Rattle.l4_mapdb.specs.declared.ItemMove.{ItemMove}
+use Rattle.l4_msg.specs.declared.items.ItemMove.{ItemMove}
 use Rattle.l4_mapdb.specs.Inside.Messages.{plain, tidied, Tidies, InPages, OfItem, OfItems}
 use Rattle.l4_mapdb.proofs.Moves.{is_at, one_by}
 use Rattle.l4_mapdb.proofs.Marking.{by_key}

@@ -4,7 +4,7 @@ use Rattle.l4_fpage.specs.Rights.{no_rights}
 use Rattle.l4_links.specs.declared.Standing.{Standing}
 use Rattle.l4_links.specs.declared.Entry.{Entry}
 use Rattle.l4_links.specs.Entries.{Entries, Linked, entry_at, standing_at}
-use Rattle.l4_mapdb.specs.declared.ItemMove.{ItemMove}
+use Rattle.l4_msg.specs.declared.items.ItemMove.{ItemMove}
 use Rattle.l4_mapdb.specs.Transfer.{IsUsed, IsEntangled, Delivers}
 use Rattle.l4_mapdb.specs.View.{mappings_of}
 

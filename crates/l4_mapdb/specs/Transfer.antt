@@ -6,7 +6,7 @@ use Rattle.l4_fpage.specs.Rights.{RightsSet, Right, has, no_rights, common}
 use Rattle.l4_msg.specs.Moves.{MovePairs}
 use Rattle.l4_mapdb.specs.declared.Place.{Place}
 use Rattle.l4_mapdb.specs.declared.Mapping.{Mapping}
-use Rattle.l4_mapdb.specs.declared.ItemMove.{ItemMove}
+use Rattle.l4_msg.specs.declared.items.ItemMove.{ItemMove}
 use Rattle.l4_mapdb.specs.Mappings.{Mappings, shown, IsPresent, Descends, IsOrDescends}
 use Rattle.l4_mapdb.specs.Losing.{LosesRights}
 

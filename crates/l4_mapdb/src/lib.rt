@@ -17,8 +17,8 @@ mod tangles;
 mod unmarking;
 
 pub use delivering::deliver;
-use l4_fpage::{Block, Rights};
-use l4_msg::Move;
+use l4_fpage::Rights;
+pub use l4_msg::ItemMove;
 
 /// A page of a space.
 #[derive(Clone, Copy, Debug, PartialEq, Eq)]
@@ -39,38 +39,6 @@ pub struct Mapping {
     /// The place that it was mapped from. A granted page keeps the parent that it had. `None` at the root of its
     /// tree.
     pub parent: Option<Place>,
-}
-
-/// The move of one item of a message.
-#[derive(Clone, Copy, Debug, PartialEq, Eq)]
-pub struct ItemMove {
-    /// The pages of the sender and those of the receiver.
-    pub mv: Move,
-    /// The rights that the item names.
-    pub rights: Rights,
-    /// Whether the item grants its pages instead of mapping them.
-    pub grant: bool,
-}
-
-impl Default for ItemMove {
-    ghost use Rattle.std.specs.Prelude.{◌≡◌, false};
-    ghost use Rattle.l4_fpage.specs.Rights.{no_rights};
-
-    ghost is_default = { λ item. (item.rights ≡ no_rights) × (item.grant ≡ false) };
-
-    /// Returns a map item without a right, of which no move is ever used.
-    fn default() -> ItemMove {
-        let page = Block { first: 0, log: 0 };
-        let mv = Move {
-            source: page,
-            target: page,
-        };
-        ItemMove {
-            mv,
-            rights: Rights::of_bits(0),
-            grant: false,
-        }
-    }
 }
 
 /// The reason why a message was not delivered. Nothing has changed.

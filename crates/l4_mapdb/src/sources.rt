@@ -3,7 +3,7 @@
 ghost use Rattle.std.specs.Prelude.{◌≡◌, ◌≢◌, ◌<◌, ◌≤◌, ◌+◌, ◌⊎◌, length, IsTrue, IfSome, MatchOption, OnSome, slice_get, ℕ, Some, None};
 ghost use Rattle.l4_fpage.specs.Pages.{most_pages, InBlock};
 ghost use Rattle.l4_links.specs.Entries.{IsKeyOf};
-ghost use Rattle.l4_mapdb.specs.declared.ItemMove.{ItemMove as AnItemMove};
+ghost use Rattle.l4_msg.specs.declared.items.ItemMove.{ItemMove as AnItemMove};
 ghost use Rattle.l4_mapdb.specs.Inside.Messages.{IsMoved, turn_of, turn_in, turns_left, IsNextMove, IsNextOfItem};
 
 use crate::ItemMove;

@@ -1,6 +1,6 @@
 ghost use Rattle.std.specs.Prelude.{◌≡◌, ℕ, ◌+◌, ◌*◌, ◌/◌, ◌%◌, ◌^◌, ◌<◌, ◌≤◌, ◌↔◌, IsTrue, if◌then◌else◌, IfOk, IfErr};
 
-use l4_fpage::{Block, Fpage};
+use l4_fpage::{Block, Fpage, Rights};
 
 /// An item of a message: the pages of an fpage, which are shared (map) or given away (grant). The send base, in
 /// bytes, states where they land in a larger receive window (L4 X.2 manual, IPC: map item, grant item).
@@ -120,4 +120,36 @@ pub struct Move {
     pub source: Block,
     pub target: Block,
     pub ghost same_size: { source.log ≡ target.log },
+}
+
+/// The move of one item of a message.
+#[derive(Clone, Copy, Debug, PartialEq, Eq)]
+pub struct ItemMove {
+    /// The pages of the sender and those of the receiver.
+    pub mv: Move,
+    /// The rights that the item names.
+    pub rights: Rights,
+    /// Whether the item grants its pages instead of mapping them.
+    pub grant: bool,
+}
+
+impl Default for ItemMove {
+    ghost use Rattle.std.specs.Prelude.{◌≡◌, false};
+    ghost use Rattle.l4_fpage.specs.Rights.{no_rights};
+
+    ghost is_default = { λ item. (item.rights ≡ no_rights) × (item.grant ≡ false) };
+
+    /// Returns a map item without a right, of which no move is ever used.
+    fn default() -> ItemMove {
+        let page = Block { first: 0, log: 0 };
+        let mv = Move {
+            source: page,
+            target: page,
+        };
+        ItemMove {
+            mv,
+            rights: Rights::of_bits(0),
+            grant: false,
+        }
+    }
 }

@@ -12,7 +12,7 @@ mod tags;
 mod words;
 
 pub use acceptors::Acceptor;
-pub use items::{Item, ItemFault, Move};
+pub use items::{Item, ItemFault, ItemMove, Move};
 pub use messages::{MAX_UNTYPED, MAX_WORDS, Message, MsgFault, copied};
 pub use moves::item_moves;
 pub use protocols::{FAULT_LABEL, FrameRequest, PageFault, REQUEST_LABEL, map_answer};

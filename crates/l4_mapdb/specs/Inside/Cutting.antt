@@ -5,7 +5,7 @@ use Rattle.l4_fpage.specs.Rights.{RightsSet, Right, has, no_rights}
 use Rattle.l4_links.specs.declared.Standing.{Standing}
 use Rattle.l4_links.specs.declared.Entry.{Entry}
 use Rattle.l4_links.specs.Entries.{Entries, entry_at, standing_at, IsAt, Descends}
-use Rattle.l4_mapdb.specs.declared.ItemMove.{ItemMove}
+use Rattle.l4_msg.specs.declared.items.ItemMove.{ItemMove}
 
 -- the entry, its rights forgotten
 abbrev pub bare : Option Entry → Option Entry

@@ -6,7 +6,7 @@ use Rattle.l4_nodes.specs.declared.Place.{Place as LinkPlace}
 use Rattle.l4_links.specs.declared.Standing.{Standing}
 use Rattle.l4_links.specs.declared.Entry.{Entry}
 use Rattle.l4_links.specs.Entries.{Entries, Linked, entry_at, standing_at, IsAt, IsBlank, HavePlaces, AreTrees, Sprouts, TakesOver}
-use Rattle.l4_mapdb.specs.declared.ItemMove.{ItemMove}
+use Rattle.l4_msg.specs.declared.items.ItemMove.{ItemMove}
 use Rattle.l4_mapdb.specs.Mappings.{IsForest}
 use Rattle.l4_mapdb.specs.Transfer.{PageMove, IsUsed, IsEntangled, IsGone}
 use Rattle.l4_mapdb.specs.View.{link_place, map_place, mappings_of}

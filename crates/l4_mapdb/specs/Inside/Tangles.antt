@@ -2,7 +2,7 @@
 use Rattle.std.specs.Prelude.{◌≡◌, ◌≢◌, ◌<◌, ◌≤◌, ◌+◌, ◌^◌, ℕ, ◌⊎◌, List, Some, IsTrue, slice_get, true}
 use Rattle.l4_nodes.specs.declared.Place.{Place as LinkPlace}
 use Rattle.l4_links.specs.Entries.{Entries, IsAt, IsStanding, IsSource, Descends}
-use Rattle.l4_mapdb.specs.declared.ItemMove.{ItemMove}
+use Rattle.l4_msg.specs.declared.items.ItemMove.{ItemMove}
 use Rattle.l4_mapdb.specs.declared.sources.UsedMove.{UsedMove}
 
 module _ (Used : UsedMove → Type 0) where

@@ -1,7 +1,7 @@
 use Rattle.std.proofs.Common.{◌≡◌, ℕ, Some, slice_get, sym, ap, ◌∙◌, subst, inl, inr, arith}
 use Rattle.std.proofs.lemmas.Bool.{cases_lt}
 use Rattle.l4_links.specs.Entries.{HoldsChildren}
-use Rattle.l4_mapdb.specs.declared.ItemMove.{ItemMove}
+use Rattle.l4_msg.specs.declared.items.ItemMove.{ItemMove}
 use Rattle.l4_mapdb.specs.Inside.Renewing.{HoldsItem}
 use Rattle.l4_mapdb.proofs.BlockGrowth.{source_of, target_of}
 use Rattle.l4_mapdb.proofs.Clashing.{read_there}

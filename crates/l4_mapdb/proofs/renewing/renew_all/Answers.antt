@@ -1,5 +1,5 @@
 use Rattle.std.proofs.Common.{◌≡◌, Some, refl, sym, ◌∙◌, subst, slice_get, arith}
-use Rattle.l4_mapdb.specs.declared.ItemMove.{ItemMove}
+use Rattle.l4_msg.specs.declared.items.ItemMove.{ItemMove}
 use Rattle.l4_mapdb.specs.Inside.Messages.{turn_in}
 use Rattle.l4_mapdb.specs.Inside.Growing.{Earlier}
 use Rattle.l4_mapdb.specs.Inside.Renewing.{CanRenew, RenewsAt}

@@ -1,5 +1,5 @@
 use Rattle.std.proofs.Common.{◌≡◌, ◌≤◌, ◌^◌, ap, arith, subst}
-use Rattle.l4_mapdb.specs.declared.ItemMove.{ItemMove}
+use Rattle.l4_msg.specs.declared.items.ItemMove.{ItemMove}
 use Rattle.l4_mapdb.proofs.Clashing.{read_there}
 use Rattle.l4_mapdb.proofs.Moves.{one_by, between_first, between_more, between_all, between_found}
 use Rattle.l4_mapdb.proofs.sources.next_of_item.Goals as goal
