@@ -9,7 +9,8 @@ ghost use Rattle.l4_nodes.specs.Slots.{node_at};
 ghost use Rattle.l4_links.specs.Inside.Moving.{AreWithin, AreFree, CanMove, CanGo, IsStuck, CanGoRow, IsStuckRow, IsStuckIn, CanGoIn, MakesTables, MovesAt, MovesRow, Hinders, LacksPlace, Moves, AreNamed, StayNamed};
 
 use crate::children::{Run, run_at};
-use l4_fpage::Rights;
+use l4_fpage::{Block, Rights};
+use l4_msg::ItemMove;
 use l4_nodes::{Place, Slots, node_of, set_place};
 use l4_spaces::tables::{TABLE_PAGES, key_in, make_all, next_page};
 use l4_spaces::{NoMemory, Row};
@@ -24,6 +25,35 @@ pub(crate) struct Pages {
     /// The place of the first page.
     pub target: Place,
     pub rights: Rights,
+}
+
+/// Returns the page after a block's last one.
+pub fn end_of(block: Block) -> u32
+    ensures is { result ≡ block.first + 2 ^ block.log }
+    ensures small { result ≤ most_pages }
+{
+    block.first + (1 << block.log)
+}
+
+/// Returns the pages of the item, the places that they go to, and the rights that it names.
+#[inline]
+pub(crate) fn pages_of(from: u64, to: u64, by: &ItemMove) -> Pages
+    ensures { result ≡ pages_of from to by.now }
+{
+    let source = Place {
+        space: from,
+        page: by.mv.source.first,
+    };
+    let target = Place {
+        space: to,
+        page: by.mv.target.first,
+    };
+    Pages {
+        source,
+        end: end_of(by.mv.source),
+        target,
+        rights: by.rights,
+    }
 }
 
 /// Returns the place to which the page of the source's space moves.

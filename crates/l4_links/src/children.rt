@@ -1,24 +1,19 @@
-//! Adds children for many pages, up to the first place that has a key. The tables of the places' space are aside meanwhile. Pages of one
-//! table whose places are in one table form a run.
+//! Gives many pages their children, each at its place. Pages of one table whose places are in one table form a run.
 
 ghost use Rattle.std.specs.Prelude.{◌≡◌, ◌≢◌, ◌≤◌, ◌<◌, ◌+◌, ◌-◌, ◌*◌, ◌/◌, ◌%◌, ℕ, Option, List, length, MatchOption, OnOk, IfOk, IfErr, Some, None, true, false, slice_index_or};
 ghost use Rattle.l4_fpage.specs.Rights.{common, no_rights};
-ghost use Rattle.l4_spaces.specs.Tables.{Tables, IsPage, space_pages, space_tables, table_pages};
-ghost use Rattle.l4_spaces.specs.Rows.{entry, is_made, AreWhole, AreTablesOf};
-ghost use Rattle.l4_nodes.specs.Slots.{node_at, HasRoomFor};
-ghost use Rattle.l4_nodes.specs.declared.Place.{Place as APlace};
-ghost use Rattle.l4_links.specs.Inside.Nodes.{AreKeys, IsForest};
-ghost use Rattle.l4_links.specs.Entries.{IsHalted};
-ghost use Rattle.l4_links.specs.Inside.Keeping.{entries_of};
-ghost use Rattle.l4_links.specs.Inside.Growing.{SharesNone, SharesSome, Enters, IsHeld, AreRows, AddsRow, AreGrowing, AddsPages, AddsPart};
+ghost use Rattle.l4_spaces.specs.Tables.{space_pages, table_pages};
+ghost use Rattle.l4_nodes.specs.Slots.{node_at};
+ghost use Rattle.l4_links.specs.Inside.Growing.{SharesNone};
 
-use crate::Halt;
-use crate::blocks::{Pages, place_from};
-use crate::lists::add_under;
+use crate::blocks::{Pages, pages_of, place_from};
+use crate::lists::{add_under, link_under, unlink};
+use crate::wants::wants_item;
 use l4_fpage::Rights;
-use l4_nodes::{Node, Place, Slots, node_of};
-use l4_spaces::tables::{TABLE_PAGES, is_ready, key_in, make_all, next_page};
-use l4_spaces::{BLOCK, NoMemory, Row, Spaces};
+use l4_msg::ItemMove;
+use l4_nodes::{Node, Place, Slots, node_of, set_rights};
+use l4_spaces::tables::{TABLE_PAGES, next_page};
+use l4_spaces::{BLOCK, NoMemory, Row};
 
 /// Entries of one table, and as many of another one.
 #[derive(Clone, Copy)]
@@ -44,84 +39,6 @@ pub(crate) fn sharing(nodes: &Slots, key: usize, rights: Rights) -> Option<Node>
     Some(node)
 }
 
-/// Adds a child of the node under the key for the place, and names it at this entry of the table. Does nothing if there is no key, or if
-/// no right is shared. If the entry has a key, changes nothing, and returns the node's key.
-#[inline(always)]
-fn add_at(
-    nodes: &mut Slots,
-    target: &mut Row,
-    low: usize,
-    key: Option<usize>,
-    place: Place,
-    rights: Rights,
-) -> Option<usize>
-    requires forest { (ks : List ℕ) × IsForest nodes.old.slots ks }
-    requires few { AreKeys nodes.old.slots }
-    requires fits { IsPage place.page }
-    requires within { low < length target.old }
-    requires room { HasRoomFor nodes.old 1 }
-    ensures enters { MatchOption result
-        (Enters key place rights low nodes.old.slots nodes.new.slots target.old target.new)
-        (λ held. (key ≡ Some held)
-        × IsHeld held rights low nodes.old.slots nodes.new.slots target.old target.new) }
-    ensures room { (more : ℕ) → HasRoomFor nodes.old (more + 1) → HasRoomFor nodes.new more }
-{
-    let key = key?;
-    let above = sharing(nodes, key, rights)?;
-    if let Some(_) = target.at(low) {
-        return Some(key);
-    }
-    let child = add_under(nodes, key, place, &above, rights);
-    target.put(low, child);
-    None
-}
-
-/// Adds children for the run, at the place and those after it, up to the first one that has a key. Returns the number of entries before that
-/// one, with the key of its source.
-#[inline(never)]
-pub(crate) fn add_run(
-    nodes: &mut Slots,
-    source: &Row,
-    target: &mut Row,
-    run: &Run,
-    place: Place,
-    rights: Rights,
-) -> Option<(usize, usize)>
-    requires source { run.now.from + run.now.entries ≤ length source.now }
-    requires target { run.now.to + run.now.entries ≤ length target.old }
-    requires short { run.now.entries ≤ table_pages }
-    requires fits { place.page + run.now.entries ≤ space_pages }
-    requires room { HasRoomFor nodes.old run.now.entries }
-    requires ready { (from high other : ℕ) × (first head : Option ℕ) × (stamp : ℕ)
-        × (all : Tables) × AreRows from high place.space other source.now target.old
-        nodes.old.slots first head stamp all
-        × (place.page ≡ other * table_pages + run.now.to) }
-    ensures { MatchOption result
-        (AddsRow run.now.from run.now.to run.now.entries place rights source.now target.old
-        target.new nodes.old.slots nodes.new.slots)
-        (λ held. AddsRow run.now.from run.now.to held.0 place rights source.now target.old
-        target.new nodes.old.slots nodes.new.slots × (held.0 < run.now.entries)
-        × (slice_index_or source.now (run.now.from + held.0) None ≡ Some held.1)
-        × IsHeld held.1 rights (run.now.to + held.0) nodes.new.slots
-        nodes.new.slots target.new target.new) }
-{
-    let from = run.from;
-    let to = run.to;
-    let space = place.space;
-    let first = place.page;
-    for step in 0..run.entries {
-        let here = Place {
-            space,
-            page: first + step as u32,
-        };
-        let key = source.at(from + step);
-        if let Some(key) = add_at(nodes, target, to + step, key, here, rights) {
-            return Some((step, key));
-        }
-    }
-    None
-}
-
 /// Returns the run that begins with the page. It ends with a block of entries, with a table, or with the pages.
 #[inline]
 pub(crate) fn run_at(of: &Pages, page: u32) -> Run
@@ -143,119 +60,147 @@ pub(crate) fn run_at(of: &Pages, page: u32) -> Run
     Run { from, to, entries }
 }
 
-/// Makes room for this many children, and allocates the table of the page.
-fn make_room(
-    nodes: &mut Slots,
-    targets: &mut Vec<Row>,
-    page: u32,
-    children: usize,
-) -> Result<(), NoMemory>
-    requires whole { AreWhole targets.old.items }
-    requires full { length targets.old.items ≤ space_tables }
-    requires fits { IsPage page }
-    ensures made { OnOk result (is_made targets.new.items (page / table_pages) ≡ true) }
-    ensures room { OnOk result (HasRoomFor nodes.new children) }
-    ensures slots { nodes.new.slots ≡ nodes.old.slots }
-    ensures same { (other : ℕ) → entry targets.new.items other ≡ entry targets.old.items other }
-    ensures whole { AreWhole targets.new.items }
-    ensures full { length targets.new.items ≤ space_tables }
-{
-    nodes.make_room(children)?;
-    if !is_ready(targets, page) {
-        let alloc = *targets.allocator();
-        make_all(targets, alloc, &[page])?;
+/// Puts a child of the node under the key `parent` in place of the leaf under the other key, which has a parent. If the leaf is its child
+/// already, it only gets the rights.
+#[inline(never)]
+fn renew(nodes: &mut Slots, parent: usize, key: usize, rights: Rights) {
+    let Some(above) = node_of(nodes, parent) else {
+        unreachable!()
+    };
+    let Some(node) = node_of(nodes, key) else {
+        unreachable!()
+    };
+    if let Some(own) = node.parent.key() {
+        if own == parent {
+            let left = above.rights.intersection(rights);
+            return set_rights(nodes, key, left, node.doomed);
+        }
     }
-    Ok(())
+    unlink(nodes, key);
+    let Some(above) = node_of(nodes, parent) else {
+        unreachable!()
+    };
+    link_under(nodes, parent, key, above, rights);
 }
 
-/// Adds children for a page with this key, and for those after it in one run. Returns the page after them.
-fn add_from(
+/// Gives the node under the key a child at the place, which has this entry of the table. Does nothing if there is no key, or if no right is
+/// shared.
+#[inline(always)]
+fn bring_at(
+    nodes: &mut Slots,
+    target: &mut Row,
+    low: usize,
+    key: Option<usize>,
+    place: Place,
+    rights: Rights,
+) {
+    let Some(key) = key else {
+        return;
+    };
+    let Some(above) = sharing(nodes, key, rights) else {
+        return;
+    };
+    if let Some(taken) = target.at(low) {
+        return renew(nodes, key, taken, rights);
+    }
+    let child = add_under(nodes, key, place, &above, rights);
+    target.put(low, child);
+}
+
+/// Gives the pages of the run their children, at the place and those after it.
+#[inline(never)]
+fn bring_run(
+    nodes: &mut Slots,
+    source: &Row,
+    target: &mut Row,
+    run: &Run,
+    place: Place,
+    rights: Rights,
+) {
+    let from = run.from;
+    let to = run.to;
+    let space = place.space;
+    let first = place.page;
+    for step in 0..run.entries {
+        let here = Place {
+            space,
+            page: first + step as u32,
+        };
+        let key = source.at(from + step);
+        bring_at(nodes, target, to + step, key, here, rights);
+    }
+}
+
+/// Gives a page with this key, and those after it in one run, their children. Returns the page after them.
+fn bring_from(
     nodes: &mut Slots,
     sources: &Vec<Row>,
     targets: &mut Vec<Row>,
     of: &Pages,
     page: u32,
     key: usize,
-) -> Result<u32, Halt>
-    requires apart { of.now.source.space ≢ of.now.target.space }
-    requires from { of.now.source.page ≤ page }
-    requires before { page < of.now.end }
-    requires fits { of.now.end - of.now.source.page + of.now.target.page ≤ space_pages }
-    requires shows { entry sources.now.items page ≡ Some key }
-    requires growing { (pages : Tables) × (first head : Option ℕ) × (stamp : ℕ) × (all : Tables)
-        × AreTablesOf pages of.now.source.space sources.now.items
-        × AreGrowing of.now.target.space pages targets.old.items nodes.old.slots first head stamp all }
-    ensures adds { IfOk result (λ next. (page < next) × (next ≤ of.now.end)
-        × AddsPart of.now.source page next of.now.target of.now.rights sources.now.items
-        targets.old.items targets.new.items nodes.old.slots nodes.new.slots) }
-    ensures halts { IfErr result (λ halt. (page ≤ halt.page)
-        × AddsPart of.now.source page halt.page of.now.target of.now.rights sources.now.items
-        targets.old.items targets.new.items nodes.old.slots nodes.new.slots
-        × IsHalted of.now.source of.now.end of.now.target of.now.rights
-        (entries_of nodes.new.slots) halt) }
-{
+) -> u32 {
     let Some(_) = sharing(nodes, key, of.rights) else {
-        return Ok(page + 1);
+        return page + 1;
     };
     let place = place_from(of.source, of.target, page);
-    if let Some(_) = key_in(targets, place.page) {
-        return Err(Halt {
-            page,
-            key,
-            refused: false,
-        });
-    }
     let run = run_at(of, page);
-    let Ok(()) = make_room(nodes, targets, place.page, run.entries) else {
-        return Err(Halt {
-            page,
-            key,
-            refused: true,
-        });
-    };
     let source = &sources[(page / TABLE_PAGES) as usize];
     let target = &mut targets[(place.page / TABLE_PAGES) as usize];
-    let Some((step, key)) = add_run(nodes, source, target, &run, place, of.rights) else {
-        return Ok(page + run.entries as u32);
-    };
-    Err(Halt {
-        page: page + step as u32,
-        key,
-        refused: false,
-    })
+    bring_run(nodes, source, target, &run, place, of.rights);
+    page + run.entries as u32
 }
 
-/// Adds children for all pages, up to the first one whose place has a key, or for which memory is refused.
-pub(crate) fn add_all(
-    nodes: &mut Slots,
-    pages: &Spaces,
-    targets: &mut Vec<Row>,
-    of: &Pages,
-) -> Option<Halt>
-    requires apart { of.now.source.space ≢ of.now.target.space }
-    requires rising { of.now.source.page ≤ of.now.end }
-    requires fits { of.now.end - of.now.source.page + of.now.target.page ≤ space_pages }
-    requires growing { (first head : Option ℕ) × (stamp : ℕ) × (all : Tables)
-        × AreGrowing of.now.target.space pages.now targets.old.items nodes.old.slots first head stamp all }
-    ensures { MatchOption result
-        (AddsPages of.now.source of.now.end of.now.target of.now.rights pages.now targets.old.items
-        targets.new.items nodes.old.slots nodes.new.slots)
-        (λ halt. AddsPages of.now.source halt.page of.now.target of.now.rights pages.now
-        targets.old.items targets.new.items nodes.old.slots nodes.new.slots
-        × IsHalted of.now.source of.now.end of.now.target of.now.rights
-        (entries_of nodes.new.slots) halt) }
-{
-    let Some(sources) = pages.tables(of.source.space) else {
-        return None;
-    };
+/// Gives all pages their children.
+fn bring_item(nodes: &mut Slots, sources: &Vec<Row>, targets: &mut Vec<Row>, of: &Pages) {
     let mut page = of.source.page;
     loop {
         let Some((next, key)) = next_page(sources, page, of.end) else {
-            return None;
+            return;
         };
-        match add_from(nodes, sources, targets, of, next, key) {
-            Ok(after) => page = after,
-            Err(halt) => return Some(halt),
-        }
+        page = bring_from(nodes, sources, targets, of, next, key);
     }
+}
+
+/// Returns for how many slots there must be room for the children of all items, or None if one of them can't take its place. Allocates the
+/// tables of their places.
+fn wants_all(
+    nodes: &Slots,
+    sources: &Vec<Row>,
+    targets: &mut Vec<Row>,
+    from: u64,
+    to: u64,
+    items: &[ItemMove],
+) -> Result<Option<usize>, NoMemory> {
+    let mut wants = 0;
+    for item in 0..items.len() {
+        let of = pages_of(from, to, &items[item]);
+        let found = wants_item(nodes, sources, targets, &of)?;
+        let Some(more) = found else {
+            return Ok(None);
+        };
+        wants += more;
+    }
+    Ok(Some(wants))
+}
+
+/// Gives the pages of all items their children, if each child can take its place. Returns whether it can.
+pub(crate) fn bring_all(
+    nodes: &mut Slots,
+    sources: &Vec<Row>,
+    targets: &mut Vec<Row>,
+    from: u64,
+    to: u64,
+    items: &[ItemMove],
+) -> Result<bool, NoMemory> {
+    let found = wants_all(nodes, sources, targets, from, to, items)?;
+    let Some(wants) = found else {
+        return Ok(false);
+    };
+    nodes.make_room(wants)?;
+    for item in 0..items.len() {
+        let of = pages_of(from, to, &items[item]);
+        bring_item(nodes, sources, targets, &of);
+    }
+    Ok(true)
 }

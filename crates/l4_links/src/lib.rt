@@ -15,16 +15,17 @@ ghost use Rattle.l4_links.specs.Inside.Keeping.{standing_of};
 mod blocks;
 mod burial;
 mod children;
-mod holding;
 mod lists;
 mod parents;
 mod walks;
+mod wants;
 
-use blocks::{Pages, move_block};
+pub use blocks::end_of;
+use blocks::{Pages, move_block, pages_of};
 use burial::cap_at;
-use children::{add_all, sharing};
-use holding::{holds_all, holds_at};
+use children::{bring_all, sharing};
 use l4_fpage::Rights;
+use l4_msg::ItemMove;
 pub use l4_nodes::Place;
 use l4_nodes::{
     Node, Slots, give, node_of, place_of, set_plain, set_rights, set_source, set_wanted,
@@ -60,17 +61,6 @@ pub struct Entry {
     pub wanted: bool,
     /// The node, or None in a blank: a page with a key but without a node.
     pub stands: Option<Standing>,
-}
-
-/// The page at which adding children stopped, since its place has a key or an allocation failed.
-#[derive(Clone, Copy, Debug, PartialEq, Eq)]
-pub struct Halt {
-    /// The page that has no child.
-    pub page: u32,
-    /// Its key.
-    pub key: usize,
-    /// Whether an allocation failed. Otherwise the place has a key.
-    pub refused: bool,
 }
 
 /// The nodes of all pages, and the spaces that exist.
@@ -289,134 +279,56 @@ impl Links {
         self.stamp = fresh(self.stamp);
     }
 
-    /// Gives a child of the parent, from which nothing descends, those of these rights that the parent has, and leaves it at its place.
-    /// They must be at least one. Returns whether the key is that of a child of the parent; changes nothing if it is not.
-    pub fn renew_child(&mut self, parent: usize, key: usize, rights: Rights) -> bool
-        requires leaf { (low : ℕ) → ¬ (Descends self.old.entries low key) }
-        requires plain { (child : AStanding) → standing_at self.old.entries key ≡ Some child
-            → (child.source ≡ false) × (child.granted ≡ None) }
-        requires rights { HaveRights self.old.entries }
-        requires some { (above : AStanding) → standing_at self.old.entries parent ≡ Some above
-            → common above.rights rights ≢ no_rights }
-        ensures sprouts { result ≡ true
-            → Sprouts parent key rights self.old.entries self.new.entries }
-        ensures left { result ≡ false → self.new ≡ self.old }
-        ensures other { result ≡ false → parent_of self.old.entries key ≢ Some parent }
-        ensures spaces { self.new.spaces ≡ self.old.spaces }
-    {
-        let Some(node) = node_of(&self.nodes, key) else {
-            return false;
-        };
-        let Some(own) = node.parent.key() else {
-            return false;
-        };
-        if own != parent {
-            return false;
-        }
-        let Some(above) = node_of(&self.nodes, parent) else {
-            unreachable!()
-        };
-        let left = above.rights.intersection(rights);
-        set_rights(&mut self.nodes, key, left, node.doomed);
-        self.stamp = fresh(self.stamp);
-        true
-    }
-
-    /// Adds a child for each page from the source on and before the end that shares a right with these, at the places from the target on, in
-    /// another space. Each child has its parent's frame, and those of these rights that the parent has. Stops at the first such page whose
-    /// place has a key, or for which an allocation fails, and returns it; the children of the pages before it stay.
-    pub fn add_children(
+    /// Maps the pages of all items from one space to another, where the items are apart and none grants: each page that shares a right with
+    /// its item gets a child at its place, with its own frame and those of the item's rights that it has. What was at that place is gone.
+    /// Returns whether this was done. It is not, and nothing changes, if something descends from what is at one of these places, or the
+    /// root of a tree is there.
+    /// Returns `NoMemory` only if one of these places has no key; then nothing has changed.
+    pub fn map_items(
         &mut self,
-        source: Place,
-        end: u32,
-        target: Place,
-        rights: Rights,
-    ) -> Option<Halt>
-        requires apart { source.space ≢ target.space }
-        requires there { IsTrue (set.contains self.old.spaces target.space) }
-        requires rising { source.page ≤ end }
-        requires fits { end - source.page + target.page ≤ space_pages }
-        ensures adds { MatchOption result
-            (AddsChildren source end target rights self.old.entries self.new.entries)
-            (λ halt. AddsChildren source halt.page target rights self.old.entries self.new.entries
-            × IsHalted source end target rights self.new.entries halt) }
-        ensures spaces { self.new.spaces ≡ self.old.spaces }
-    {
-        if end - source.page == 1 {
-            return self.add_at(source, target, rights);
+        from: u64,
+        to: u64,
+        items: &[ItemMove],
+    ) -> Result<bool, NoMemory> {
+        if items.len() == 1 && items[0].mv.source.log == 0 {
+            let of = pages_of(from, to, &items[0]);
+            let added = self.add_at(of.source, of.target, of.rights)?;
+            if added {
+                return Ok(true);
+            }
         }
-        let mut tables = self.pages.take_tables(target.space);
-        let of = Pages {
-            source,
-            end,
-            target,
-            rights,
+        let mut targets = self.pages.take_tables(to);
+        let done = match self.pages.tables(from) {
+            Some(sources) => bring_all(&mut self.nodes, sources, &mut targets, from, to, items),
+            None => Ok(true),
         };
-        let halt = add_all(&mut self.nodes, &self.pages, &mut tables, &of);
-        self.pages.put_tables(target.space, tables);
+        self.pages.put_tables(to, targets);
         self.stamp = fresh(self.stamp);
-        halt
+        done
     }
 
-    /// Adds the child of one page, whose place is claimed for it in one lookup. To take tables aside would cost more than the page.
-    fn add_at(&mut self, source: Place, target: Place, rights: Rights) -> Option<Halt>
-        requires apart { source.space ≢ target.space }
-        requires there { IsTrue (set.contains self.old.spaces target.space) }
-        requires fits { IsPage target.page }
-        ensures adds { MatchOption result
-            (AddsChildren source (source.page + 1) target rights self.old.entries self.new.entries)
-            (λ halt. AddsChildren source halt.page target rights self.old.entries self.new.entries
-            × IsHalted source (source.page + 1) target rights self.new.entries halt) }
-        ensures spaces { self.new.spaces ≡ self.old.spaces }
-    {
+    /// Adds the child of one page, if its place has no key, or no right is shared. Returns whether this was done. To take tables aside would
+    /// cost more than the page.
+    fn add_at(&mut self, source: Place, target: Place, rights: Rights) -> Result<bool, NoMemory> {
         let Some(key) = self.find(source) else {
-            return None;
+            return Ok(true);
         };
         let Some(above) = sharing(&self.nodes, key, rights) else {
-            return None;
-        };
-        let mut halt = Halt {
-            page: source.page,
-            key,
-            refused: true,
+            return Ok(true);
         };
         let Ok(child) = self.nodes.make_key() else {
-            halt.refused = self.find(target).is_none();
-            return Some(halt);
+            if let Some(_) = self.find(target) {
+                return Ok(false);
+            }
+            return Err(NoMemory);
         };
-        let claimed = match self.pages.claim(target.space, target.page, child) {
-            Ok(claimed) => claimed,
-            Err(_) => return Some(halt),
-        };
+        let claimed = self.pages.claim(target.space, target.page, child)?;
         if !claimed {
-            halt.refused = false;
-            return Some(halt);
+            return Ok(false);
         }
         lists::add_under(&mut self.nodes, key, target, &above, rights);
         self.stamp = fresh(self.stamp);
-        None
-    }
-
-    /// Returns whether each page from the source on and before the end that shares a right with these has a child already, with those of these
-    /// rights that the page has, at the places from the target on. Nothing may descend from these children.
-    pub fn holds_children(&self, source: Place, end: u32, target: Place, rights: Rights) -> bool
-        requires there { IsTrue (set.contains self.now.spaces target.space) }
-        requires rising { source.page ≤ end }
-        requires fits { end - source.page + target.page ≤ space_pages }
-        ensures yes { result ≡ true → HoldsChildren source end target rights self.now.entries }
-        ensures no { result ≡ false
-            → ¬ (HoldsChildren source end target rights self.now.entries) }
-    {
-        if end - source.page == 1 {
-            return holds_at(&self.nodes, self.find(source), self.find(target), rights);
-        }
-        let of = Pages {
-            source,
-            end,
-            target,
-            rights,
-        };
-        holds_all(&self.nodes, &self.pages, &of)
+        Ok(true)
     }
 
     /// Cuts off everything that descends from the key, and leaves a blank under the key. Each node that is cut off is removed with its

@@ -5,16 +5,8 @@ ghost use Rattle.l4_fpage.specs.Pages.{most_pages};
 ghost use Rattle.l4_mapdb.specs.Inside.Cutting.{Capped, IsGrantedAt, IsGrantOf, IsGrantBy, IsGrantBelow};
 
 use crate::ItemMove;
-use l4_fpage::{Block, Rights};
-use l4_links::Links;
-
-/// Returns the page after a block's last one.
-pub(crate) fn end_of(block: Block) -> u32
-    ensures is { result ≡ block.first + 2 ^ block.log }
-    ensures small { result ≤ most_pages }
-{
-    block.first + (1 << block.log)
-}
+use l4_fpage::Rights;
+use l4_links::{Links, end_of};
 
 /// Cuts the rights of the node under the key and of what descends from it, if an item with these rights granted it there.
 fn cut_key(links: &mut Links, key: usize, rights: Rights)

@@ -14,10 +14,9 @@ ghost use Rattle.l4_mapdb.specs.Inside.Tangles.{AreApart};
 ghost use Rattle.l4_mapdb.specs.Inside.Growing.{IsGround};
 ghost use Rattle.l4_mapdb.specs.Inside.Granting.{AreGrants, Handed};
 
-use crate::cutting::end_of;
 use crate::tangles::refusal;
 use crate::{Cause, ItemMove};
-use l4_links::{Links, NoMemory, Place};
+use l4_links::{Links, NoMemory, Place, end_of};
 
 /// Moves the pages of a message with one item, which grants, to their targets, if these are absent and no page has more rights than the
 /// item. Returns whether they were moved; if not, nothing has changed.

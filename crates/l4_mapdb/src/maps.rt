@@ -10,8 +10,6 @@ ghost use Rattle.l4_mapdb.specs.View.{mappings_of};
 ghost use Rattle.l4_mapdb.specs.Delivering.{IsDelivered};
 ghost use Rattle.l4_mapdb.specs.Inside.Growing.{AreMaps, IsGround};
 
-use crate::growing::grow_children;
-use crate::renewing::take_places;
 use crate::tangles::{are_apart, refusal};
 use crate::{Cause, ItemMove};
 use l4_links::Links;
@@ -40,19 +38,15 @@ pub(crate) fn deliver_maps(
         (HasCause (IsUsed (mappings_of links.old) from to items.now) (mappings_of links.old)) }
     ensures spaces { links.new.spaces ≡ links.old.spaces }
 {
-    let Err(stop) = grow_children(links, from, to, items) else {
-        links.law_places();
-        return Ok(true);
-    };
-    if stop.refused {
-        return Err(refusal(links, from, to, items));
-    }
     if !are_apart(items) {
         return Ok(false);
     }
     links.law_places();
     links.law_trees();
-    let taken = take_places(links, from, to, items);
+    let done = match links.map_items(from, to, items) {
+        Ok(done) => done,
+        Err(_) => return Err(refusal(links, from, to, items)),
+    };
     links.law_places();
-    Ok(taken)
+    Ok(done)
 }

@@ -6,9 +6,8 @@ ghost use Rattle.l4_links.specs.Entries.{Linked, IsAt, IsKeyOf};
 ghost use Rattle.l4_mapdb.specs.Inside.Placing.{IsStart, Placed, IsDone, MovesPage, IsSourceAt, MovesNone, HasBlank};
 
 use crate::ItemMove;
-use crate::cutting::end_of;
 use l4_fpage::Rights;
-use l4_links::{Links, Place};
+use l4_links::{Links, Place, end_of};
 
 /// Returns whether a message moves the page of the key: its node is marked and was not granted, and shares a right with the item.
 fn is_moved(links: &Links, key: usize, rights: Rights) -> bool

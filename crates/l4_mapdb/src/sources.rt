@@ -7,8 +7,7 @@ ghost use Rattle.l4_msg.specs.declared.items.ItemMove.{ItemMove as AnItemMove};
 ghost use Rattle.l4_mapdb.specs.Inside.Messages.{IsMoved, turn_of, turn_in, turns_left, IsNextMove, IsNextOfItem};
 
 use crate::ItemMove;
-use crate::cutting::end_of;
-use l4_links::{Links, Place};
+use l4_links::{Links, Place, end_of};
 
 /// The effect of one item of a message on one page.
 #[derive(Clone, Copy)]

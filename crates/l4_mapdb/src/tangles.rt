@@ -7,11 +7,10 @@ ghost use Rattle.l4_mapdb.specs.Inside.Messages.{IsMoved, AreMarked, LacksKey};
 ghost use Rattle.l4_mapdb.specs.Inside.Tangles.{Clashes, ClashesWith, HasTangle, AboveSource, AreApart};
 ghost use Rattle.l4_mapdb.specs.declared.sources.UsedMove.{UsedMove as AUsedMove};
 
-use crate::cutting::end_of;
 use crate::sources::{UsedMove, UsedMoves, later_page, move_out};
 use crate::unmarking::unmark;
 use crate::{Cause, ItemMove};
-use l4_links::{Links, Place};
+use l4_links::{Links, Place, end_of};
 
 /// Returns the used move of the item of this number into the place.
 fn move_into(

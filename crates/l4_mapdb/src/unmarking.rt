@@ -7,9 +7,8 @@ ghost use Rattle.l4_nodes.specs.declared.Place.{Place as ALinkPlace};
 ghost use Rattle.l4_mapdb.specs.Inside.Messages.{Tidies, InPages, OfItem, OfItems};
 
 use crate::ItemMove;
-use crate::cutting::end_of;
 use l4_fpage::Block;
-use l4_links::Links;
+use l4_links::{Links, end_of};
 
 /// Removes the marks from the page of the key, and the key if there is no node.
 fn tidy_key(links: &mut Links, key: usize)

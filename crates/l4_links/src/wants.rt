@@ -1,0 +1,120 @@
+//! Tests whether children of many pages can take their places, which takes no memory but for tables. Nothing else is written.
+
+ghost use Rattle.std.specs.Prelude.{◌≡◌, ℕ};
+
+use crate::blocks::{Pages, place_from};
+use crate::children::{run_at, sharing, Run};
+use crate::walks::is_leaf;
+use l4_fpage::Rights;
+use l4_nodes::{Slots, node_of};
+use l4_spaces::tables::{TABLE_PAGES, is_ready, make_all, next_page};
+use l4_spaces::{NoMemory, Row};
+
+/// Returns whether a child can take the place of the node under the key: the node has a parent, and nothing descends from it.
+#[inline]
+fn can_go(nodes: &Slots, key: usize) -> bool {
+    let Some(node) = node_of(nodes, key) else {
+        return false;
+    };
+    if let None = node.parent.key() {
+        return false;
+    }
+    is_leaf(nodes, key)
+}
+
+/// Returns how many slots a child of a page with this key, or with none, needs at a place with that key: one if there is no key. Returns
+/// None if the child can't take the place. A page that shares no right gets no child.
+#[inline(always)]
+fn wants_at(
+    nodes: &Slots,
+    key: Option<usize>,
+    taken: Option<usize>,
+    rights: Rights,
+) -> Option<usize> {
+    let Some(key) = key else {
+        return Some(0);
+    };
+    let Some(_) = sharing(nodes, key, rights) else {
+        return Some(0);
+    };
+    let Some(taken) = taken else {
+        return Some(1);
+    };
+    if !can_go(nodes, taken) {
+        return None;
+    }
+    Some(0)
+}
+
+/// Returns how many slots the children of the run need, or None if one of them can't take its place.
+#[inline(never)]
+fn wants_run(
+    nodes: &Slots,
+    source: &Row,
+    target: &Row,
+    run: &Run,
+    rights: Rights,
+) -> Option<usize> {
+    let from = run.from;
+    let to = run.to;
+    let mut wants = 0;
+    for step in 0..run.entries {
+        let one = wants_at(nodes, source.at(from + step), target.at(to + step), rights)?;
+        wants += one;
+    }
+    Some(wants)
+}
+
+/// Returns the page after the run that begins with this page, and for how many slots there must be room then. Allocates the table of the
+/// run's places. Returns None if a child can't take its place.
+fn wants_from(
+    nodes: &Slots,
+    sources: &Vec<Row>,
+    targets: &mut Vec<Row>,
+    of: &Pages,
+    page: u32,
+    key: usize,
+) -> Result<Option<(u32, usize)>, NoMemory> {
+    let Some(_) = sharing(nodes, key, of.rights) else {
+        return Ok(Some((page + 1, 0)));
+    };
+    let place = place_from(of.source, of.target, page);
+    let run = run_at(of, page);
+    let after = page + run.entries as u32;
+    let Some(_) = next_page(targets, place.page, place.page + run.entries as u32) else {
+        if !is_ready(targets, place.page) {
+            let alloc = *targets.allocator();
+            make_all(targets, alloc, &[place.page])?;
+        }
+        return Ok(Some((after, run.entries)));
+    };
+    let source = &sources[(page / TABLE_PAGES) as usize];
+    let target = &targets[(place.page / TABLE_PAGES) as usize];
+    let Some(wants) = wants_run(nodes, source, target, &run, of.rights) else {
+        return Ok(None);
+    };
+    Ok(Some((after, wants)))
+}
+
+/// Returns for how many slots there must be room for the children of all pages, or None if one of them can't take its place. Allocates
+/// the tables of their places.
+pub(crate) fn wants_item(
+    nodes: &Slots,
+    sources: &Vec<Row>,
+    targets: &mut Vec<Row>,
+    of: &Pages,
+) -> Result<Option<usize>, NoMemory> {
+    let mut page = of.source.page;
+    let mut wants = 0;
+    loop {
+        let Some((next, key)) = next_page(sources, page, of.end) else {
+            return Ok(Some(wants));
+        };
+        let found = wants_from(nodes, sources, targets, of, next, key)?;
+        let Some((after, more)) = found else {
+            return Ok(None);
+        };
+        wants += more;
+        page = after;
+    }
+}
