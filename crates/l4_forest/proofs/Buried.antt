@@ -3,10 +3,10 @@ use Rattle.std.proofs.Common.{◌≡◌, ◌≢◌, ℕ, Option, Some, None, IsT
 use Rattle.l4_fpage.specs.Rights.{RightsSet, has, common, without, no_rights, all_rights}
 use Rattle.l4_links.specs.declared.Standing.{Standing}
 use Rattle.l4_links.specs.declared.Entry.{Entry}
-use Rattle.l4_links.specs.Entries.{Entries, Linked, entry_at, standing_at, Buries, capped}
+use Rattle.l4_links.specs.Entries.{IsPlain, Entries, Linked, entry_at, standing_at, Buries, capped}
 use Rattle.l4_mapdb.proofs.Unique.{same_value, same_rights}
 use Rattle.l4_mapdb.proofs.RightsLeft.{has-without}
-use Rattle.l4_mapdb.specs.Delivering.{IsClean, IsPlain}
+use Rattle.l4_mapdb.specs.Delivering.{IsClean}
 use Rattle.l4_forest.specs.Inside.Cuts.{CapsKeys, CutsKeys}
 use Rattle.l4_mapdb.proofs.Lost.{HasLost, KeysLose}
 use Rattle.l4_mapdb.proofs.View.{some_standing, no_standing}

@@ -1,16 +1,16 @@
 -- What a contract sees of the nodes: the spaces that exist, the page of each key, and the node there (this profile's own). A node "stands"
 -- if it is a mapping and not a blank.
-use Rattle.std.specs.Prelude.{◌≡◌, ◌≢◌, ◌↔◌, ◌⊎◌, ◌<◌, ◌≤◌, ◌+◌, ◌-◌, ℕ, Bool, true, false, List, Option, Some, None, slice_index_or, option_and_then, if◌then◌else◌, IsTrue, refl}
+use Rattle.std.specs.Prelude.{◌≡◌, ◌≢◌, ◌↔◌, ◌⊎◌, ◌<◌, ◌≤◌, ◌+◌, ◌-◌, ◌^◌, ℕ, Bool, true, false, List, Option, Some, None, slice_get, slice_index_or, option_and_then, if◌then◌else◌, IsTrue, refl}
 use Rattle.std.specs.Option.{option_map}
 use Rattle.std.specs.Ordering.{nat_cmp}
 use Rattle.std.specs.FinSet as set
 use Rattle.std.specs.Coded.{Coded, code_by, coded×, coded_ℕ, coded_bool, coded_list, coded_option}
 use Rattle.l4_fpage.specs.Rights.{RightsSet, rights_code, common, no_rights, Within}
 use Rattle.l4_spaces.specs.Tables.{IsPage}
+use Rattle.l4_msg.specs.declared.items.ItemMove.{ItemMove}
 use Rattle.l4_nodes.specs.declared.Place.{Place}
 use Rattle.l4_links.specs.declared.Standing.{Standing}
 use Rattle.l4_links.specs.declared.Entry.{Entry}
-use Rattle.l4_links.specs.declared.Halt.{Halt}
 use Rattle.l4_links.specs.Leads.{Leads}
 
 -- the entry under each key from 0 on, if there is one
@@ -280,31 +280,66 @@ child_entry place parent above rights = record {
 abbrev pub brought : (source : Place) (end : ℕ) (target : Place) (rights : RightsSet) (s : Entries) (key : ℕ) → IsShared source end rights s key → Entry
 brought source end target rights s key h = child_entry (moved_place source target h.entry.place) key h.standing rights
 
--- Each of these pages that shares a right with these has a child at the place that it goes to, which had no key, and everything else is unchanged.
-pub record AddsChildren (source : Place) (end : ℕ) (target : Place) (rights : RightsSet) (old new : Entries) : Type 0 where
-  pub child : (key : ℕ) (h : IsShared source end rights old key) → (k : ℕ) × (entry_at new k ≡ Some (brought source end target rights old key h))
-  pub kept : (key : ℕ) (e : Entry) → entry_at old key ≡ Some e → entry_at new key ≡ Some e
-  pub only : (k : ℕ) (e : Entry) → entry_at new k ≡ Some e → (entry_at old k ≡ Some e) ⊎ ((key : ℕ) × (h : IsShared source end rights old key) × (e ≡ brought source end target rights old key h))
-  pub free : (key : ℕ) (h : IsShared source end rights old key) → (other : ℕ) → ¬ (IsAt old (moved_place source target h.entry.place) other)
+-- the pages of the item, and the places that they go to, begin here; the page after the last one
+abbrev pub source_of : ℕ → ItemMove → Place
+source_of from by = record { space = from; page = by.mv.source.first }
 
--- Adding children stopped at this one of these pages. It shares a right with these, but its place has a key, or an allocation failed.
-pub record IsHalted (source : Place) (end : ℕ) (target : Place) (rights : RightsSet) (s : Entries) (halt : Halt) : Type 0 where
-  pub shared : IsShared source end rights s halt.key
-  pub page_is : shared.entry.place.page ≡ halt.page
-  pub taken : halt.refused ≡ false → (other : ℕ) × IsAt s (moved_place source target shared.entry.place) other
-  pub absent : halt.refused ≡ true → (other : ℕ) → ¬ (IsAt s (moved_place source target shared.entry.place) other)
+abbrev pub target_of : ℕ → ItemMove → Place
+target_of to by = record { space = to; page = by.mv.target.first }
 
--- what is under the key is a child of what is under the parent's, with those of these rights that the parent has
-pub record HasChild (parent key : ℕ) (rights : RightsSet) (s : Entries) : Type 0 where
-  pub child : Standing
-  pub stands : standing_at s key ≡ Some child
-  pub of : child.parent ≡ Some parent
-  pub above : Standing
-  pub at_parent : standing_at s parent ≡ Some above
-  pub rights_are : child.rights ≡ common above.rights rights
+abbrev pub end_of : ItemMove → ℕ
+end_of by = by.mv.source.first + 2 ^ by.mv.source.log
 
--- Each of these pages that shares a right with these has a child with such rights at the place that it goes to, and nothing descends from the
--- child.
-abbrev pub HoldsChildren : (source : Place) (end : ℕ) (target : Place) → RightsSet → Entries → Type 0
-HoldsChildren source end target rights s =
-    (key : ℕ) (h : IsShared source end rights s key) → (k : ℕ) × IsAt s (moved_place source target h.entry.place) k × HasChild key k rights s × ((low : ℕ) → ¬ (Descends s low k))
+-- the entry is that of the child of one of these pages, which shares a right with these
+abbrev pub IsBrought : (source : Place) (end : ℕ) (target : Place) → RightsSet → Entries → Entry → Type 0
+IsBrought source end target rights s e = (key : ℕ) × (h : IsShared source end rights s key) × (e ≡ brought source end target rights s key h)
+
+-- one of the items before this number brings the entry
+pub record IsDue (from to : ℕ) (items : List ItemMove) (end : ℕ) (s : Entries) (e : Entry) : Type 0 where
+  pub item : ℕ
+  pub by : ItemMove
+  pub before : item < end
+  pub item_is : slice_get items item ≡ Some by
+  pub brings : IsBrought (source_of from by) (end_of by) (target_of to by) by.rights s e
+
+-- an entry that is due is for the place
+abbrev pub IsFilled : (Entry → Type 0) → Place → Type 0
+IsFilled Due place = (e : Entry) × Due e × (e.place ≡ place)
+
+-- what is due is there, what was at its places is gone, and everything else is unchanged
+pub record Brings (Due : Entry → Type 0) (old new : Entries) : Type 0 where
+  pub there : (e : Entry) → Due e → (key : ℕ) × (entry_at new key ≡ Some e)
+  pub kept : (key : ℕ) (e : Entry) → entry_at old key ≡ Some e → ¬ (IsFilled Due e.place) → entry_at new key ≡ Some e
+  pub only : (key : ℕ) (e : Entry) → entry_at new key ≡ Some e → Due e ⊎ ((entry_at old key ≡ Some e) × ¬ (IsFilled Due e.place))
+
+-- nothing descends from what is at a place of what is due
+abbrev pub AreOverLeaves : (Entry → Type 0) → Entries → Type 0
+AreOverLeaves Due s = (e : Entry) → Due e → (key : ℕ) → IsAt s e.place key → (low : ℕ) → ¬ (Descends s low key)
+
+-- what is due is for a place that has no key; or that has one
+pub record LacksKey (Due : Entry → Type 0) (s : Entries) : Type 0 where
+  pub entry : Entry
+  pub due : Due entry
+  pub absent : (key : ℕ) → ¬ (IsAt s entry.place key)
+
+pub record HasOther (Due : Entry → Type 0) (s : Entries) : Type 0 where
+  pub entry : Entry
+  pub due : Due entry
+  pub key : ℕ
+  pub at : IsAt s entry.place key
+
+-- the places of each item end before those of the later ones
+abbrev pub AreApart : List ItemMove → Type 0
+AreApart items = (low high : ℕ) (a b : ItemMove) → low < high → slice_get items low ≡ Some a → slice_get items high ≡ Some b → a.mv.target.first + 2 ^ a.mv.target.log ≤ b.mv.target.first
+
+-- something stands there with a right, and no operation has marked it
+pub record IsPlain (e : Entry) : Type 0 where
+  pub standing : Standing
+  pub stands : e.stands ≡ Some standing
+  pub some_right : standing.rights ≢ no_rights
+  pub unwanted : e.wanted ≡ false
+  pub no_source : standing.source ≡ false
+  pub not_granted : standing.granted ≡ None
+
+abbrev pub ArePlain : Entries → Type 0
+ArePlain s = (key : ℕ) (e : Entry) → entry_at s key ≡ Some e → IsPlain e

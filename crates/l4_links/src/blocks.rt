@@ -1,10 +1,11 @@
 //! Moves pages to other places all at once, under their keys. The trees contain no places, so nothing else changes. The tables of both spaces
 //! are aside meanwhile, so no page is looked for in its space.
 
-ghost use Rattle.std.specs.Prelude.{◌≡◌, ◌≢◌, ◌≤◌, ◌<◌, ◌+◌, ◌-◌, ℕ, length, IfOk, OnErr, MatchOption, Some, None, true, false};
+ghost use Rattle.std.specs.Prelude.{◌≡◌, ◌≢◌, ◌≤◌, ◌<◌, ◌+◌, ◌-◌, ◌^◌, ℕ, length, IfOk, OnErr, MatchOption, Some, None, true, false};
 ghost use Rattle.l4_spaces.specs.Tables.{Tables, IsPage, IsSpace, space_pages, space_tables, table_pages};
 ghost use Rattle.l4_spaces.specs.Rows.{entry, AreWhole};
-ghost use Rattle.l4_links.specs.Entries.{moved_place};
+ghost use Rattle.l4_fpage.specs.Pages.{most_pages};
+ghost use Rattle.l4_links.specs.Entries.{moved_place, source_of, target_of, end_of};
 ghost use Rattle.l4_nodes.specs.Slots.{node_at};
 ghost use Rattle.l4_links.specs.Inside.Moving.{AreWithin, AreFree, CanMove, CanGo, IsStuck, CanGoRow, IsStuckRow, IsStuckIn, CanGoIn, MakesTables, MovesAt, MovesRow, Hinders, LacksPlace, Moves, AreNamed, StayNamed};
 
@@ -38,7 +39,10 @@ pub fn end_of(block: Block) -> u32
 /// Returns the pages of the item, the places that they go to, and the rights that it names.
 #[inline]
 pub(crate) fn pages_of(from: u64, to: u64, by: &ItemMove) -> Pages
-    ensures { result ≡ pages_of from to by.now }
+    ensures source { result.source ≡ source_of from by.now }
+    ensures end { result.end ≡ end_of by.now }
+    ensures target { result.target ≡ target_of to by.now }
+    ensures rights { result.rights ≡ by.now.rights }
 {
     let source = Place {
         space: from,

@@ -96,7 +96,7 @@ impl Model for Links {
 impl Links {
     ghost use Rattle.l4_spaces.specs.Listed.{NoSpaceFrom, IsNextSpace};
     ghost use Rattle.l4_links.specs.ListOf.{IsListOf};
-    ghost use Rattle.l4_links.specs.Entries.{entry_at, standing_at, parent_of, IsStanding, IsBlank, IsAt, IsSource, HaveRights, HavePlaces, AreTrees, NoKeyFrom, IsNextKey, NoKeyIn, IsNextKeyIn, IsKeyOf, NoParentIn, IsNextParentIn, Descends, AddsBlank, Stands, Sprouts, Clears, CutsBelow, Buries, CapsBelow, CapsTree, SetsSource, SetsPlain, SetsWanted, TakesOver, MovesPages, Hinders, LacksPlace, AddsChildren, IsHalted, HoldsChildren};
+    ghost use Rattle.l4_links.specs.Entries.{entry_at, standing_at, parent_of, IsStanding, IsBlank, IsAt, IsSource, HaveRights, HavePlaces, AreTrees, NoKeyFrom, IsNextKey, NoKeyIn, IsNextKeyIn, IsKeyOf, NoParentIn, IsNextParentIn, Descends, AddsBlank, Stands, Sprouts, Clears, CutsBelow, Buries, CapsBelow, CapsTree, SetsSource, SetsPlain, SetsWanted, TakesOver, MovesPages, Hinders, LacksPlace, IsDue, Brings, AreOverLeaves, LacksKey, HasOther, AreApart, ArePlain};
     ghost use Rattle.l4_links.specs.declared.Standing.{Standing as AStanding};
 
     /// Creates a value without pages and spaces. Memory for the nodes of this many pages is allocated at once, except for the tables that
@@ -289,7 +289,29 @@ impl Links {
         from: u64,
         to: u64,
         items: &[ItemMove],
-    ) -> Result<bool, NoMemory> {
+    ) -> Result<bool, NoMemory>
+        requires differ { from ≢ to }
+        requires there { IsTrue (set.contains self.old.spaces to) }
+        requires apart { AreApart items.now }
+        requires plain { ArePlain self.old.entries }
+        ensures brings { IfOk result (λ done. done ≡ true
+            → Brings (IsDue from to items.now (length items.now) self.old.entries) self.old.entries
+            self.new.entries) }
+        ensures leaves { IfOk result (λ done. done ≡ true
+            → AreOverLeaves (IsDue from to items.now (length items.now) self.old.entries)
+            self.old.entries) }
+        ensures left { IfOk result (λ done. done ≡ false → (key : ℕ)
+            → entry_at self.new.entries key ≡ entry_at self.old.entries key) }
+        ensures hinders { IfOk result (λ done. done ≡ false
+            → HasOther (IsDue from to items.now (length items.now) self.old.entries)
+            self.old.entries) }
+        ensures err { OnErr result
+            ((key : ℕ) → entry_at self.new.entries key ≡ entry_at self.old.entries key) }
+        ensures lacks { OnErr result
+            (LacksKey (IsDue from to items.now (length items.now) self.old.entries)
+            self.old.entries) }
+        ensures spaces { self.new.spaces ≡ self.old.spaces }
+    {
         if items.len() == 1 && items[0].mv.source.log == 0 {
             let of = pages_of(from, to, &items[0]);
             let added = self.add_at(of.source, of.target, of.rights)?;

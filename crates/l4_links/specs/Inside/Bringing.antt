@@ -1,0 +1,36 @@
+-- What the pages of a message bring to their places, part by part. (this profile's own)
+use Rattle.std.specs.Prelude.{◌≡◌, ◌≢◌, ◌<◌, ◌+◌, ◌*◌, ℕ, Some, None, true}
+use Rattle.l4_fpage.specs.Rights.{RightsSet}
+use Rattle.l4_spaces.specs.Tables.{table_pages}
+use Rattle.l4_spaces.specs.Rows.{Rows, is_made}
+use Rattle.l4_nodes.specs.declared.Place.{Place}
+use Rattle.l4_links.specs.declared.Standing.{Standing}
+use Rattle.l4_links.specs.declared.Entry.{Entry}
+use Rattle.l4_links.specs.Entries.{Entries, entry_at, standing_at, parent_of, IsAt, IsBrought, IsPlain}
+
+-- a child can take the place of what is under the key: it has a parent, is not marked, and is no parent
+pub record IsSpare (s : Entries) (key : ℕ) (e : Entry) : Type 0 where
+  pub plain : IsPlain e
+  pub parent : plain.standing.parent ≢ None
+  pub leaf : (low : ℕ) → parent_of s low ≢ Some key
+
+-- what is due can take its places
+abbrev pub Fits : (Entry → Type 0) → Entries → Type 0
+Fits Due s = (e : Entry) → Due e → (key : ℕ) (was : Entry) → entry_at s key ≡ Some was → was.place ≡ e.place → IsSpare s key was
+
+-- the tables of the places of what is due are there
+abbrev pub HaveTables : (Entry → Type 0) → Rows → Type 0
+HaveTables Due targets = (e : Entry) → Due e → (high low : ℕ) → e.place.page ≡ high * table_pages + low → low < table_pages → is_made targets high ≡ true
+
+-- what is due on this page is for a place without a key
+pub record IsLacking (source : Place) (end : ℕ) (target : Place) (rights : RightsSet) (s : Entries) (page : ℕ) : Type 0 where
+  pub entry : Entry
+  pub due : IsBrought source end target rights s entry
+  pub page_is : entry.place.page ≡ page
+  pub absent : (key : ℕ) → ¬ (IsAt s entry.place key)
+
+-- of the numbers from the first one on and below the second, at most so many are of these
+pub data AtMost (P : ℕ → Type 0) : ℕ → ℕ → ℕ → Type 0 where
+  none : {end most : ℕ} → AtMost P end end most
+  one : {next end most : ℕ} → AtMost P (next + 1) end most → AtMost P next end (most + 1)
+  pass : {next end most : ℕ} → ¬ (P next) → AtMost P (next + 1) end most → AtMost P next end most
