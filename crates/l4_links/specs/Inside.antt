@@ -3,7 +3,7 @@ pub mod Orders
 pub mod Nodes
 pub mod Stacks
 pub mod Growing
-pub mod Holding
+pub mod Bringing
 pub mod Keeping
 pub mod Moving
 pub mod Parents

@@ -4,7 +4,14 @@ ghost use Rattle.std.specs.Prelude.{◌≡◌, ◌≢◌, ◌≤◌, ◌<◌, �
 ghost use Rattle.l4_fpage.specs.Rights.{common, no_rights};
 ghost use Rattle.l4_spaces.specs.Tables.{space_pages, table_pages};
 ghost use Rattle.l4_nodes.specs.Slots.{node_at};
-ghost use Rattle.l4_links.specs.Inside.Growing.{SharesNone};
+ghost use Rattle.l4_spaces.specs.Tables.{Tables, IsPage};
+ghost use Rattle.l4_spaces.specs.Rows.{entry, is_made, AreTablesOf};
+ghost use Rattle.l4_nodes.specs.Slots.{HasRoomFor};
+ghost use Rattle.l4_links.specs.Entries.{IsBrought, IsDue, AreOverLeaves, LacksKey, HasOther, AreApart, ArePlain, HavePlaces};
+ghost use Rattle.l4_links.specs.Inside.Nodes.{AreKeys, IsForest};
+ghost use Rattle.l4_links.specs.Inside.Keeping.{entries_of, seen};
+ghost use Rattle.l4_links.specs.Inside.Bringing.{Fits, HaveTables, IsLacking, AtMost};
+ghost use Rattle.l4_links.specs.Inside.Growing.{SharesNone, SharesSome, Takes, Lacks, Enters, Renews, IsSpareNode, AreRows, BringsRow, AreGrowing, BringsAll, BringsPart};
 
 use crate::blocks::{Pages, pages_of, place_from};
 use crate::lists::{add_under, link_under, unlink};
@@ -63,7 +70,15 @@ pub(crate) fn run_at(of: &Pages, page: u32) -> Run
 /// Puts a child of the node under the key `parent` in place of the leaf under the other key, which has a parent. If the leaf is its child
 /// already, it only gets the rights.
 #[inline(never)]
-fn renew(nodes: &mut Slots, parent: usize, key: usize, rights: Rights) {
+fn renew(nodes: &mut Slots, parent: usize, key: usize, rights: Rights)
+    requires forest { (ks : List ℕ) × IsForest nodes.old.slots ks }
+    requires few { AreKeys nodes.old.slots }
+    requires shares { SharesSome parent rights nodes.old.slots }
+    requires spare { IsSpareNode key nodes.old.slots }
+    requires apart { parent ≢ key }
+    ensures renews { Renews parent key rights nodes.old.slots nodes.new.slots }
+    ensures room { (more : ℕ) → HasRoomFor nodes.old more → HasRoomFor nodes.new more }
+{
     let Some(above) = node_of(nodes, parent) else {
         unreachable!()
     };
@@ -93,7 +108,20 @@ fn bring_at(
     key: Option<usize>,
     place: Place,
     rights: Rights,
-) {
+)
+    requires forest { (ks : List ℕ) × IsForest nodes.old.slots ks }
+    requires few { AreKeys nodes.old.slots }
+    requires fits { IsPage place.page }
+    requires within { low < length target.old }
+    requires takes { Takes key (slice_index_or target.old low None) rights nodes.old.slots }
+    requires apart { key ≡ slice_index_or target.old low None → key ≡ None }
+    requires room { Lacks key (slice_index_or target.old low None) rights nodes.old.slots → HasRoomFor nodes.old 1 }
+    ensures enters { Enters key place rights low nodes.old.slots nodes.new.slots target.old target.new }
+    ensures lacked { Lacks key (slice_index_or target.old low None) rights nodes.old.slots → (more : ℕ)
+        → HasRoomFor nodes.old (more + 1) → HasRoomFor nodes.new more }
+    ensures room { ¬ (Lacks key (slice_index_or target.old low None) rights nodes.old.slots) → (more : ℕ)
+        → HasRoomFor nodes.old more → HasRoomFor nodes.new more }
+{
     let Some(key) = key else {
         return;
     };
@@ -116,7 +144,21 @@ fn bring_run(
     run: &Run,
     place: Place,
     rights: Rights,
-) {
+)
+    requires source { run.now.from + run.now.entries ≤ length source.now }
+    requires target { run.now.to + run.now.entries ≤ length target.old }
+    requires short { run.now.entries ≤ table_pages }
+    requires fits { place.page + run.now.entries ≤ space_pages }
+    requires ready { (from high other : ℕ) × (first head : Option ℕ) × (stamp : ℕ)
+        × (all : Tables) × AreRows from high place.space other source.now target.old
+        nodes.old.slots first head stamp all
+        × (place.page ≡ other * table_pages + run.now.to)
+        × Fits (IsBrought (record { space = from; page = high * table_pages + run.now.from }) (high * table_pages + run.now.from + run.now.entries) place rights (entries_of nodes.old.slots)) (entries_of nodes.old.slots) }
+    requires room { (wants : ℕ) × HasRoomFor nodes.old wants × AtMost (λ step. Lacks (slice_index_or source.now (run.now.from + step) None) (slice_index_or target.old (run.now.to + step) None) rights nodes.old.slots) 0 run.now.entries wants }
+    ensures brings { BringsRow run.now.from run.now.to run.now.entries place rights source.now target.old
+        target.new nodes.old.slots nodes.new.slots }
+    ensures room { (wants more : ℕ) → AtMost (λ step. Lacks (slice_index_or source.now (run.now.from + step) None) (slice_index_or target.old (run.now.to + step) None) rights nodes.old.slots) 0 run.now.entries wants → HasRoomFor nodes.old (wants + more) → HasRoomFor nodes.new more }
+{
     let from = run.from;
     let to = run.to;
     let space = place.space;
@@ -139,7 +181,25 @@ fn bring_from(
     of: &Pages,
     page: u32,
     key: usize,
-) -> u32 {
+) -> u32
+    requires apart { of.now.source.space ≢ of.now.target.space }
+    requires from { of.now.source.page ≤ page }
+    requires before { page < of.now.end }
+    requires fits { of.now.end - of.now.source.page + of.now.target.page ≤ space_pages }
+    requires shows { entry sources.now.items page ≡ Some key }
+    requires growing { (pages : Tables) × (first head : Option ℕ) × (stamp : ℕ) × (all : Tables)
+        × AreTablesOf pages of.now.source.space sources.now.items
+        × AreGrowing of.now.target.space pages targets.old.items nodes.old.slots first head stamp all }
+    requires takes { Fits (IsBrought of.now.source of.now.end of.now.target of.now.rights (entries_of nodes.old.slots)) (entries_of nodes.old.slots) }
+    requires made { HaveTables (IsBrought of.now.source of.now.end of.now.target of.now.rights (entries_of nodes.old.slots)) targets.old.items }
+    requires room { (wants : ℕ) × HasRoomFor nodes.old wants × AtMost (IsLacking of.now.source of.now.end of.now.target of.now.rights (entries_of nodes.old.slots)) page of.now.end wants }
+    ensures next { (page < result) × (result ≤ of.now.end) }
+    ensures brings { BringsPart of.now.source page result of.now.target of.now.rights sources.now.items
+        targets.old.items targets.new.items nodes.old.slots nodes.new.slots }
+    ensures made { (high : ℕ) → is_made targets.old.items high ≡ true → is_made targets.new.items high ≡ true }
+    ensures room { (wants : ℕ) → HasRoomFor nodes.old wants → AtMost (IsLacking of.now.source of.now.end of.now.target of.now.rights (entries_of nodes.old.slots)) page of.now.end wants
+        → (left : ℕ) × HasRoomFor nodes.new left × AtMost (IsLacking of.now.source of.now.end of.now.target of.now.rights (entries_of nodes.old.slots)) result of.now.end left }
+{
     let Some(_) = sharing(nodes, key, of.rights) else {
         return page + 1;
     };
@@ -152,7 +212,21 @@ fn bring_from(
 }
 
 /// Gives all pages their children.
-fn bring_item(nodes: &mut Slots, sources: &Vec<Row>, targets: &mut Vec<Row>, of: &Pages) {
+fn bring_item(nodes: &mut Slots, sources: &Vec<Row>, targets: &mut Vec<Row>, of: &Pages)
+    requires apart { of.now.source.space ≢ of.now.target.space }
+    requires rising { of.now.source.page ≤ of.now.end }
+    requires fits { of.now.end - of.now.source.page + of.now.target.page ≤ space_pages }
+    requires growing { (pages : Tables) × (first head : Option ℕ) × (stamp : ℕ) × (all : Tables)
+        × AreTablesOf pages of.now.source.space sources.now.items
+        × AreGrowing of.now.target.space pages targets.old.items nodes.old.slots first head stamp all }
+    requires takes { Fits (IsBrought of.now.source of.now.end of.now.target of.now.rights (entries_of nodes.old.slots)) (entries_of nodes.old.slots) }
+    requires made { HaveTables (IsBrought of.now.source of.now.end of.now.target of.now.rights (entries_of nodes.old.slots)) targets.old.items }
+    requires room { (wants : ℕ) × HasRoomFor nodes.old wants × AtMost (IsLacking of.now.source of.now.end of.now.target of.now.rights (entries_of nodes.old.slots)) of.now.source.page of.now.end wants }
+    ensures brings { BringsPart of.now.source of.now.source.page of.now.end of.now.target of.now.rights sources.now.items
+        targets.old.items targets.new.items nodes.old.slots nodes.new.slots }
+    ensures made { (high : ℕ) → is_made targets.old.items high ≡ true → is_made targets.new.items high ≡ true }
+    ensures room { (wants more : ℕ) → AtMost (IsLacking of.now.source of.now.end of.now.target of.now.rights (entries_of nodes.old.slots)) of.now.source.page of.now.end wants → HasRoomFor nodes.old (wants + more) → HasRoomFor nodes.new more }
+{
     let mut page = of.source.page;
     loop {
         let Some((next, key)) = next_page(sources, page, of.end) else {

@@ -1,6 +1,12 @@
 //! Tests whether children of many pages can take their places, which takes no memory but for tables. Nothing else is written.
 
-ghost use Rattle.std.specs.Prelude.{◌≡◌, ℕ};
+ghost use Rattle.std.specs.Prelude.{◌≡◌, ◌≢◌, ◌≤◌, ◌<◌, ◌+◌, ◌-◌, ℕ, List, Option, length, slice_index_or, MatchOption, OnErr, IfOk, IfSome, Some, None, true, false};
+ghost use Rattle.l4_spaces.specs.Tables.{space_pages, space_tables, table_pages};
+ghost use Rattle.l4_spaces.specs.Rows.{entry, AreWhole};
+ghost use Rattle.l4_nodes.specs.Slots.{node_at};
+ghost use Rattle.l4_links.specs.Inside.Nodes.{IsForest};
+ghost use Rattle.l4_links.specs.Inside.Moving.{MakesTables};
+ghost use Rattle.l4_links.specs.Inside.Growing.{IsSpareNode, Takes, Lacks, IsHindered, WantsRow, WantsPages, IsHinderedPage, LacksPage};
 
 use crate::blocks::{Pages, place_from};
 use crate::children::{run_at, sharing, Run};
@@ -12,7 +18,10 @@ use l4_spaces::{NoMemory, Row};
 
 /// Returns whether a child can take the place of the node under the key: the node has a parent, and nothing descends from it.
 #[inline]
-fn can_go(nodes: &Slots, key: usize) -> bool {
+fn can_go(nodes: &Slots, key: usize) -> bool
+    requires forest { (ks : List ℕ) × IsForest nodes.now.slots ks }
+    ensures { result ≡ true → IsSpareNode key nodes.now.slots }
+{
     let Some(node) = node_of(nodes, key) else {
         return false;
     };
@@ -30,7 +39,13 @@ fn wants_at(
     key: Option<usize>,
     taken: Option<usize>,
     rights: Rights,
-) -> Option<usize> {
+) -> Option<usize>
+    requires forest { (ks : List ℕ) × IsForest nodes.now.slots ks }
+    ensures takes { MatchOption result (IsHindered key taken rights nodes.now.slots)
+        (λ _. Takes key taken rights nodes.now.slots) }
+    ensures lacks { IfSome result (λ wants. (1 ≤ wants → Lacks key taken rights nodes.now.slots)
+        × (Lacks key taken rights nodes.now.slots → wants ≡ 1) × (wants ≤ 1)) }
+{
     let Some(key) = key else {
         return Some(0);
     };
@@ -54,7 +69,17 @@ fn wants_run(
     target: &Row,
     run: &Run,
     rights: Rights,
-) -> Option<usize> {
+) -> Option<usize>
+    requires forest { (ks : List ℕ) × IsForest nodes.now.slots ks }
+    requires source { length source.now ≡ table_pages }
+    requires target { length target.now ≡ table_pages }
+    requires from { run.now.from + run.now.entries ≤ table_pages }
+    requires to { run.now.to + run.now.entries ≤ table_pages }
+    ensures { MatchOption result ((step : ℕ) × (step < run.now.entries)
+        × IsHindered (slice_index_or source.now (run.now.from + step) None) (slice_index_or target.now (run.now.to + step) None) rights nodes.now.slots)
+        (λ wants. (wants ≤ run.now.entries) × WantsRow run.now.from run.now.to run.now.entries rights source.now target.now
+        wants nodes.now.slots) }
+{
     let from = run.from;
     let to = run.to;
     let mut wants = 0;
@@ -74,7 +99,24 @@ fn wants_from(
     of: &Pages,
     page: u32,
     key: usize,
-) -> Result<Option<(u32, usize)>, NoMemory> {
+) -> Result<Option<(u32, usize)>, NoMemory>
+    requires forest { (ks : List ℕ) × IsForest nodes.now.slots ks }
+    requires sources { AreWhole sources.now.items }
+    requires whole { AreWhole targets.old.items }
+    requires full { length targets.old.items ≤ space_tables }
+    requires from { of.now.source.page ≤ page }
+    requires before { page < of.now.end }
+    requires fits { of.now.end - of.now.source.page + of.now.target.page ≤ space_pages }
+    requires shows { entry sources.now.items page ≡ Some key }
+    ensures wants { IfOk result (λ found. MatchOption found
+        (IsHinderedPage of.now.source.page page of.now.end of.now.target.page of.now.rights sources.now.items
+        targets.old.items nodes.now.slots)
+        (λ found. (page < found.0) × (found.0 ≤ of.now.end) × (found.1 ≤ found.0 - page) × WantsPages of.now.source.page
+        page found.0 of.now.target.page of.now.rights sources.now.items targets.new.items found.1 nodes.now.slots)) }
+    ensures lacks { OnErr result (LacksPage of.now.source.page page of.now.end of.now.target.page
+        of.now.rights sources.now.items targets.old.items nodes.now.slots) }
+    ensures makes { MakesTables targets.old.items targets.new.items }
+{
     let Some(_) = sharing(nodes, key, of.rights) else {
         return Ok(Some((page + 1, 0)));
     };
@@ -103,7 +145,22 @@ pub(crate) fn wants_item(
     sources: &Vec<Row>,
     targets: &mut Vec<Row>,
     of: &Pages,
-) -> Result<Option<usize>, NoMemory> {
+) -> Result<Option<usize>, NoMemory>
+    requires forest { (ks : List ℕ) × IsForest nodes.now.slots ks }
+    requires sources { AreWhole sources.now.items }
+    requires whole { AreWhole targets.old.items }
+    requires full { length targets.old.items ≤ space_tables }
+    requires rising { of.now.source.page ≤ of.now.end }
+    requires fits { of.now.end - of.now.source.page + of.now.target.page ≤ space_pages }
+    ensures wants { IfOk result (λ found. MatchOption found
+        (IsHinderedPage of.now.source.page of.now.source.page of.now.end of.now.target.page of.now.rights
+        sources.now.items targets.old.items nodes.now.slots)
+        (λ wants. (wants ≤ of.now.end - of.now.source.page) × WantsPages of.now.source.page of.now.source.page of.now.end
+        of.now.target.page of.now.rights sources.now.items targets.new.items wants nodes.now.slots)) }
+    ensures lacks { OnErr result (LacksPage of.now.source.page of.now.source.page of.now.end
+        of.now.target.page of.now.rights sources.now.items targets.old.items nodes.now.slots) }
+    ensures makes { MakesTables targets.old.items targets.new.items }
+{
     let mut page = of.source.page;
     let mut wants = 0;
     loop {

@@ -4,7 +4,7 @@ use Rattle.l4_fpage.specs.Rights.{no_rights}
 use Rattle.l4_nodes.specs.declared.Place.{Place as LinkPlace}
 use Rattle.l4_links.specs.declared.Standing.{Standing}
 use Rattle.l4_links.specs.declared.Entry.{Entry}
-use Rattle.l4_links.specs.Entries.{Entries, Linked, entry_at, standing_at, HavePlaces, AreTrees, Buries}
+use Rattle.l4_links.specs.Entries.{IsPlain, Entries, Linked, entry_at, standing_at, HavePlaces, AreTrees, Buries}
 use Rattle.l4_mapdb.specs.declared.Place.{Place}
 use Rattle.l4_mapdb.specs.declared.Mapping.{Mapping}
 use Rattle.l4_msg.specs.declared.items.ItemMove.{ItemMove}
@@ -14,7 +14,7 @@ use Rattle.l4_mapdb.specs.Transfer.{PageMove, IsCut, Delivers}
 use Rattle.l4_mapdb.proofs.Unique.{same_value}
 use Rattle.l4_mapdb.specs.View.{link_place, map_place, place_at, mapping_of, mappings_of}
 use Rattle.l4_mapdb.specs.Inside.View.{IsShown}
-use Rattle.l4_mapdb.specs.Delivering.{IsPlain, IsClean, RootsKnown}
+use Rattle.l4_mapdb.specs.Delivering.{IsClean, RootsKnown}
 use Rattle.l4_mapdb.specs.Inside.Cutting.{bare, Capped, IsGrantBelow}
 use Rattle.l4_mapdb.specs.Inside.Messages.{plain, tidied, Tidies, OfItems}
 use Rattle.l4_mapdb.specs.Inside.Placing.{IsStart, Used, Placed}

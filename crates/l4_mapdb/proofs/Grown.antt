@@ -22,7 +22,7 @@ use Rattle.l4_mapdb.proofs.Unique.{same_value}
 use Rattle.l4_mapdb.proofs.Moves.{found_of, is_at}
 use Rattle.l4_mapdb.proofs.View.{shown_by_key, key_shows}
 use Rattle.l4_mapdb.proofs.Keyed.{page_move, used_of, key_of, present_key, above_key, entangled_keys}
-use Rattle.l4_mapdb.proofs.GrowthSteps.{source_entry}
+use Rattle.l4_mapdb.proofs.Brought.{source_entry}
 use Rattle.l4_mapdb.proofs.Filled.{BecomesBy}
 use Rattle.l4_mapdb.proofs.Nothing.{cuts_none}
 use Rattle.l4_mapdb.proofs.Single.{moved_by}

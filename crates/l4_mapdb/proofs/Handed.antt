@@ -26,7 +26,7 @@ use Rattle.l4_mapdb.proofs.Moves.{found_of, is_at, one_by, move_at}
 use Rattle.l4_mapdb.proofs.View.{shown_by_key, key_shows, stands_at}
 use Rattle.l4_mapdb.proofs.Keyed.{page_move, used_of, key_of, source_is, present_key, entangled_keys}
 use Rattle.l4_mapdb.proofs.Apart.{none_tangled}
-use Rattle.l4_mapdb.proofs.GrowthSteps.{source_entry}
+use Rattle.l4_mapdb.proofs.Brought.{source_entry}
 use Rattle.l4_mapdb.proofs.Single.{moved_by}
 use Rattle.l4_mapdb.proofs.Nothing.{cuts_none}
 

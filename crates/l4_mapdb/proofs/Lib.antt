@@ -9,7 +9,6 @@ pub mod ForestMoved
 pub mod Nothing
 pub mod Places
 pub mod RightsLeft
-pub mod Shrinking
 pub mod Single
 pub mod Unique
 pub mod UsedMoves
@@ -23,8 +22,7 @@ pub mod Finished
 pub mod Gone
 pub mod Handed
 pub mod Grown
-pub mod GrowthSteps
-pub mod BlockGrowth
+pub mod Brought
 pub mod ItemWalk
 pub mod Keyed
 pub mod Leading
@@ -38,8 +36,6 @@ pub mod OneGrant
 pub mod Prepared
 pub mod Restored
 pub mod RoomMade
-pub mod RenewSteps
-pub mod Held
 pub mod Rooming
 pub mod SameRights
 pub mod Sourced

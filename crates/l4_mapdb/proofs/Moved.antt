@@ -7,7 +7,7 @@ use Rattle.l4_fpage.specs.Rights.{RightsSet, common}
 use Rattle.l4_nodes.specs.declared.Place.{Place as LinkPlace}
 use Rattle.l4_links.specs.declared.Standing.{Standing}
 use Rattle.l4_links.specs.declared.Entry.{Entry}
-use Rattle.l4_links.specs.Entries.{Linked, entry_at, IsAt, HavePlaces}
+use Rattle.l4_links.specs.Entries.{IsPlain, Linked, entry_at, IsAt, HavePlaces}
 use Rattle.l4_mapdb.specs.declared.Place.{Place}
 use Rattle.l4_mapdb.specs.declared.Mapping.{Mapping}
 use Rattle.l4_msg.specs.declared.items.ItemMove.{ItemMove}
@@ -19,7 +19,6 @@ use Rattle.l4_mapdb.proofs.ForestKept.{decide}
 use Rattle.l4_mapdb.proofs.UsedMoves.{known_moves}
 use Rattle.l4_mapdb.specs.View.{link_place, map_place, place_at, mapping_of, mappings_of}
 use Rattle.l4_mapdb.specs.Inside.View.{IsShown}
-use Rattle.l4_mapdb.specs.Delivering.{IsPlain}
 use Rattle.l4_mapdb.proofs.EntriesLemmas.{decided}
 use Rattle.l4_mapdb.specs.Inside.Placing.{IsStart, Used, HasGone, IsLeftAt, HasChild, Placed}
 use Rattle.l4_mapdb.specs.Inside.Settling.{left_by, settled_standing, settled_entry, settled}

@@ -13,7 +13,7 @@ use Rattle.l4_mapdb.specs.Inside.Growing.{IsGround}
 use Rattle.l4_mapdb.specs.Inside.Granting.{handed_to, IsGiven, Handed}
 use Rattle.l4_mapdb.proofs.Unique.{same_value}
 use Rattle.l4_mapdb.proofs.Moves.{stands_as}
-use Rattle.l4_mapdb.proofs.GrowthSteps.{source_entry}
+use Rattle.l4_mapdb.proofs.Brought.{source_entry}
 use Rattle.l4_mapdb.proofs.Handed.{common_all}
 
 -- where there is one item, each item is that one

@@ -3,7 +3,6 @@ pub mod Granting
 pub mod Growing
 pub mod Messages
 pub mod Placing
-pub mod Renewing
 pub mod Settling
 pub mod Tangles
 pub mod View

@@ -1,5 +1,5 @@
-//! A message that only maps, from one space to another, has two short paths: children at absent places, and children that replace nodes
-//! without descendants. Neither marks anything.
+//! The short path for a message that only maps, from one space to another. It is taken if nothing descends from what is at the message's
+//! targets. Nothing is marked.
 
 ghost use Rattle.std.specs.Prelude.{◌≡◌, ℕ, IsTrue, OnErr, IfOk, IfErr, true, false};
 ghost use Rattle.std.specs.FinSet as set;
@@ -14,8 +14,8 @@ use crate::tangles::{are_apart, refusal};
 use crate::{Cause, ItemMove};
 use l4_links::Links;
 
-/// Delivers a message that only maps, from one space to another, if the targets of its used moves are absent, or if its items fill no page
-/// twice, all of these targets are present, and nothing descends from them. Returns whether it was delivered; if not, nothing has changed.
+/// Delivers a message that only maps, from one space to another, if its items fill no page twice, and what is at the targets of its used
+/// moves has parents and no descendants. Returns whether it was delivered; if not, nothing has changed.
 ///
 /// Returns `NoMemory` if an allocation fails, or `Entangled` if one fails for a message that is entangled.
 pub(crate) fn deliver_maps(
@@ -41,8 +41,6 @@ pub(crate) fn deliver_maps(
     if !are_apart(items) {
         return Ok(false);
     }
-    links.law_places();
-    links.law_trees();
     let done = match links.map_items(from, to, items) {
         Ok(done) => done,
         Err(_) => return Err(refusal(links, from, to, items)),

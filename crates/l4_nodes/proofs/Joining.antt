@@ -51,10 +51,10 @@ used_set (None ∷ slots) zero p q at = let z : ◌≡◌ {A = Option Packed} No
 used_set (Some x ∷ slots) zero p q at = omega (arith, one_more (Some q) slots, one_more (Some x) slots)
 used_set (x ∷ slots) (suc key) p q at = omega (arith, used_set slots key p q at, one_more x (slice_set slots key (Some q)), one_more x slots)
 
-pub room_set : (slots : List (Option Packed)) (notes : List Note) (key : ℕ) (p q : Packed) (more capacity : ℕ) → Some p ≡ slice_index_or slots key None
-    → count_by is_some (joined slots notes) + more ≤ capacity → count_by is_some (joined (slice_set slots key (Some q)) notes) + more ≤ capacity
-room_set slots notes key p q more capacity at le =
-    room_joined (slice_set slots key (Some q)) notes more capacity (subst (λ (n : ℕ). n + more ≤ capacity) (sym (used_set slots key p q (sym at))) (room_parted slots notes more capacity le))
+pub room_set : (slots : List (Option Packed)) (notes later : List Note) (key : ℕ) (p q : Packed) (more capacity : ℕ) → Some p ≡ slice_index_or slots key None
+    → count_by is_some (joined slots notes) + more ≤ capacity → count_by is_some (joined (slice_set slots key (Some q)) later) + more ≤ capacity
+room_set slots notes later key p q more capacity at le =
+    room_joined (slice_set slots key (Some q)) later more capacity (subst (λ (n : ℕ). n + more ≤ capacity) (sym (used_set slots key p q (sym at))) (room_parted slots notes more capacity le))
 
 -- a slot is read with what is noted of its key
 pub joined_at : (slots : List (Option Packed)) (notes : List Note) (key : ℕ) → slot_at (joined slots notes) key ≡ option_map (λ (p : Packed). slot_shown p (note_of notes key)) (slice_index_or slots key None)

@@ -84,7 +84,8 @@ pub fn is_wanted(nodes: &Slots, key: usize) -> bool
 /// Writes this node into the slot under the key, without any record of a walk. Changes nothing if there is no slot.
 pub fn write(nodes: &mut Slots, key: usize, node: Node)
     requires { IsKey node.depth }
-    ensures { Writes key (Some (unnoted node)) nodes.old.slots nodes.new.slots }
+    ensures writes { Writes key (Some (unnoted node)) nodes.old.slots nodes.new.slots }
+    ensures room { (more : ℕ) → HasRoomFor nodes.old more → HasRoomFor nodes.new more }
 {
     let Some(slot) = nodes.packed.get_mut(key) else {
         return;
@@ -95,7 +96,8 @@ pub fn write(nodes: &mut Slots, key: usize, node: Node)
 
 /// Makes the slot under the key a blank. Changes nothing if there is no slot.
 pub fn empty(nodes: &mut Slots, key: usize)
-    ensures { Writes key None nodes.old.slots nodes.new.slots }
+    ensures writes { Writes key None nodes.old.slots nodes.new.slots }
+    ensures room { (more : ℕ) → HasRoomFor nodes.old more → HasRoomFor nodes.new more }
 {
     let Some(slot) = nodes.packed.get_mut(key) else {
         return;
@@ -165,7 +167,8 @@ pub fn set_prev(nodes: &mut Slots, at: Link, prev: Link)
 
 /// Sets the rights of the node, and the key after it on the stack of nodes without rights.
 pub fn set_rights(nodes: &mut Slots, key: usize, rights: Rights, doomed: Link)
-    ensures { SetsRights key rights doomed nodes.old.slots nodes.new.slots }
+    ensures sets { SetsRights key rights doomed nodes.old.slots nodes.new.slots }
+    ensures room { (more : ℕ) → HasRoomFor nodes.old more → HasRoomFor nodes.new more }
 {
     let Some(slot) = nodes.packed.get_mut(key) else {
         return;

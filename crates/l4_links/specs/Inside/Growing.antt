@@ -1,17 +1,21 @@
--- Children of the pages of one table, at places of another one. (this profile's own)
-use Rattle.std.specs.Prelude.{◌≡◌, ◌≢◌, ◌⊎◌, ◌+◌, ◌*◌, ℕ, List, Option, Some, None, IsTrue, slice_index_or, slice_set}
+-- Children of the pages of one table, at places of another one, and whether they can take these. (this profile's own)
+use Rattle.std.specs.Prelude.{◌≡◌, ◌≢◌, ◌⊎◌, ◌<◌, ◌≤◌, ◌+◌, ◌-◌, ◌*◌, ◌/◌, ℕ, List, Option, Some, None, IsTrue, true, slice_index_or, slice_set}
 use Rattle.std.specs.FinSet as set
 use Rattle.l4_fpage.specs.Rights.{RightsSet, common, no_rights}
 use Rattle.l4_spaces.specs.Tables.{Tables, key_of, table_pages}
-use Rattle.l4_spaces.specs.Rows.{Rows, AreTablesOf, AreAside, IsRowOf, InTable}
+use Rattle.l4_spaces.specs.Rows.{Rows, entry, is_made, AreTablesOf, AreAside, IsRowOf, InTable}
 use Rattle.l4_spaces.specs.Keys.{IsKey}
 use Rattle.l4_nodes.specs.declared.Place.{Place}
 use Rattle.l4_nodes.specs.declared.nodes.Node.{Node}
 use Rattle.l4_nodes.specs.Slots.{Slots, node_at}
-use Rattle.l4_links.specs.Inside.Nodes.{AddsUnder}
+use Rattle.l4_links.specs.declared.Entry.{Entry}
+use Rattle.l4_links.specs.Leads.{Leads}
+use Rattle.l4_links.specs.Inside.Trees.{parent_at}
+use Rattle.l4_links.specs.Inside.Nodes.{limbs, AddsUnder}
+use Rattle.l4_links.specs.Inside.Bringing.{AtMost}
 use Rattle.l4_links.specs.Inside.Stacks.{HasStack}
 use Rattle.l4_links.specs.Inside.Keeping.{IsIndexed, IsLive, entries_of}
-use Rattle.l4_links.specs.Entries.{moved_place, AddsChildren}
+use Rattle.l4_links.specs.Entries.{moved_place, Sprouts, IsBrought, Brings}
 
 -- what is under the key shares no right with these
 abbrev pub SharesNone : ℕ → RightsSet → Slots → Type 0
@@ -53,22 +57,32 @@ pub record AreSameBeyond (to other : ℕ) (old new : Tables) : Type 0 where
 
 -- The first of these entries of the source's table have their children at the entries of the target's table, and at this place and those after it.
 -- All else is as it was.
-abbrev pub AddsRow : (f t n : ℕ) → Place → RightsSet → (source row_old row_new : List (Option ℕ)) → Slots → Slots → Type 0
-AddsRow f t n place rights source row_old row_new old new =
+abbrev pub BringsRow : (f t n : ℕ) → Place → RightsSet → (source row_old row_new : List (Option ℕ)) → Slots → Slots → Type 0
+BringsRow f t n place rights source row_old row_new old new =
     (from high other : ℕ) (first head : Option ℕ) (stamp : ℕ) (all : Tables) → AreRows from high place.space other source row_old old first head stamp all → place.page ≡ other * table_pages + t
     → (later : Tables) × AreRows from high place.space other source row_new new first head stamp later × AreSameBeyond place.space other all later
-    × AddsChildren (record { space = from; page = high * table_pages + f }) (high * table_pages + f + n) place rights (entries_of old) (entries_of new)
+    × Brings (IsBrought (record { space = from; page = high * table_pages + f }) (high * table_pages + f + n) place rights (entries_of old)) (entries_of old) (entries_of new)
+
+-- what is under the key gives its place to a child of what is under the other one: the trees are mended, and each page keeps its key
+pub record Renews (parent key : ℕ) (rights : RightsSet) (old new : Slots) : Type 0 where
+  pub sprouts : Sprouts parent key rights (entries_of old) (entries_of new)
+  pub live : (first : Option ℕ) (stamp : ℕ) → IsLive old first stamp → IsLive new first stamp
+  pub stack : (head : Option ℕ) → HasStack old head → HasStack new head
+  pub indexed : (all : Tables) → IsIndexed old all → IsIndexed new all
+
+-- the entry of the target's table names what a child takes the place of
+pub record RenewsAt (parent : ℕ) (rights : RightsSet) (low : ℕ) (old new : Slots) (row_old row_new : List (Option ℕ)) : Type 0 where
+  pub shares : SharesSome parent rights old
+  pub key : ℕ
+  pub taken : slice_index_or row_old low None ≡ Some key
+  pub renews : Renews parent key rights old new
+  pub same : row_new ≡ row_old
 
 -- what has come of an entry of the source's table, which names this key or none: nothing, where no right is shared, or else a child
 abbrev pub Enters : Option ℕ → Place → RightsSet → ℕ → Slots → Slots → List (Option ℕ) → List (Option ℕ) → Type 0
 Enters key place rights low old new row_old row_new =
-    (((k : ℕ) → key ≡ Some k → SharesNone k rights old) × IsSameRow old new row_old row_new) ⊎ ((k : ℕ) × (key ≡ Some k) × AddsAt k place rights low old new row_old row_new)
-
--- No child has come, though a right is shared, as the entry of the target's table names a key. Nothing has changed.
-pub record IsHeld (key : ℕ) (rights : RightsSet) (low : ℕ) (old new : Slots) (row_old row_new : List (Option ℕ)) : Type 0 where
-  pub shares : SharesSome key rights old
-  pub same : IsSameRow old new row_old row_new
-  pub taken : slice_index_or row_old low None ≢ None
+    (((k : ℕ) → key ≡ Some k → SharesNone k rights old) × IsSameRow old new row_old row_new)
+    ⊎ ((k : ℕ) × (key ≡ Some k) × (AddsAt k place rights low old new row_old row_new ⊎ RenewsAt k rights low old new row_old row_new))
 
 -- The nodes are trees. The tables of one space are aside, and with these back in place the tables name each page's key.
 pub record AreGrowing (to : ℕ) (pages : Tables) (targets : Rows) (slots : Slots) (first head : Option ℕ) (stamp : ℕ) (all : Tables) : Type 0 where
@@ -78,14 +92,51 @@ pub record AreGrowing (to : ℕ) (pages : Tables) (targets : Rows) (slots : Slot
   pub indexed : IsIndexed slots all
   pub there : IsTrue (set.contains all.spaces to)
 
--- the pages from the source on and below the end have their children, while the tables of the target's space are aside
-abbrev pub AddsPages : (source : Place) (end : ℕ) (target : Place) → RightsSet → Tables → (old_rows new_rows : Rows) → (old new : Slots) → Type 0
-AddsPages source end target rights pages old_rows new_rows old new =
-    (first head : Option ℕ) (stamp : ℕ) (all : Tables) → AreGrowing target.space pages old_rows old first head stamp all
-    → (later : Tables) × AreGrowing target.space pages new_rows new first head stamp later × AddsChildren source end target rights (entries_of old) (entries_of new)
+-- what is due is there, while the tables of the places' space are aside
+abbrev pub BringsAll : ℕ → (Entry → Type 0) → Tables → (old_rows new_rows : Rows) → (old new : Slots) → Type 0
+BringsAll to Due pages old_rows new_rows old new =
+    (first head : Option ℕ) (stamp : ℕ) (all : Tables) → AreGrowing to pages old_rows old first head stamp all
+    → (later : Tables) × AreGrowing to pages new_rows new first head stamp later × Brings Due (entries_of old) (entries_of new)
 
 -- the same for the pages from this one on, whose tables these are
-abbrev pub AddsPart : (source : Place) (page end : ℕ) (target : Place) → RightsSet → (sources old_rows new_rows : Rows) → (old new : Slots) → Type 0
-AddsPart source page end target rights sources old_rows new_rows old new =
+abbrev pub BringsPart : (source : Place) (page end : ℕ) (target : Place) → RightsSet → (sources old_rows new_rows : Rows) → (old new : Slots) → Type 0
+BringsPart source page end target rights sources old_rows new_rows old new =
     (pages : Tables) → AreTablesOf pages source.space sources
-    → AddsPages (record { space = source.space; page = page }) end (moved_place source target (record { space = source.space; page = page })) rights pages old_rows new_rows old new
+    → BringsAll target.space (IsBrought (record { space = source.space; page = page }) end (moved_place source target (record { space = source.space; page = page })) rights (entries_of old)) pages old_rows new_rows old new
+
+-- what is under the key can give its place to a child: it has a parent, and nothing descends from it
+pub record IsSpareNode (key : ℕ) (slots : Slots) : Type 0 where
+  pub node : Node
+  pub stands : node_at slots key ≡ Some node
+  pub parent : node.parent ≢ None
+  pub leaf : (low : ℕ) → ¬ (Leads (parent_at (limbs slots)) low key)
+
+-- a child of what is under the first key, if there is one and it shares a right, finds its entry free, or can take it
+abbrev pub Takes : Option ℕ → Option ℕ → RightsSet → Slots → Type 0
+Takes key taken rights slots = (k : ℕ) → key ≡ Some k → SharesSome k rights slots → (taken ≡ None) ⊎ ((t : ℕ) × (taken ≡ Some t) × IsSpareNode t slots)
+
+-- it is due, and finds its entry free; or not free
+abbrev pub Lacks : Option ℕ → Option ℕ → RightsSet → Slots → Type 0
+Lacks key taken rights slots = (k : ℕ) × (key ≡ Some k) × SharesSome k rights slots × (taken ≡ None)
+
+abbrev pub IsHindered : Option ℕ → Option ℕ → RightsSet → Slots → Type 0
+IsHindered key taken rights slots = (k : ℕ) × (key ≡ Some k) × SharesSome k rights slots × (taken ≢ None)
+
+-- so it is for each of these entries; at most so many find theirs free
+pub record WantsRow (f t n : ℕ) (rights : RightsSet) (source target : List (Option ℕ)) (wants : ℕ) (slots : Slots) : Type 0 where
+  pub takes : (step : ℕ) → step < n → Takes (slice_index_or source (f + step) None) (slice_index_or target (t + step) None) rights slots
+  pub most : AtMost (λ step. Lacks (slice_index_or source (f + step) None) (slice_index_or target (t + step) None) rights slots) 0 n wants
+  pub some : 1 ≤ wants → (step : ℕ) × (step < n) × Lacks (slice_index_or source (f + step) None) (slice_index_or target (t + step) None) rights slots
+
+-- the same for pages, by the tables; those of the places that lack a key are there
+pub record WantsPages (source from end target : ℕ) (rights : RightsSet) (sources targets : Rows) (wants : ℕ) (slots : Slots) : Type 0 where
+  pub takes : (page : ℕ) → from ≤ page → page < end → Takes (entry sources page) (entry targets (page - source + target)) rights slots
+  pub made : (page : ℕ) → from ≤ page → page < end → Lacks (entry sources page) (entry targets (page - source + target)) rights slots → is_made targets ((page - source + target) / table_pages) ≡ true
+  pub most : AtMost (λ page. Lacks (entry sources page) (entry targets (page - source + target)) rights slots) from end wants
+  pub some : 1 ≤ wants → (page : ℕ) × (from ≤ page) × (page < end) × Lacks (entry sources page) (entry targets (page - source + target)) rights slots
+
+abbrev pub IsHinderedPage : (source from end target : ℕ) → RightsSet → (sources targets : Rows) → Slots → Type 0
+IsHinderedPage source from end target rights sources targets slots = (page : ℕ) × (from ≤ page) × (page < end) × IsHindered (entry sources page) (entry targets (page - source + target)) rights slots
+
+abbrev pub LacksPage : (source from end target : ℕ) → RightsSet → (sources targets : Rows) → Slots → Type 0
+LacksPage source from end target rights sources targets slots = (page : ℕ) × (from ≤ page) × (page < end) × Lacks (entry sources page) (entry targets (page - source + target)) rights slots

@@ -1,15 +1,14 @@
--- Children that the pages of a message get, one after another, where nothing is at its targets. (this profile's own)
-use Rattle.std.specs.Prelude.{◌≡◌, ◌≢◌, ◌⊎◌, ◌<◌, ◌≤◌, ◌+◌, ◌-◌, ℕ, Bool, List, Some, None, false, true, slice_get}
+-- Children that the pages of a message get. (this profile's own)
+use Rattle.std.specs.Prelude.{◌≡◌, ◌≢◌, ◌⊎◌, ◌+◌, ◌-◌, ℕ, Bool, List, Some, None, false, slice_get}
 use Rattle.l4_fpage.specs.Rights.{RightsSet, common}
 use Rattle.l4_nodes.specs.declared.Place.{Place as LinkPlace}
 use Rattle.l4_links.specs.declared.Standing.{Standing}
 use Rattle.l4_links.specs.declared.Entry.{Entry}
-use Rattle.l4_links.specs.Entries.{Entries, Linked, entry_at, IsAt, Descends, HavePlaces, AreTrees, cut_off}
+use Rattle.l4_links.specs.Entries.{Linked, entry_at, IsAt, Descends, HavePlaces, AreTrees}
 use Rattle.l4_msg.specs.declared.items.ItemMove.{ItemMove}
 use Rattle.l4_mapdb.specs.declared.sources.UsedMove.{UsedMove}
-use Rattle.l4_mapdb.specs.declared.growing.Stop.{Stop}
 use Rattle.l4_mapdb.specs.Delivering.{IsClean}
-use Rattle.l4_mapdb.specs.Inside.Messages.{IsMoved, turn_of}
+use Rattle.l4_mapdb.specs.Inside.Messages.{IsMoved}
 use Rattle.l4_mapdb.specs.Inside.Tangles.{HasTangle}
 
 -- each item grants, where that is said, or else maps
@@ -38,12 +37,6 @@ move_from to number key page by = record {
   grant = by.grant;
 }
 
--- what stands under the key is gone with its page, what descends from it is cut off, and all else is as it was
-pub record TakesBack (top : ℕ) (old new : Entries) : Type 0 where
-  pub here : entry_at new top ≡ None
-  pub below : (key : ℕ) → key ≢ top → Descends old key top → entry_at new key ≡ cut_off (entry_at old key)
-  pub kept : (key : ℕ) → key ≢ top → ¬ (Descends old key top) → entry_at new key ≡ entry_at old key
-
 -- what is known of the entries before a message from the one space to the other
 pub record IsGround (start : Linked) (from to : ℕ) : Type 0 where
   pub places : HavePlaces start
@@ -51,29 +44,12 @@ pub record IsGround (start : Linked) (from to : ℕ) : Type 0 where
   pub clean : IsClean start
   pub apart : from ≢ to
 
--- the move's turn comes before this one
-abbrev pub Earlier : ℕ → UsedMove → Type 0
-Earlier next move = turn_of move < next
-
--- the move's turn is from the first of these on, and before the second
-abbrev pub Between : ℕ → ℕ → UsedMove → Type 0
-Between next stop move = (next ≤ turn_of move) × (turn_of move < stop)
-
 module _ (start : Linked) (from to : ℕ) (items : List ItemMove) where
   abbrev pub Moves : UsedMove → Type 0
   Moves = IsMoved start.entries from to items
 
   abbrev pub child_of : (move : UsedMove) → Moves move → Entry
   child_of move used = child_at move.target move.source used.standing used.by.rights
-
-  -- the used moves that are done have their children at their targets, which had no keys, and else nothing has changed
-  pub record Grown (Done : UsedMove → Type 0) (now : Linked) : Type 0 where
-    pub spaces : now.spaces ≡ start.spaces
-    pub kept : (key : ℕ) (e : Entry) → entry_at start.entries key ≡ Some e → entry_at now.entries key ≡ Some e
-    pub child : (move : UsedMove) (used : Moves move) → Done move → (key : ℕ) × (entry_at now.entries key ≡ Some (child_of move used))
-    pub only : (key : ℕ) (e : Entry) → entry_at now.entries key ≡ Some e → (entry_at start.entries key ≡ Some e) ⊎ ((move : UsedMove) × (used : Moves move) × Done move × (e ≡ child_of move used))
-    pub absent : (move : UsedMove) → Moves move → Done move → (key : ℕ) → ¬ (IsAt start.entries move.target key)
-    pub apart : (one other : UsedMove) → Moves one → Moves other → Done one → Done other → one.target ≡ other.target → turn_of one ≡ turn_of other
 
   -- a used move fills the place
   abbrev pub IsTargetHere : LinkPlace → Type 0
@@ -88,13 +64,3 @@ module _ (start : Linked) (from to : ℕ) (items : List ItemMove) where
         ((entry_at start.entries key ≡ Some e) × ¬ (IsTargetHere e.place)) ⊎ ((move : UsedMove) × (used : Moves move) × (e ≡ child_of move used))
     pub leaf : (move : UsedMove) → Moves move → (key : ℕ) → IsAt start.entries move.target key → (low : ℕ) → ¬ (Descends start.entries low key)
     pub free : ¬ (HasTangle Moves start.entries)
-
-  -- the used moves before this one have their children, and where memory was refused its target had no key
-  pub record IsStopped (now : Linked) (stop : Stop) : Type 0 where
-    pub moved : Moves stop.used
-    pub grown : Grown (Earlier (turn_of stop.used)) now
-    pub lacks : stop.refused ≡ true → (key : ℕ) → ¬ (IsAt start.entries stop.used.target key)
-
-  -- a used move that ends what is done for the message; where memory was refused its target has no key
-  abbrev pub Stops : Stop → Type 0
-  Stops stop = Moves stop.used × (stop.refused ≡ true → (key : ℕ) → ¬ (IsAt start.entries stop.used.target key))

@@ -39,7 +39,7 @@ parent_at_key : (c : goal.After-set_rights) → node_at c.self.inside.nodes.slot
 parent_at_key c = sym c.node_of-2.ensures ∙ c.in-Some-node_of.is
 
 gets : (c : goal.After-set_rights) → SetsRights c.args.key (common c.in-Some-node_of.above.rights c.args.rights) c.in-Some.node.doomed c.self.inside.nodes.slots c.set_rights.new.nodes.slots
-gets c = subst (λ r. SetsRights c.args.key r c.in-Some.node.doomed c.self.inside.nodes.slots c.set_rights.new.nodes.slots) c.intersection-left.ensures c.set_rights.ensures
+gets c = subst (λ r. SetsRights c.args.key r c.in-Some.node.doomed c.self.inside.nodes.slots c.set_rights.new.nodes.slots) c.intersection-left.ensures c.set_rights.ensures.sets
 
 pub invariant_of-self : goal.invariant_of-self
 invariant_of-self c =
@@ -51,7 +51,7 @@ invariant_of-self c =
           sound_live c.set_rights.new.nodes.slots c.self.inside.first c.self.inside.stamp c.fresh-self-inside.result c.self.inside.walk
           (live_renewed slots c.set_rights.new.nodes.slots c.self.inside.first c.self.inside.stamp c.args.parent c.args.key c.in-Some-node_of.above c.in-Some.node c.args.rights
           (live_of slots c.self.inside.first c.self.inside.stamp c.self.inside.walk c.self.invariant.sound) (parent_at_key here) (key_at at) (up_is at) (leaf_in at) (gets here)) c.fresh-self-inside.ensures;
-      indexed = indexed_same slots c.set_rights.new.nodes.slots c.self.inside.pages c.self.inside.pages c.set_rights.ensures.spots_same refl refl c.self.invariant.indexed;
+      indexed = indexed_same slots c.set_rights.new.nodes.slots c.self.inside.pages c.self.inside.pages c.set_rights.ensures.sets.spots_same refl refl c.self.invariant.indexed;
       stack =
           stack_renewed slots c.set_rights.new.nodes.slots c.self.inside.first c.self.inside.stamp c.args.parent c.args.key c.in-Some-node_of.above c.in-Some.node c.args.rights
           (live_of slots c.self.inside.first c.self.inside.stamp c.self.inside.walk c.self.invariant.sound) (parent_at_key here) (key_at at) (up_is at) (leaf_in at) (gets here) c.self.inside.doomed (c.requires.rights c.args.key (standing_of c.in-Some.node) (child_at at))

@@ -27,7 +27,7 @@ root frame rights first none = record {
 }
 
 written : (c : goal.After-set_prev) → Writes c.args.key (Some (root c.args.frame c.args.rights c.args.first None)) c.args.nodes.now.slots c.write.new.nodes.slots
-written c = subst (λ (o : Option ℕ). Writes c.args.key (Some (unnoted (root c.args.frame c.args.rights c.args.first o))) c.args.nodes.now.slots c.write.new.nodes.slots) c.none-none.ensures c.write.ensures
+written c = subst (λ (o : Option ℕ). Writes c.args.key (Some (unnoted (root c.args.frame c.args.rights c.args.first o))) c.args.nodes.now.slots c.write.new.nodes.slots) c.none-none.ensures c.write.ensures.writes
 
 before : (c : goal.After-set_prev) → SetsPrev c.args.first (Some c.args.key) c.write.new.nodes.slots c.set_prev.new.nodes.slots
 before c = subst (λ (o : Option ℕ). SetsPrev c.args.first o c.write.new.nodes.slots c.set_prev.new.nodes.slots) c.to-at.ensures c.set_prev.ensures.sets

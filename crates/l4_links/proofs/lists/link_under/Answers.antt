@@ -30,7 +30,7 @@ abbrev stands : (c : goal.After-set_next) → Node
 stands c = child c.args.parent c.args.above c.args.rights
 
 written : (c : goal.After-set_next) → Writes c.args.key (Some (stands c)) c.args.nodes.now.slots c.write.new.nodes.slots
-written c = subst (λ (n : Node). Writes c.args.key (Some (unnoted n)) c.args.nodes.now.slots c.write.new.nodes.slots) c.child_of-node.ensures c.write.ensures
+written c = subst (λ (n : Node). Writes c.args.key (Some (unnoted n)) c.args.nodes.now.slots c.write.new.nodes.slots) c.child_of-node.ensures c.write.ensures.writes
 
 after : (c : goal.After-set_next) → SetsPrev c.args.above.next (Some c.args.key) c.write.new.nodes.slots c.set_prev.new.nodes.slots
 after c = subst (λ (o : Option ℕ). SetsPrev c.args.above.next o c.write.new.nodes.slots c.set_prev.new.nodes.slots) c.to-at.ensures c.set_prev.ensures.sets

@@ -7,16 +7,16 @@ pub returns-clause-takes : goal.returns-clause-takes
 returns-clause-takes c =
     let at = sym c.node_of.ensures ∙ c.in-Some.is in
     taken_out c.args.nodes.now.slots c.empty.new.nodes.slots c.set_next.new.nodes.slots c.set_prev.new.nodes.slots c.requires.order.0 c.args.key c.in-Some.node
-    c.requires.order.1 at (c.empty.ensures.here (has_slot c.args.nodes.now.slots c.args.key c.in-Some.node at)) c.empty.ensures.others c.set_next.ensures.sets c.set_prev.ensures.sets
+    c.requires.order.1 at (c.empty.ensures.writes.here (has_slot c.args.nodes.now.slots c.args.key c.in-Some.node at)) c.empty.ensures.writes.others c.set_next.ensures.sets c.set_prev.ensures.sets
 
 pub returns-clause-parts : goal.returns-clause-parts
 returns-clause-parts c =
-    parts_out c.args.nodes.now.slots c.empty.new.nodes.slots c.set_next.new.nodes.slots c.set_prev.new.nodes.slots c.args.key c.in-Some.node c.empty.ensures c.set_next.ensures.sets c.set_prev.ensures.sets
+    parts_out c.args.nodes.now.slots c.empty.new.nodes.slots c.set_next.new.nodes.slots c.set_prev.new.nodes.slots c.args.key c.in-Some.node c.empty.ensures.writes c.set_next.ensures.sets c.set_prev.ensures.sets
     (has_slot c.args.nodes.now.slots c.args.key c.in-Some.node (sym c.node_of.ensures ∙ c.in-Some.is)) (returns-clause-takes c)
 
 pub returns-clause-order : goal.returns-clause-order
 returns-clause-order c xs ys o =
     order_out c.args.nodes.now.slots c.set_prev.new.nodes.slots xs c.args.key ys o (returns-clause-takes c)
     (λ k n ne at. some_from c.set_prev.new.nodes.slots c.args.nodes.now.slots k n
-    (limbs_prev _ _ _ _ c.set_prev.ensures.sets k ∙ limbs_next _ _ _ _ c.set_next.ensures.sets k ∙ no_limb c.empty.new.nodes.slots c.args.nodes.now.slots k (c.empty.ensures.others k ne)) at)
+    (limbs_prev _ _ _ _ c.set_prev.ensures.sets k ∙ limbs_next _ _ _ _ c.set_next.ensures.sets k ∙ no_limb c.empty.new.nodes.slots c.args.nodes.now.slots k (c.empty.ensures.writes.others k ne)) at)
     (no_link c.set_prev.new.nodes.slots c.args.key (returns-clause-takes c).gone)

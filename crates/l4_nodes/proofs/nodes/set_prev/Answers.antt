@@ -19,7 +19,7 @@ pub returns-clause-room : goal.returns-clause-room
 returns-clause-room c more room =
     let r : HasRoomFor (store_shown c.nodes.inside) more = subst (λ (s : Store). HasRoomFor s more) (sym c.nodes.view_is) room in
     record {
-      slots = room_set c.nodes.inside.packed.slots c.nodes.inside.notes.items c.in-Some.key c.in-Some-get_mut.slot.now c.set_prev.new.self more c.nodes.inside.packed.capacity c.in-Some-get_mut.ensures.value r.slots;
+      slots = room_set c.nodes.inside.packed.slots c.nodes.inside.notes.items c.nodes.inside.notes.items c.in-Some.key c.in-Some-get_mut.slot.now c.set_prev.new.self more c.nodes.inside.packed.capacity c.in-Some-get_mut.ensures.value r.slots;
       notes = r.notes;
       keys = r.keys;
     }
