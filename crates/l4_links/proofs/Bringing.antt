@@ -162,13 +162,18 @@ module _ (A B : Entry → Type 0) (old new : Entries) (a : Brings A old new) (ap
           ]
 
 -- no more than before, if fewer numbers are of these
-pub at_most_fewer : {P Q : ℕ → Type 0} {next end most : ℕ} → ((n : ℕ) → Q n → P n) → AtMost P next end most → AtMost Q next end most
-at_most_fewer back none = none
-at_most_fewer back (one rest) = one (at_most_fewer back rest)
-at_most_fewer back (pass no rest) = pass (λ q. no (back _ q)) (at_most_fewer back rest)
+pub at_most_back : {P Q : ℕ → Type 0} {next end most : ℕ} → ((n : ℕ) → Q n → P n) → AtMost P next end most → AtMost Q next end most
+at_most_back back none = none
+at_most_back back (one fewer lt rest) = one fewer lt (at_most_back back rest)
+at_most_back back (pass no rest) = pass (λ q. no (back _ q)) (at_most_back back rest)
+
+pub at_most_more : {P : ℕ → Type 0} {next end a b : ℕ} → a ≤ b → AtMost P next end a → AtMost P next end b
+at_most_more le none = none
+at_most_more le (one fewer lt rest) = one fewer (omega (arith, le, lt)) rest
+at_most_more le (pass no rest) = pass no (at_most_more le rest)
 
 -- up to a number, and from it on
-pub at_most_joined : {P : ℕ → Type 0} {next mid end a b : ℕ} → AtMost P next mid a → AtMost P mid end b → AtMost P next end (a + b)
-at_most_joined none more = at_most_more _ more
-at_most_joined (one rest) more = one (at_most_joined rest more)
-at_most_joined (pass no rest) more = pass no (at_most_joined rest more)
+pub at_most_joined : {P : ℕ → Type 0} {next mid end a : ℕ} (b : ℕ) → AtMost P next mid a → AtMost P mid end b → AtMost P next end (a + b)
+at_most_joined b none more = at_most_more (omega arith) more
+at_most_joined b (one fewer lt rest) more = one (fewer + b) (omega (arith, lt)) (at_most_joined b rest more)
+at_most_joined b (pass no rest) more = pass no (at_most_joined b rest more)

@@ -24,11 +24,10 @@ pub mod OwnChild
 pub mod Adding
 pub mod Naming
 pub mod Asides
-pub mod ManyChildren
+pub mod Bringing
 pub mod RowSteps
 pub mod PageRuns
 pub mod OnePage
-pub mod HeldChildren
 pub mod Moving
 pub mod RowMoves
 pub mod Noting

@@ -7,10 +7,11 @@ ghost use Rattle.l4_nodes.specs.Slots.{node_at};
 ghost use Rattle.l4_spaces.specs.Tables.{Tables, IsPage};
 ghost use Rattle.l4_spaces.specs.Rows.{entry, is_made, AreTablesOf};
 ghost use Rattle.l4_nodes.specs.Slots.{HasRoomFor};
-ghost use Rattle.l4_links.specs.Entries.{IsBrought, IsDue, AreOverLeaves, LacksKey, HasOther, AreApart, ArePlain, HavePlaces};
+ghost use Rattle.l4_links.specs.Entries.{IsBrought, IsDue, AreOverLeaves, LacksKey, HasOther, AreApart, ArePlain};
 ghost use Rattle.l4_links.specs.Inside.Nodes.{AreKeys, IsForest};
-ghost use Rattle.l4_links.specs.Inside.Keeping.{entries_of, seen};
-ghost use Rattle.l4_links.specs.Inside.Bringing.{Fits, HaveTables, IsLacking, AtMost};
+ghost use Rattle.l4_links.specs.Inside.Keeping.{entries_of};
+ghost use Rattle.l4_links.specs.Inside.Bringing.{Fits, HaveTables, IsLacking, AtMost, WantsItems};
+ghost use Rattle.l4_links.specs.Inside.Moving.{MakesTables};
 ghost use Rattle.l4_links.specs.Inside.Growing.{SharesNone, SharesSome, Takes, Lacks, Enters, Renews, IsSpareNode, AreRows, BringsRow, AreGrowing, BringsAll, BringsPart};
 
 use crate::blocks::{Pages, pages_of, place_from};
@@ -245,7 +246,22 @@ fn wants_all(
     from: u64,
     to: u64,
     items: &[ItemMove],
-) -> Result<Option<usize>, NoMemory> {
+) -> Result<Option<usize>, NoMemory>
+    requires growing { (pages : Tables) × (first head : Option ℕ) × (stamp : ℕ) × (all : Tables)
+        × AreTablesOf pages from sources.now.items
+        × AreGrowing to pages targets.old.items nodes.now.slots first head stamp all }
+    requires plain { ArePlain (entries_of nodes.now.slots) }
+    ensures wants { IfOk result (λ found. MatchOption found
+        (HasOther (IsDue from to items.now (length items.now) (entries_of nodes.now.slots))
+        (entries_of nodes.now.slots))
+        (λ wants. Fits (IsDue from to items.now (length items.now) (entries_of nodes.now.slots)) (entries_of nodes.now.slots)
+        × HaveTables (IsDue from to items.now (length items.now) (entries_of nodes.now.slots)) targets.new.items
+        × WantsItems from to items.now (length items.now) (entries_of nodes.now.slots) wants
+        × (1 ≤ wants → LacksKey (IsDue from to items.now (length items.now) (entries_of nodes.now.slots)) (entries_of nodes.now.slots)))) }
+    ensures lacks { OnErr result (LacksKey (IsDue from to items.now (length items.now) (entries_of nodes.now.slots))
+        (entries_of nodes.now.slots)) }
+    ensures makes { MakesTables targets.old.items targets.new.items }
+{
     let mut wants = 0;
     for item in 0..items.len() {
         let of = pages_of(from, to, &items[item]);
@@ -266,7 +282,24 @@ pub(crate) fn bring_all(
     from: u64,
     to: u64,
     items: &[ItemMove],
-) -> Result<bool, NoMemory> {
+) -> Result<bool, NoMemory>
+    requires differ { from ≢ to }
+    requires apart { AreApart items.now }
+    requires growing { (pages : Tables) × (first head : Option ℕ) × (stamp : ℕ) × (all : Tables)
+        × AreTablesOf pages from sources.now.items
+        × AreGrowing to pages targets.old.items nodes.old.slots first head stamp all }
+    requires plain { ArePlain (entries_of nodes.old.slots) }
+    ensures brings { IfOk result (λ done. done ≡ true → (pages : Tables) → AreTablesOf pages from sources.now.items
+        → BringsAll to (IsDue from to items.now (length items.now) (entries_of nodes.old.slots)) pages targets.old.items
+        targets.new.items nodes.old.slots nodes.new.slots) }
+    ensures leaves { IfOk result (λ done. done ≡ true
+        → AreOverLeaves (IsDue from to items.now (length items.now) (entries_of nodes.old.slots)) (entries_of nodes.old.slots)) }
+    ensures left { IfOk result (λ done. done ≡ false → (nodes.new.slots ≡ nodes.old.slots)
+        × MakesTables targets.old.items targets.new.items
+        × HasOther (IsDue from to items.now (length items.now) (entries_of nodes.old.slots)) (entries_of nodes.old.slots)) }
+    ensures err { OnErr result ((nodes.new.slots ≡ nodes.old.slots) × MakesTables targets.old.items targets.new.items
+        × LacksKey (IsDue from to items.now (length items.now) (entries_of nodes.old.slots)) (entries_of nodes.old.slots)) }
+{
     let found = wants_all(nodes, sources, targets, from, to, items)?;
     let Some(wants) = found else {
         return Ok(false);

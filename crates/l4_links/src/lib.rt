@@ -96,8 +96,9 @@ impl Model for Links {
 impl Links {
     ghost use Rattle.l4_spaces.specs.Listed.{NoSpaceFrom, IsNextSpace};
     ghost use Rattle.l4_links.specs.ListOf.{IsListOf};
-    ghost use Rattle.l4_links.specs.Entries.{entry_at, standing_at, parent_of, IsStanding, IsBlank, IsAt, IsSource, HaveRights, HavePlaces, AreTrees, NoKeyFrom, IsNextKey, NoKeyIn, IsNextKeyIn, IsKeyOf, NoParentIn, IsNextParentIn, Descends, AddsBlank, Stands, Sprouts, Clears, CutsBelow, Buries, CapsBelow, CapsTree, SetsSource, SetsPlain, SetsWanted, TakesOver, MovesPages, Hinders, LacksPlace, IsDue, Brings, AreOverLeaves, LacksKey, HasOther, AreApart, ArePlain};
+    ghost use Rattle.l4_links.specs.Entries.{entry_at, standing_at, parent_of, IsStanding, IsBlank, IsAt, IsSource, HaveRights, HavePlaces, AreTrees, NoKeyFrom, IsNextKey, NoKeyIn, IsNextKeyIn, IsKeyOf, NoParentIn, IsNextParentIn, Descends, AddsBlank, Stands, Sprouts, Clears, CutsBelow, Buries, CapsBelow, CapsTree, SetsSource, SetsPlain, SetsWanted, TakesOver, MovesPages, Hinders, LacksPlace, IsBrought, IsDue, Brings, AreOverLeaves, LacksKey, HasOther, AreApart, ArePlain};
     ghost use Rattle.l4_links.specs.declared.Standing.{Standing as AStanding};
+    ghost use Rattle.l4_links.specs.declared.Entry.{Entry as AnEntry};
 
     /// Creates a value without pages and spaces. Memory for the nodes of this many pages is allocated at once, except for the tables that
     /// name them.
@@ -331,7 +332,25 @@ impl Links {
 
     /// Adds the child of one page, if its place has no key, or no right is shared. Returns whether this was done. To take tables aside would
     /// cost more than the page.
-    fn add_at(&mut self, source: Place, target: Place, rights: Rights) -> Result<bool, NoMemory> {
+    fn add_at(&mut self, source: Place, target: Place, rights: Rights) -> Result<bool, NoMemory>
+        requires differ { source.space ≢ target.space }
+        requires there { IsTrue (set.contains self.old.spaces target.space) }
+        requires fits { IsPage target.page }
+        ensures brings { IfOk result (λ done. done ≡ true
+            → Brings (IsBrought source (source.page + 1) target rights self.old.entries) self.old.entries
+            self.new.entries) }
+        ensures free { IfOk result (λ done. done ≡ true → (e : AnEntry)
+            → IsBrought source (source.page + 1) target rights self.old.entries e → (key : ℕ)
+            → ¬ (IsAt self.old.entries e.place key)) }
+        ensures left { IfOk result (λ done. done ≡ false → (key : ℕ)
+            → entry_at self.new.entries key ≡ entry_at self.old.entries key) }
+        ensures err { OnErr result
+            ((key : ℕ) → entry_at self.new.entries key ≡ entry_at self.old.entries key) }
+        ensures lacks { OnErr result
+            (LacksKey (IsBrought source (source.page + 1) target rights self.old.entries)
+            self.old.entries) }
+        ensures spaces { self.new.spaces ≡ self.old.spaces }
+    {
         let Some(key) = self.find(source) else {
             return Ok(true);
         };

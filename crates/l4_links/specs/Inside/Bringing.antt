@@ -1,12 +1,12 @@
 -- What the pages of a message bring to their places, part by part. (this profile's own)
-use Rattle.std.specs.Prelude.{◌≡◌, ◌≢◌, ◌<◌, ◌+◌, ◌*◌, ℕ, Some, None, true}
+use Rattle.std.specs.Prelude.{◌≡◌, ◌≢◌, ◌<◌, ◌≤◌, ◌+◌, ◌*◌, ℕ, zero, suc, List, Some, None, true, slice_get}
 use Rattle.l4_fpage.specs.Rights.{RightsSet}
 use Rattle.l4_spaces.specs.Tables.{table_pages}
 use Rattle.l4_spaces.specs.Rows.{Rows, is_made}
+use Rattle.l4_msg.specs.declared.items.ItemMove.{ItemMove}
 use Rattle.l4_nodes.specs.declared.Place.{Place}
-use Rattle.l4_links.specs.declared.Standing.{Standing}
 use Rattle.l4_links.specs.declared.Entry.{Entry}
-use Rattle.l4_links.specs.Entries.{Entries, entry_at, standing_at, parent_of, IsAt, IsBrought, IsPlain}
+use Rattle.l4_links.specs.Entries.{Entries, entry_at, parent_of, IsAt, IsBrought, IsPlain, source_of, target_of, end_of}
 
 -- a child can take the place of what is under the key: it has a parent, is not marked, and is no parent
 pub record IsSpare (s : Entries) (key : ℕ) (e : Entry) : Type 0 where
@@ -26,11 +26,23 @@ HaveTables Due targets = (e : Entry) → Due e → (high low : ℕ) → e.place.
 pub record IsLacking (source : Place) (end : ℕ) (target : Place) (rights : RightsSet) (s : Entries) (page : ℕ) : Type 0 where
   pub entry : Entry
   pub due : IsBrought source end target rights s entry
-  pub page_is : entry.place.page ≡ page
+  pub page_is : due.1.entry.place.page ≡ page
   pub absent : (key : ℕ) → ¬ (IsAt s entry.place key)
 
 -- of the numbers from the first one on and below the second, at most so many are of these
 pub data AtMost (P : ℕ → Type 0) : ℕ → ℕ → ℕ → Type 0 where
   none : {end most : ℕ} → AtMost P end end most
-  one : {next end most : ℕ} → AtMost P (next + 1) end most → AtMost P next end (most + 1)
+  one : {next end most : ℕ} (fewer : ℕ) → fewer < most → AtMost P (next + 1) end fewer → AtMost P next end most
   pass : {next end most : ℕ} → ¬ (P next) → AtMost P (next + 1) end most → AtMost P next end most
+
+-- the sum of the first of these numbers
+pub sum_to : (ℕ → ℕ) → ℕ → ℕ
+sum_to counts zero = 0
+sum_to counts (suc n) = sum_to counts n + counts n
+
+-- what the items before this number bring lacks at most so many keys
+pub record WantsItems (from to : ℕ) (items : List ItemMove) (end : ℕ) (s : Entries) (wants : ℕ) : Type 0 where
+  pub counts : ℕ → ℕ
+  pub each : (item : ℕ) (by : ItemMove) → item < end → slice_get items item ≡ Some by
+      → AtMost (IsLacking (source_of from by) (end_of by) (target_of to by) by.rights s) by.mv.source.first (end_of by) (counts item)
+  pub total : sum_to counts end ≤ wants
