@@ -9,10 +9,10 @@ ghost use Rattle.l4_spaces.specs.Rows.{entry, is_made, AreTablesOf};
 ghost use Rattle.l4_nodes.specs.Slots.{HasRoomFor};
 ghost use Rattle.l4_links.specs.Entries.{IsBrought, IsDue, AreOverLeaves, LacksKey, HasOther, AreApart, ArePlain};
 ghost use Rattle.l4_links.specs.Inside.Nodes.{AreKeys, IsForest};
-ghost use Rattle.l4_links.specs.Inside.Keeping.{entries_of};
+ghost use Rattle.l4_links.specs.Inside.Keeping.{entries_of, IsLive};
 ghost use Rattle.l4_links.specs.Inside.Bringing.{Fits, HaveTables, IsLacking, AtMost, WantsItems};
 ghost use Rattle.l4_links.specs.Inside.Moving.{MakesTables};
-ghost use Rattle.l4_links.specs.Inside.Growing.{SharesNone, SharesSome, Takes, Lacks, Enters, Renews, IsSpareNode, AreRows, BringsRow, AreGrowing, BringsAll, BringsPart};
+ghost use Rattle.l4_links.specs.Inside.Growing.{SharesNone, SharesSome, Takes, Lacks, Enters, Renews, IsSpareNode, AreBare, AreRows, BringsRow, AreGrowing, BringsAll, BringsPart};
 
 use crate::blocks::{Pages, pages_of, place_from};
 use crate::lists::{add_under, link_under, unlink};
@@ -72,10 +72,11 @@ pub(crate) fn run_at(of: &Pages, page: u32) -> Run
 /// already, it only gets the rights.
 #[inline(never)]
 fn renew(nodes: &mut Slots, parent: usize, key: usize, rights: Rights)
-    requires forest { (ks : List ℕ) × IsForest nodes.old.slots ks }
+    requires live { (first : Option ℕ) × (stamp : ℕ) × IsLive nodes.old.slots first stamp }
     requires few { AreKeys nodes.old.slots }
     requires shares { SharesSome parent rights nodes.old.slots }
     requires spare { IsSpareNode key nodes.old.slots }
+    requires bare { AreBare nodes.old.slots }
     requires apart { parent ≢ key }
     ensures renews { Renews parent key rights nodes.old.slots nodes.new.slots }
     ensures room { (more : ℕ) → HasRoomFor nodes.old more → HasRoomFor nodes.new more }
@@ -110,8 +111,9 @@ fn bring_at(
     place: Place,
     rights: Rights,
 )
-    requires forest { (ks : List ℕ) × IsForest nodes.old.slots ks }
+    requires live { (first : Option ℕ) × (stamp : ℕ) × IsLive nodes.old.slots first stamp }
     requires few { AreKeys nodes.old.slots }
+    requires bare { AreBare nodes.old.slots }
     requires fits { IsPage place.page }
     requires within { low < length target.old }
     requires takes { Takes key (slice_index_or target.old low None) rights nodes.old.slots }

@@ -1,5 +1,5 @@
 -- Children of the pages of one table, at places of another one, and whether they can take these. (this profile's own)
-use Rattle.std.specs.Prelude.{◌≡◌, ◌≢◌, ◌⊎◌, ◌<◌, ◌≤◌, ◌+◌, ◌-◌, ◌*◌, ◌/◌, ℕ, List, Option, Some, None, IsTrue, true, slice_index_or, slice_set}
+use Rattle.std.specs.Prelude.{◌≡◌, ◌≢◌, ◌⊎◌, ◌<◌, ◌≤◌, ◌+◌, ◌-◌, ◌*◌, ◌/◌, ℕ, List, Option, Some, None, IsTrue, false, true, slice_index_or, slice_set}
 use Rattle.std.specs.FinSet as set
 use Rattle.l4_fpage.specs.Rights.{RightsSet, common, no_rights}
 use Rattle.l4_spaces.specs.Tables.{Tables, key_of, table_pages}
@@ -110,6 +110,10 @@ pub record IsSpareNode (key : ℕ) (slots : Slots) : Type 0 where
   pub stands : node_at slots key ≡ Some node
   pub parent : node.parent ≢ None
   pub leaf : (low : ℕ) → ¬ (Leads (parent_at (limbs slots)) low key)
+
+-- each node has a right, and no mark of a message
+abbrev pub AreBare : Slots → Type 0
+AreBare slots = (key : ℕ) (n : Node) → node_at slots key ≡ Some n → (n.rights ≢ no_rights) × (n.source ≡ false) × (n.granted ≡ None)
 
 -- a child of what is under the first key, if there is one and it shares a right, finds its entry free, or can take it
 abbrev pub Takes : Option ℕ → Option ℕ → RightsSet → Slots → Type 0
