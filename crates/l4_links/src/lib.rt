@@ -285,12 +285,7 @@ impl Links {
     /// Returns whether this was done. It is not, and nothing changes, if something descends from what is at one of these places, or the
     /// root of a tree is there.
     /// Returns `NoMemory` only if one of these places has no key; then nothing has changed.
-    pub fn map_items(
-        &mut self,
-        from: u64,
-        to: u64,
-        items: &[ItemMove],
-    ) -> Result<bool, NoMemory>
+    pub fn map_items(&mut self, from: u64, to: u64, items: &[ItemMove]) -> Result<bool, NoMemory>
         requires differ { from ≢ to }
         requires there { IsTrue (set.contains self.old.spaces to) }
         requires apart { AreApart items.now }

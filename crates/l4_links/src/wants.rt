@@ -9,7 +9,7 @@ ghost use Rattle.l4_links.specs.Inside.Moving.{MakesTables};
 ghost use Rattle.l4_links.specs.Inside.Growing.{IsSpareNode, Takes, Lacks, IsHindered, WantsRow, WantsPages, IsHinderedPage, LacksPage};
 
 use crate::blocks::{Pages, place_from};
-use crate::children::{run_at, sharing, Run};
+use crate::children::{Run, run_at, sharing};
 use crate::walks::is_leaf;
 use l4_fpage::Rights;
 use l4_nodes::{Slots, node_of};
@@ -63,13 +63,7 @@ fn wants_at(
 
 /// Returns how many slots the children of the run need, or None if one of them can't take its place.
 #[inline(never)]
-fn wants_run(
-    nodes: &Slots,
-    source: &Row,
-    target: &Row,
-    run: &Run,
-    rights: Rights,
-) -> Option<usize>
+fn wants_run(nodes: &Slots, source: &Row, target: &Row, run: &Run, rights: Rights) -> Option<usize>
     requires forest { (ks : List ℕ) × IsForest nodes.now.slots ks }
     requires source { length source.now ≡ table_pages }
     requires target { length target.now ≡ table_pages }
