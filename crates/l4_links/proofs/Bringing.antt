@@ -48,10 +48,10 @@ brings_as A B old new on back a = record {
 
 -- nothing is due
 pub brings_none : (Due : Entry → Type 0) (s : Entries) → ((e : Entry) → ¬ (Due e)) → Brings Due s s
-brings_none Due s no = record {
-  there = λ e due. absurd (no e due);
+brings_none Due s nothing = record {
+  there = λ e due. absurd (nothing e due);
   kept = λ key e at _. at;
-  only = λ key e at. inr (at, λ f. no f.0 f.1);
+  only = λ key e at. inr (at, λ f. nothing f.0 f.1);
 }
 
 -- one child more, at a place without a key
@@ -109,7 +109,7 @@ module _ (Due : Entry → Type 0) (old new : Entries) (brings : Brings Due old n
   pub brought_on : (e : Entry) → IsBrought source end target rights old e → IsBrought source end target rights new e
   brought_on e b = (b.0, on b.0 b.1, b.2)
 
-  pub brought_back : (e : Entry) → IsBrought source end target rights new e → IsBrought source end target rights old e
+  abbrev pub brought_back : (e : Entry) → IsBrought source end target rights new e → IsBrought source end target rights old e
   brought_back e b = (b.0, back b.0 b.1, b.2)
 
   -- a place with a key keeps one, so no more places lack one than before
@@ -163,17 +163,17 @@ module _ (A B : Entry → Type 0) (old new : Entries) (a : Brings A old new) (ap
 
 -- no more than before, if fewer numbers are of these
 pub at_most_back : {P Q : ℕ → Type 0} {next end most : ℕ} → ((n : ℕ) → Q n → P n) → AtMost P next end most → AtMost Q next end most
-at_most_back back none = none
-at_most_back back (one fewer lt rest) = one fewer lt (at_most_back back rest)
-at_most_back back (pass no rest) = pass (λ q. no (back _ q)) (at_most_back back rest)
+at_most_back was none = none
+at_most_back was (one fewer lt rest) = one fewer lt (at_most_back was rest)
+at_most_back was (pass other rest) = pass (λ q. other (was _ q)) (at_most_back was rest)
 
 pub at_most_more : {P : ℕ → Type 0} {next end a b : ℕ} → a ≤ b → AtMost P next end a → AtMost P next end b
 at_most_more le none = none
 at_most_more le (one fewer lt rest) = one fewer (omega (arith, le, lt)) rest
-at_most_more le (pass no rest) = pass no (at_most_more le rest)
+at_most_more le (pass other rest) = pass other (at_most_more le rest)
 
 -- up to a number, and from it on
 pub at_most_joined : {P : ℕ → Type 0} {next mid end a : ℕ} (b : ℕ) → AtMost P next mid a → AtMost P mid end b → AtMost P next end (a + b)
 at_most_joined b none more = at_most_more (omega arith) more
 at_most_joined b (one fewer lt rest) more = one (fewer + b) (omega (arith, lt)) (at_most_joined b rest more)
-at_most_joined b (pass no rest) more = pass no (at_most_joined b rest more)
+at_most_joined b (pass other rest) more = pass other (at_most_joined b rest more)
