@@ -25,6 +25,7 @@ pub(crate) fn unlink(nodes: &mut Slots, key: usize)
     ensures parts { Parts key nodes.old.slots nodes.new.slots }
     ensures order { (xs ys : List ℕ) → IsOrder nodes.old.slots (xs ++ key ∷ ys)
         → IsOrder nodes.new.slots (xs ++ ys) }
+    ensures room { (more : ℕ) → HasRoomFor nodes.old more → HasRoomFor nodes.new more }
 {
     let Some(node) = node_of(nodes, key) else {
         unreachable!()
@@ -106,6 +107,7 @@ pub(crate) fn link_under(nodes: &mut Slots, parent: usize, key: usize, above: No
         }) key nodes.old.slots nodes.new.slots }
     ensures forest { (xs ys : List ℕ) → IsForest nodes.old.slots (xs ++ parent ∷ ys)
         → IsForest nodes.new.slots (xs ++ parent ∷ key ∷ ys) }
+    ensures room { (more : ℕ) → HasRoomFor nodes.old more → HasRoomFor nodes.new more }
 {
     let node = child_of(parent, &above, rights, nodes.capacity());
     let at = Link::to(key);

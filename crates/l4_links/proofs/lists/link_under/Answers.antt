@@ -56,3 +56,6 @@ returns-clause-forest c xs ys f =
     (put_in c.args.nodes.now.slots c.write.new.nodes.slots c.set_prev.new.nodes.slots c.set_next.new.nodes.slots c.requires.forest.0 c.args.parent c.args.key c.args.above (stands c)
     c.requires.forest.1.order c.requires.there c.requires.blank refl refl ((written c).here c.requires.room) (written c).others (after c) (before c))
     (returns-clause-sprouts c)
+
+pub returns-clause-room : goal.returns-clause-room
+returns-clause-room c more room = c.set_next.ensures.room more (c.set_prev.ensures.room more (c.write.ensures.room more room))

@@ -20,3 +20,6 @@ returns-clause-order c xs ys o =
     (λ k n ne at. some_from c.set_prev.new.nodes.slots c.args.nodes.now.slots k n
     (limbs_prev _ _ _ _ c.set_prev.ensures.sets k ∙ limbs_next _ _ _ _ c.set_next.ensures.sets k ∙ no_limb c.empty.new.nodes.slots c.args.nodes.now.slots k (c.empty.ensures.writes.others k ne)) at)
     (no_link c.set_prev.new.nodes.slots c.args.key (returns-clause-takes c).gone)
+
+pub returns-clause-room : goal.returns-clause-room
+returns-clause-room c more room = c.set_prev.ensures.room more (c.set_next.ensures.room more (c.empty.ensures.room more room))
