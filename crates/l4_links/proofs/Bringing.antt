@@ -5,8 +5,8 @@ use Rattle.l4_fpage.specs.Rights.{RightsSet, common}
 use Rattle.l4_nodes.specs.declared.Place.{Place}
 use Rattle.l4_links.specs.declared.Standing.{Standing}
 use Rattle.l4_links.specs.declared.Entry.{Entry}
-use Rattle.l4_links.specs.Entries.{Entries, entry_at, standing_at, parent_of, IsAt, AddsChild, Sprouts, IsShared, child_entry, brought, IsBrought, IsFilled, Brings, IsPlain}
-use Rattle.l4_links.specs.Inside.Bringing.{IsSpare, Fits, IsLacking, AtMost, none, one, pass}
+use Rattle.l4_links.specs.Entries.{Entries, entry_at, standing_at, parent_of, IsAt, AddsChild, IsShared, child_entry, brought, IsBrought, IsFilled, Brings, IsPlain}
+use Rattle.l4_links.specs.Inside.Bringing.{Replaces, IsSpare, Fits, IsLacking, AtMost, none, one, pass}
 
 same_entry : {a b : Entry} → ◌≡◌ {A = Option Entry} (Some a) (Some b) → a ≡ b
 same_entry h = cc
@@ -72,7 +72,7 @@ brings_added parent place rights old new key c free either = record {
     some_none k e at same = let z : ◌≡◌ {A = Option Entry} None (Some e) = sym c.vacant ∙ sym (ap (entry_at old) same) ∙ at in cc
 
 -- one child in place of what was there
-pub brings_renewed : (parent key : ℕ) (rights : RightsSet) (old new : Entries) (s : Sprouts parent key rights old new) (was : Entry) → entry_at old key ≡ Some was → was.wanted ≡ false
+pub brings_renewed : (parent key : ℕ) (rights : RightsSet) (old new : Entries) (s : Replaces parent key rights old new) (was : Entry) → entry_at old key ≡ Some was → was.wanted ≡ false
     → ((a b : ℕ) → IsAt old was.place a → IsAt old was.place b → a ≡ b) → ((k other : ℕ) → (k ≡ other) ⊎ (k ≢ other)) → Brings (λ e. e ≡ child_entry was.place parent s.above rights) old new
 brings_renewed parent key rights old new s was at unwanted once either = record {
   there = λ e due. (key, here ∙ ap (λ (x : Entry). Some x) (sym due));

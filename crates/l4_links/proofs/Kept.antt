@@ -16,7 +16,7 @@ use Rattle.l4_links.proofs.Writes.{no_some, same_some, map_from, stamped_same, l
 use Rattle.l4_links.proofs.Linking.{parted, link_at, first_same, last_some}
 use Rattle.l4_links.proofs.Neighbours.{in_list}
 pub use Rattle.l4_links.proofs.Neighbours.{forest_links}
-use Rattle.l4_links.proofs.Runs.{run_from_leads, parent_is}
+use Rattle.l4_links.proofs.Runs.{run_from_leads, parent_is, has_limb}
 use Rattle.l4_links.proofs.Walking.{low_stays, KeepsMarks, marks_same, seen_same}
 
 -- no node has a mark of this stamp
@@ -179,23 +179,29 @@ all_with false c = refl
 pub low_of_parent : (a r : RightsSet) → IsLow a (common a r)
 low_of_parent a r = λ i. record { r = all_with a.r r.r i; w = all_with a.w r.w i; x = all_with a.x r.x i }
 
--- a child lies within its parent
-pub within_child : (old new : Slots) (ks : List ℕ) (parent key : ℕ) (above : Worth) (rights : RightsSet) → IsForest old ks → IsWithin old → values old parent ≡ Some above → Sprouts (limbs old) (limbs new) parent key
+-- a child that is no parent lies within its parent
+pub within_at : (old new : Slots) (parent key depth : ℕ) (above : Worth) (rights : RightsSet) → IsWithin old → values old parent ≡ Some above → parent ≢ key → limbs new key ≡ Some (record { parent = Some parent; depth = depth })
+    → values new key ≡ Some (record { frame = above.frame; rights = common above.rights rights; source = false; granted = None }) → ((o : ℕ) → o ≢ key → limbs new o ≡ limbs old o) → ((o : ℕ) → o ≢ key → values new o ≡ values old o)
+    → ((low : ℕ) → parent_at (limbs old) low ≢ Some key) → IsWithin new
+within_at old new parent key depth above rights within at other limb value limbs_same values_same leaf k p x l h is up v w = elim (cases_eq k key) [
+  | inl e ↦
+      let pp : p ≡ parent = same_some (sym up ∙ ap (λ (q : Limb). q.parent) (same_some (sym is ∙ ap (limbs new) e ∙ limb))) in
+      let ls : l ≡ record { frame = above.frame; rights = common above.rights rights; source = false; granted = None } = same_some (sym v ∙ ap (values new) e ∙ value) in
+      let hs : h ≡ above = same_some (sym w ∙ ap (values new) pp ∙ values_same parent other ∙ at) in
+      subst (λ (q : Worth). LiesWithin l q) (sym hs)
+      (subst (λ (q : Worth). LiesWithin q above) (sym ls) (record { rights = low_of_parent above.rights rights; frame = refl }))
+  | inr ne ↦
+      let was = sym (limbs_same k ne) ∙ is in
+      let p_other : p ≢ key = λ e. leaf k (parent_is (limbs old) k x was ∙ up ∙ ap (λ (q : ℕ). Some q) e) in
+      within k p x l h was up (sym (values_same k ne) ∙ v) (sym (values_same p p_other) ∙ w)
+]
+
+within_child : (old new : Slots) (ks : List ℕ) (parent key : ℕ) (above : Worth) (rights : RightsSet) → IsForest old ks → IsWithin old → values old parent ≡ Some above → Sprouts (limbs old) (limbs new) parent key
     → Comes (record { frame = above.frame; rights = common above.rights rights; source = false; granted = None }) key old new → IsWithin new
-within_child old new ks parent key above rights f within at s c k p x l h is up v w =
-    let new_key : (q : ℕ) (y : Limb) → limbs old q ≡ Some y → q ≢ key = λ q y old_q e. no_some y (sym s.vacant ∙ sym (ap (limbs old) e) ∙ old_q) in
-    elim (cases_eq k key) [
-      | inl e ↦
-          let pp : p ≡ parent = same_some (sym up ∙ ap (λ (q : Limb). q.parent) (same_some (sym is ∙ ap (limbs new) e ∙ s.filled))) in
-          let ls : l ≡ record { frame = above.frame; rights = common above.rights rights; source = false; granted = None } = same_some (sym v ∙ ap (values new) e ∙ c.value_is) in
-          let hs : h ≡ above = same_some (sym w ∙ ap (values new) pp ∙ c.values_same parent (new_key parent s.above s.at_parent) ∙ at) in
-          subst (λ (q : Worth). LiesWithin l q) (sym hs)
-          (subst (λ (q : Worth). LiesWithin q above) (sym ls) (record { rights = low_of_parent above.rights rights; frame = refl }))
-      | inr ne ↦
-          let was = sym (s.others k ne) ∙ is in
-          let up_is = parent_stands old ks f k p x was up in
-          within k p x l h was up (sym (c.values_same k ne) ∙ v) (sym (c.values_same p (new_key p up_is.0 up_is.1)) ∙ w)
-    ]
+within_child old new ks parent key above rights f within at s c =
+    let other : (q : ℕ) (y : Limb) → limbs old q ≡ Some y → q ≢ key = λ q y old_q e. no_some y (sym s.vacant ∙ sym (ap (limbs old) e) ∙ old_q) in
+    within_at old new parent key (s.above.depth + 1) above rights within at (other parent s.above s.at_parent) s.filled c.value_is s.others c.values_same
+    (λ low up. (let h = has_limb (limbs old) low key up in let p = parent_stands old ks f low key h.limb h.is h.up in other key p.0 p.1 refl))
 
 -- two orders of the same links begin with the same key
 pub first_unique : (slots : Slots) (ks ls : List ℕ) → IsOrder slots ks → IsOrder slots ls → first_of ks None ≡ first_of ls None

@@ -20,7 +20,7 @@ pub mod Listing
 pub mod Stacking
 pub mod Burying
 pub mod Capping
-pub mod OwnChild
+pub mod Replacing
 pub mod Adding
 pub mod Naming
 pub mod Asides

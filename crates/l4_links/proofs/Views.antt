@@ -23,13 +23,17 @@ use Rattle.l4_links.proofs.Kept.{none_below}
 use Rattle.l4_links.proofs.Writes.{no_some, map_over, map_at, limb_of, worth_of}
 
 -- what came stands under its key
-view_stands : (old new : Slots) (key : ℕ) (x : Limb) (w : Worth) → limbs new key ≡ Some x → Comes w key old new → Stands key (record { frame = w.frame; rights = w.rights; source = w.source; granted = w.granted; parent = x.parent }) (entries_of old) (entries_of new)
-view_stands old new key x w is c = record {
+pub view_at : (old new : Slots) (key : ℕ) (x : Limb) (w : Worth) → limbs new key ≡ Some x → values new key ≡ Some w → ((o : ℕ) → spots new o ≡ spots old o) → ((o : ℕ) → o ≢ key → limbs new o ≡ limbs old o)
+    → ((o : ℕ) → o ≢ key → values new o ≡ values old o) → Stands key (record { frame = w.frame; rights = w.rights; source = w.source; granted = w.granted; parent = x.parent }) (entries_of old) (entries_of new)
+view_at old new key x w limb value spots_same limbs_same values_same = record {
   here =
-      shown_is new key ∙ (λ i. joined (c.spots_same key i) (is i) (c.value_is i)) ∙ stands_joined (spots old key) x w (limbs old key) (values old key)
+      shown_is new key ∙ (λ i. joined (spots_same key i) (limb i) (value i)) ∙ stands_joined (spots old key) x w (limbs old key) (values old key)
       ∙ sym (ap (option_map (λ (e : Entry). record e { stands = Some (record { frame = w.frame; rights = w.rights; source = w.source; granted = w.granted; parent = x.parent }) })) (shown_is old key));
-  others = λ o ne. entry_same old new o (c.spots_same o) (c.limbs_same o ne) (c.values_same o ne);
+  others = λ o ne. entry_same old new o (spots_same o) (limbs_same o ne) (values_same o ne);
 }
+
+view_stands : (old new : Slots) (key : ℕ) (x : Limb) (w : Worth) → limbs new key ≡ Some x → Comes w key old new → Stands key (record { frame = w.frame; rights = w.rights; source = w.source; granted = w.granted; parent = x.parent }) (entries_of old) (entries_of new)
+view_stands old new key x w is c = view_at old new key x w is c.value_is c.spots_same c.limbs_same c.values_same
 
 pub view_root : (old new : Slots) (key frame : ℕ) (rights : RightsSet) → Rises (limbs old) (limbs new) key → Comes (record { frame = frame; rights = rights; source = false; granted = None }) key old new
     → Stands key (record { frame = frame; rights = rights; source = false; granted = None; parent = None }) (entries_of old) (entries_of new)

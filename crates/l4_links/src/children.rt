@@ -12,7 +12,7 @@ ghost use Rattle.l4_links.specs.Inside.Nodes.{AreKeys, IsForest};
 ghost use Rattle.l4_links.specs.Inside.Keeping.{entries_of, IsLive};
 ghost use Rattle.l4_links.specs.Inside.Bringing.{Fits, HaveTables, IsLacking, AtMost, WantsItems};
 ghost use Rattle.l4_links.specs.Inside.Moving.{MakesTables};
-ghost use Rattle.l4_links.specs.Inside.Growing.{SharesNone, SharesSome, Takes, Lacks, Enters, Renews, IsSpareNode, AreBare, AreRows, BringsRow, AreGrowing, BringsAll, BringsPart};
+ghost use Rattle.l4_links.specs.Inside.Growing.{SharesNone, SharesSome, Takes, Lacks, Enters, Renews, IsSpareNode, IsBareNode, AreRows, BringsRow, AreGrowing, BringsAll, BringsPart};
 
 use crate::blocks::{Pages, pages_of, place_from};
 use crate::lists::{add_under, link_under, unlink};
@@ -76,7 +76,7 @@ fn renew(nodes: &mut Slots, parent: usize, key: usize, rights: Rights)
     requires few { AreKeys nodes.old.slots }
     requires shares { SharesSome parent rights nodes.old.slots }
     requires spare { IsSpareNode key nodes.old.slots }
-    requires bare { AreBare nodes.old.slots }
+    requires bare { IsBareNode key nodes.old.slots }
     requires apart { parent ≢ key }
     ensures renews { Renews parent key rights nodes.old.slots nodes.new.slots }
     ensures room { (more : ℕ) → HasRoomFor nodes.old more → HasRoomFor nodes.new more }
@@ -87,17 +87,18 @@ fn renew(nodes: &mut Slots, parent: usize, key: usize, rights: Rights)
     let Some(node) = node_of(nodes, key) else {
         unreachable!()
     };
-    if let Some(own) = node.parent.key() {
-        if own == parent {
-            let left = above.rights.intersection(rights);
-            return set_rights(nodes, key, left, node.doomed);
-        }
-    }
-    unlink(nodes, key);
-    let Some(above) = node_of(nodes, parent) else {
+    let Some(own) = node.parent.key() else {
         unreachable!()
     };
-    link_under(nodes, parent, key, above, rights);
+    if own == parent {
+        let left = above.rights.intersection(rights);
+        return set_rights(nodes, key, left, node.doomed);
+    }
+    unlink(nodes, key);
+    let Some(after) = node_of(nodes, parent) else {
+        unreachable!()
+    };
+    link_under(nodes, parent, key, after, rights);
 }
 
 /// Gives the node under the key a child at the place, which has this entry of the table. Does nothing if there is no key, or if no right is
@@ -113,15 +114,15 @@ fn bring_at(
 )
     requires live { (first : Option ℕ) × (stamp : ℕ) × IsLive nodes.old.slots first stamp }
     requires few { AreKeys nodes.old.slots }
-    requires bare { AreBare nodes.old.slots }
+    requires bare { (k t : ℕ) → key ≡ Some k → SharesSome k rights nodes.old.slots
+        → slice_index_or target.old low None ≡ Some t → IsBareNode t nodes.old.slots }
     requires fits { IsPage place.page }
     requires within { low < length target.old }
     requires takes { Takes key (slice_index_or target.old low None) rights nodes.old.slots }
     requires apart { key ≡ slice_index_or target.old low None → key ≡ None }
     requires room { Lacks key (slice_index_or target.old low None) rights nodes.old.slots → HasRoomFor nodes.old 1 }
     ensures enters { Enters key place rights low nodes.old.slots nodes.new.slots target.old target.new }
-    ensures lacked { Lacks key (slice_index_or target.old low None) rights nodes.old.slots → (more : ℕ)
-        → HasRoomFor nodes.old (more + 1) → HasRoomFor nodes.new more }
+    ensures lacked { (more : ℕ) → HasRoomFor nodes.old (more + 1) → HasRoomFor nodes.new more }
     ensures room { ¬ (Lacks key (slice_index_or target.old low None) rights nodes.old.slots) → (more : ℕ)
         → HasRoomFor nodes.old more → HasRoomFor nodes.new more }
 {

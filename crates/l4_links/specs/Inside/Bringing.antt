@@ -1,12 +1,19 @@
 -- What the pages of a message bring to their places, part by part. (this profile's own)
-use Rattle.std.specs.Prelude.{◌≡◌, ◌≢◌, ◌<◌, ◌≤◌, ◌+◌, ◌*◌, ℕ, zero, suc, List, Some, None, true, slice_get}
-use Rattle.l4_fpage.specs.Rights.{RightsSet}
+use Rattle.std.specs.Prelude.{◌≡◌, ◌≢◌, ◌<◌, ◌≤◌, ◌+◌, ◌*◌, ℕ, zero, suc, List, Some, None, true, false, slice_get}
+use Rattle.l4_fpage.specs.Rights.{RightsSet, common}
 use Rattle.l4_spaces.specs.Tables.{table_pages}
 use Rattle.l4_spaces.specs.Rows.{Rows, is_made}
 use Rattle.l4_msg.specs.declared.items.ItemMove.{ItemMove}
 use Rattle.l4_nodes.specs.declared.Place.{Place}
+use Rattle.l4_links.specs.declared.Standing.{Standing}
 use Rattle.l4_links.specs.declared.Entry.{Entry}
-use Rattle.l4_links.specs.Entries.{Entries, entry_at, parent_of, IsAt, IsBrought, IsPlain, source_of, target_of, end_of}
+use Rattle.l4_links.specs.Entries.{Entries, entry_at, standing_at, parent_of, IsAt, Stands, IsBrought, IsPlain, source_of, target_of, end_of}
+
+-- a child of the parent is under the key now, with the parent's frame and those of these rights that the parent has
+pub record Replaces (parent key : ℕ) (rights : RightsSet) (old new : Entries) : Type 0 where
+  pub above : Standing
+  pub at_parent : standing_at old parent ≡ Some above
+  pub stands : Stands key (record { frame = above.frame; rights = common above.rights rights; source = false; granted = None; parent = Some parent }) old new
 
 -- a child can take the place of what is under the key: it has a parent, is not marked, and is no parent
 pub record IsSpare (s : Entries) (key : ℕ) (e : Entry) : Type 0 where

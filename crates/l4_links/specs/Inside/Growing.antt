@@ -12,10 +12,10 @@ use Rattle.l4_links.specs.declared.Entry.{Entry}
 use Rattle.l4_links.specs.Leads.{Leads}
 use Rattle.l4_links.specs.Inside.Trees.{parent_at}
 use Rattle.l4_links.specs.Inside.Nodes.{limbs, AddsUnder}
-use Rattle.l4_links.specs.Inside.Bringing.{AtMost}
+use Rattle.l4_links.specs.Inside.Bringing.{Replaces, AtMost}
 use Rattle.l4_links.specs.Inside.Stacks.{HasStack}
 use Rattle.l4_links.specs.Inside.Keeping.{IsIndexed, IsLive, entries_of}
-use Rattle.l4_links.specs.Entries.{moved_place, Sprouts, IsBrought, Brings}
+use Rattle.l4_links.specs.Entries.{moved_place, IsBrought, Brings}
 
 -- what is under the key shares no right with these
 abbrev pub SharesNone : ℕ → RightsSet → Slots → Type 0
@@ -65,7 +65,7 @@ BringsRow f t n place rights source row_old row_new old new =
 
 -- what is under the key gives its place to a child of what is under the other one: the trees are mended, and each page keeps its key
 pub record Renews (parent key : ℕ) (rights : RightsSet) (old new : Slots) : Type 0 where
-  pub sprouts : Sprouts parent key rights (entries_of old) (entries_of new)
+  pub replaces : Replaces parent key rights (entries_of old) (entries_of new)
   pub live : (first : Option ℕ) (stamp : ℕ) → IsLive old first stamp → IsLive new first stamp
   pub stack : (head : Option ℕ) → HasStack old head → HasStack new head
   pub indexed : (all : Tables) → IsIndexed old all → IsIndexed new all
@@ -111,9 +111,9 @@ pub record IsSpareNode (key : ℕ) (slots : Slots) : Type 0 where
   pub parent : node.parent ≢ None
   pub leaf : (low : ℕ) → ¬ (Leads (parent_at (limbs slots)) low key)
 
--- each node has a right, and no mark of a message
-abbrev pub AreBare : Slots → Type 0
-AreBare slots = (key : ℕ) (n : Node) → node_at slots key ≡ Some n → (n.rights ≢ no_rights) × (n.source ≡ false) × (n.granted ≡ None)
+-- what is under the key has a right, and no mark of a message
+abbrev pub IsBareNode : ℕ → Slots → Type 0
+IsBareNode key slots = (n : Node) → node_at slots key ≡ Some n → (n.rights ≢ no_rights) × (n.source ≡ false) × (n.granted ≡ None)
 
 -- a child of what is under the first key, if there is one and it shares a right, finds its entry free, or can take it
 abbrev pub Takes : Option ℕ → Option ℕ → RightsSet → Slots → Type 0
