@@ -3,6 +3,7 @@
 ghost use Rattle.std.specs.Prelude.{◌≡◌, ◌≢◌, ◌≤◌, ◌<◌, ◌+◌, ◌-◌, ◌*◌, ◌/◌, ◌%◌, ℕ, Option, List, length, MatchOption, OnOk, IfOk, IfErr, Some, None, true, false, slice_index_or};
 ghost use Rattle.l4_fpage.specs.Rights.{common, no_rights};
 ghost use Rattle.l4_spaces.specs.Tables.{space_pages, table_pages};
+ghost use Rattle.l4_nodes.specs.declared.nodes.Node.{Node as ANode};
 ghost use Rattle.l4_nodes.specs.Slots.{node_at};
 ghost use Rattle.l4_spaces.specs.Tables.{Tables, IsPage};
 ghost use Rattle.l4_spaces.specs.Rows.{entry, is_made, AreTablesOf};
@@ -69,21 +70,19 @@ pub(crate) fn run_at(of: &Pages, page: u32) -> Run
 }
 
 /// Puts a child of the node under the key `parent` in place of the leaf under the other key, which has a parent. If the leaf is its child
-/// already, it only gets the rights.
+/// already, it only gets the rights `left`, which are those of `rights` that the node has.
 #[inline(never)]
-fn renew(nodes: &mut Slots, parent: usize, key: usize, rights: Rights)
+fn renew(nodes: &mut Slots, parent: usize, key: usize, left: Rights, rights: Rights)
     requires live { (first : Option ℕ) × (stamp : ℕ) × IsLive nodes.old.slots first stamp }
     requires few { AreKeys nodes.old.slots }
-    requires shares { SharesSome parent rights nodes.old.slots }
+    requires shares { (above : ANode) × (node_at nodes.old.slots parent ≡ Some above)
+        × (left ≡ common above.rights rights) × (left ≢ no_rights) }
     requires spare { IsSpareNode key nodes.old.slots }
     requires bare { IsBareNode key nodes.old.slots }
     requires apart { parent ≢ key }
     ensures renews { Renews parent key rights nodes.old.slots nodes.new.slots }
     ensures room { (more : ℕ) → HasRoomFor nodes.old more → HasRoomFor nodes.new more }
 {
-    let Some(above) = node_of(nodes, parent) else {
-        unreachable!()
-    };
     let Some(node) = node_of(nodes, key) else {
         unreachable!()
     };
@@ -91,14 +90,13 @@ fn renew(nodes: &mut Slots, parent: usize, key: usize, rights: Rights)
         unreachable!()
     };
     if own == parent {
-        let left = above.rights.intersection(rights);
         return set_rights(nodes, key, left, node.doomed);
     }
     unlink(nodes, key);
-    let Some(after) = node_of(nodes, parent) else {
+    let Some(above) = node_of(nodes, parent) else {
         unreachable!()
     };
-    link_under(nodes, parent, key, after, rights);
+    link_under(nodes, parent, key, above, rights);
 }
 
 /// Gives the node under the key a child at the place, which has this entry of the table. Does nothing if there is no key, or if no right is
@@ -133,7 +131,8 @@ fn bring_at(
         return;
     };
     if let Some(taken) = target.at(low) {
-        return renew(nodes, key, taken, rights);
+        let left = above.rights.intersection(rights);
+        return renew(nodes, key, taken, left, rights);
     }
     let child = add_under(nodes, key, place, &above, rights);
     target.put(low, child);
