@@ -1,6 +1,6 @@
 //! A key or none, in four bytes. Page tables and nodes store keys in this form.
 
-ghost use Rattle.std.specs.Prelude.{◌≡◌, Some, None};
+ghost use Rattle.std.specs.Prelude.{◌≡◌, Some, None, is_some};
 ghost use Rattle.l4_spaces.specs.Keys.{IsKey};
 
 use std::marker::Model;
@@ -15,7 +15,7 @@ pub struct Link {
 }
 
 impl Model for Link {
-    ghost use Rattle.std.specs.Prelude.{ℕ, Option};
+    ghost use Rattle.std.specs.Prelude.{ℕ, Option, is_some};
     ghost use Rattle.std.specs.Coded.{coded_ℕ, coded_option};
 
     ghost Value = { Option ℕ };
@@ -45,6 +45,14 @@ impl Link {
         ensures { result ≡ Some key }
     {
         Link { number: key as u32 }
+    }
+
+    /// Returns whether this is the link to a key.
+    #[inline]
+    pub fn is_some(self) -> bool
+        ensures { result ≡ is_some self }
+    {
+        self.number != NO_KEY
     }
 
     /// Returns the key, or None for a link to no key.

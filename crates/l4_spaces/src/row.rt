@@ -1,6 +1,6 @@
 //! One table: a key or none for each of its pages, in four bytes each.
 
-ghost use Rattle.std.specs.Prelude.{◌≡◌, ◌<◌, ◌+◌, ◌*◌, [], length, replicate, false, None, IfOk, slice_index_or, slice_set};
+ghost use Rattle.std.specs.Prelude.{◌≡◌, ◌<◌, ◌≤◌, ◌+◌, ◌*◌, [], length, replicate, false, true, None, IfOk, slice_index_or, slice_set};
 ghost use Rattle.l4_spaces.specs.Tables.{row_block, NoKeys};
 
 use crate::keys::Link;
@@ -87,6 +87,18 @@ impl Row {
             → NoKeys self.now (block * row_block) (block * row_block + row_block) }
     {
         self.used[block % BLOCKS]
+    }
+
+    /// Returns whether none of these entries has a key. It looks at all of them, several at a time.
+    pub fn is_free(&self, from: usize, end: usize) -> bool
+        requires within { end ≤ length self.now }
+        ensures { result ≡ true → NoKeys self.now from end }
+    {
+        let mut used = false;
+        for low in from..end {
+            used = self.link(low).is_some() || used;
+        }
+        !used
     }
 
     /// Returns the key of the entry, or None beyond the end.
