@@ -24,6 +24,9 @@ pub mod Replacing
 pub mod Adding
 pub mod Naming
 pub mod Asides
+pub mod Results
+pub mod TableEntries
+pub mod Wanting
 pub mod Bringing
 pub mod RowSteps
 pub mod PageRuns

@@ -13,22 +13,20 @@ use Rattle.l4_links.specs.Entries.{moved_place}
 use Rattle.l4_links.specs.Inside.Nodes.{IsOf}
 use Rattle.l4_links.specs.Inside.Moving.{AreFree, CanGo, IsStuck, IsStuckIn, CanGoIn, MovesAt, MovesRow, Moves, AreNamed, AreOthersSame}
 use Rattle.l4_links.proofs.Asides.{pair_of, named_back, others_back, made_back}
-use Rattle.l4_links.proofs.HeldChildren.{source_entry, target_entry}
 use Rattle.l4_links.proofs.Moving.{moves_first, moves_all, moves_more, moves_joined, free_there, free_more}
 use Rattle.l4_links.proofs.Naming.{indexed_renamed}
-use Rattle.l4_links.proofs.PageRuns.{made_within}
-use Rattle.l4_links.proofs.RowSteps.{page_at}
+use Rattle.l4_links.proofs.TableEntries.{page_at, made_within, source_entry, target_entry}
 
 -- a run can go, by its two tables
 module _ (source target : ℕ) (rights : RightsSet) (sources targets made : Rows) (slots : Slots) (page place f t n : ℕ) (from : source ≤ page) (place_is : place ≡ page - source + target) (f_is : f ≡ page % table_pages) (t_is : t ≡ (page - source + target) % table_pages)
     (line target_line : List (Option ℕ)) (line_is : row sources (page / table_pages) ≡ line) (target_is : row made (place / table_pages) ≡ target_line) (f_in : f + n ≤ table_pages) (t_in : t + n ≤ table_pages)
     (same : (p : ℕ) → entry made p ≡ entry targets p) where
   from_line : (step : ℕ) → step < n → slice_index_or line (f + step) None ≡ entry sources (page + step)
-  from_line step lt = sym (source_entry source target rights sources made slots page place f t n from place_is f_is t_is line target_line line_is target_is f_in t_in step lt)
+  from_line step lt = sym (source_entry source target sources made page place f t n from place_is f_is t_is line target_line line_is target_is f_in t_in step lt)
 
   from_target : (step : ℕ) → step < n → slice_index_or target_line (t + step) None ≡ entry targets (page + step - source + target)
   from_target step lt =
-      sym (target_entry source target rights sources made slots page place f t n from place_is f_is t_is line target_line line_is target_is f_in t_in step lt)
+      sym (target_entry source target sources made page place f t n from place_is f_is t_is line target_line line_is target_is f_in t_in step lt)
       ∙ same (page + step - source + target)
 
   pub run_stuck : (end step : ℕ) → step < n → page + step < end → IsStuck (slice_index_or line (f + step) None) (slice_index_or target_line (t + step) None) rights slots → IsStuckIn source page end target rights sources targets slots

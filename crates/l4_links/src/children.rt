@@ -1,6 +1,6 @@
 //! Gives many pages their children, each at its place. Pages of one table whose places are in one table form a run.
 
-ghost use Rattle.std.specs.Prelude.{◌≡◌, ◌≢◌, ◌≤◌, ◌<◌, ◌+◌, ◌-◌, ◌*◌, ◌/◌, ◌%◌, ℕ, Option, List, length, MatchOption, OnOk, IfOk, IfErr, Some, None, true, false, slice_index_or};
+ghost use Rattle.std.specs.Prelude.{◌≡◌, ◌≢◌, ◌≤◌, ◌<◌, ◌+◌, ◌-◌, ◌*◌, ◌/◌, ◌%◌, ℕ, Option, List, length, MatchOption, OnOk, OnErr, IfOk, IfErr, Some, None, true, false, slice_index_or};
 ghost use Rattle.l4_fpage.specs.Rights.{common, no_rights};
 ghost use Rattle.l4_spaces.specs.Tables.{space_pages, table_pages};
 ghost use Rattle.l4_nodes.specs.declared.nodes.Node.{Node as ANode};
@@ -11,7 +11,7 @@ ghost use Rattle.l4_nodes.specs.Slots.{HasRoomFor};
 ghost use Rattle.l4_links.specs.Entries.{IsBrought, IsDue, AreOverLeaves, LacksKey, HasOther, AreApart, ArePlain};
 ghost use Rattle.l4_links.specs.Inside.Nodes.{AreKeys, IsForest};
 ghost use Rattle.l4_links.specs.Inside.Keeping.{entries_of, IsLive};
-ghost use Rattle.l4_links.specs.Inside.Bringing.{Fits, HaveTables, IsLacking, AtMost, WantsItems};
+ghost use Rattle.l4_links.specs.Inside.Bringing.{Fits, HaveTables, IsLacking, AtMost, CanBring};
 ghost use Rattle.l4_links.specs.Inside.Moving.{MakesTables};
 ghost use Rattle.l4_links.specs.Inside.Growing.{SharesNone, SharesSome, Takes, Lacks, Enters, Renews, IsSpareNode, IsBareNode, AreRows, BringsRow, AreGrowing, BringsAll, BringsPart};
 
@@ -249,6 +249,8 @@ fn wants_all(
     to: u64,
     items: &[ItemMove],
 ) -> Result<Option<usize>, NoMemory>
+    requires differ { from ≢ to }
+    requires apart { AreApart items.now }
     requires growing { (pages : Tables) × (first head : Option ℕ) × (stamp : ℕ) × (all : Tables)
         × AreTablesOf pages from sources.now.items
         × AreGrowing to pages targets.old.items nodes.now.slots first head stamp all }
@@ -256,10 +258,7 @@ fn wants_all(
     ensures wants { IfOk result (λ found. MatchOption found
         (HasOther (IsDue from to items.now (length items.now) (entries_of nodes.now.slots))
         (entries_of nodes.now.slots))
-        (λ wants. Fits (IsDue from to items.now (length items.now) (entries_of nodes.now.slots)) (entries_of nodes.now.slots)
-        × HaveTables (IsDue from to items.now (length items.now) (entries_of nodes.now.slots)) targets.new.items
-        × WantsItems from to items.now (length items.now) (entries_of nodes.now.slots) wants
-        × (1 ≤ wants → LacksKey (IsDue from to items.now (length items.now) (entries_of nodes.now.slots)) (entries_of nodes.now.slots)))) }
+        (λ wants. CanBring from to items.now (length items.now) (entries_of nodes.now.slots) targets.new.items wants)) }
     ensures lacks { OnErr result (LacksKey (IsDue from to items.now (length items.now) (entries_of nodes.now.slots))
         (entries_of nodes.now.slots)) }
     ensures makes { MakesTables targets.old.items targets.new.items }

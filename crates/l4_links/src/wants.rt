@@ -6,14 +6,14 @@ ghost use Rattle.l4_spaces.specs.Rows.{entry, AreWhole};
 ghost use Rattle.l4_nodes.specs.Slots.{node_at};
 ghost use Rattle.l4_links.specs.Inside.Nodes.{IsForest};
 ghost use Rattle.l4_links.specs.Inside.Moving.{MakesTables};
-ghost use Rattle.l4_links.specs.Inside.Growing.{IsSpareNode, Takes, Lacks, IsHindered, WantsRow, WantsPages, IsHinderedPage, LacksPage};
+ghost use Rattle.l4_links.specs.Inside.Growing.{IsSpareNode, IsHindered, WantsOne, WantsRow, WantsPages, IsHinderedPage, LacksPage};
 
 use crate::blocks::{Pages, place_from};
 use crate::children::{Run, run_at, sharing};
 use crate::walks::is_leaf;
 use l4_fpage::Rights;
 use l4_nodes::{Slots, node_of};
-use l4_spaces::tables::{TABLE_PAGES, is_ready, make_all, next_page};
+use l4_spaces::tables::{TABLE_PAGES, make_all, next_page};
 use l4_spaces::{NoMemory, Row};
 
 /// Returns whether a child can take the place of the node under the key: the node has a parent, and nothing descends from it.
@@ -25,9 +25,9 @@ fn can_go(nodes: &Slots, key: usize) -> bool
     let Some(node) = node_of(nodes, key) else {
         return false;
     };
-    if let None = node.parent.key() {
+    let Some(_) = node.parent.key() else {
         return false;
-    }
+    };
     is_leaf(nodes, key)
 }
 
@@ -41,10 +41,7 @@ fn wants_at(
     rights: Rights,
 ) -> Option<usize>
     requires forest { (ks : List ℕ) × IsForest nodes.now.slots ks }
-    ensures takes { MatchOption result (IsHindered key taken rights nodes.now.slots)
-        (λ _. Takes key taken rights nodes.now.slots) }
-    ensures lacks { IfSome result (λ wants. (1 ≤ wants → Lacks key taken rights nodes.now.slots)
-        × (Lacks key taken rights nodes.now.slots → wants ≡ 1) × (wants ≤ 1)) }
+    ensures { MatchOption result (IsHindered key taken rights nodes.now.slots) (WantsOne key taken rights nodes.now.slots) }
 {
     let Some(key) = key else {
         return Some(0);
@@ -71,8 +68,7 @@ fn wants_run(nodes: &Slots, source: &Row, target: &Row, run: &Run, rights: Right
     requires to { run.now.to + run.now.entries ≤ table_pages }
     ensures { MatchOption result ((step : ℕ) × (step < run.now.entries)
         × IsHindered (slice_index_or source.now (run.now.from + step) None) (slice_index_or target.now (run.now.to + step) None) rights nodes.now.slots)
-        (λ wants. (wants ≤ run.now.entries) × WantsRow run.now.from run.now.to run.now.entries rights source.now target.now
-        wants nodes.now.slots) }
+        (λ wants. WantsRow run.now.from run.now.to run.now.entries rights source.now target.now wants nodes.now.slots) }
 {
     let from = run.from;
     let to = run.to;
@@ -105,8 +101,8 @@ fn wants_from(
     ensures wants { IfOk result (λ found. MatchOption found
         (IsHinderedPage of.now.source.page page of.now.end of.now.target.page of.now.rights sources.now.items
         targets.old.items nodes.now.slots)
-        (λ found. (page < found.0) × (found.0 ≤ of.now.end) × (found.1 ≤ found.0 - page) × WantsPages of.now.source.page
-        page found.0 of.now.target.page of.now.rights sources.now.items targets.new.items found.1 nodes.now.slots)) }
+        (λ found. (page < found.0) × (found.0 ≤ of.now.end) × WantsPages of.now.source.page page found.0 of.now.target.page
+        of.now.rights sources.now.items targets.new.items found.1 nodes.now.slots)) }
     ensures lacks { OnErr result (LacksPage of.now.source.page page of.now.end of.now.target.page
         of.now.rights sources.now.items targets.old.items nodes.now.slots) }
     ensures makes { MakesTables targets.old.items targets.new.items }
@@ -118,10 +114,8 @@ fn wants_from(
     let run = run_at(of, page);
     let after = page + run.entries as u32;
     let Some(_) = next_page(targets, place.page, place.page + run.entries as u32) else {
-        if !is_ready(targets, place.page) {
-            let alloc = *targets.allocator();
-            make_all(targets, alloc, &[place.page])?;
-        }
+        let alloc = *targets.allocator();
+        make_all(targets, alloc, &[place.page])?;
         return Ok(Some((after, run.entries)));
     };
     let source = &sources[(page / TABLE_PAGES) as usize];
@@ -142,6 +136,7 @@ pub(crate) fn wants_item(
 ) -> Result<Option<usize>, NoMemory>
     requires forest { (ks : List ℕ) × IsForest nodes.now.slots ks }
     requires sources { AreWhole sources.now.items }
+    requires short { length sources.now.items ≤ space_tables }
     requires whole { AreWhole targets.old.items }
     requires full { length targets.old.items ≤ space_tables }
     requires rising { of.now.source.page ≤ of.now.end }
@@ -149,8 +144,8 @@ pub(crate) fn wants_item(
     ensures wants { IfOk result (λ found. MatchOption found
         (IsHinderedPage of.now.source.page of.now.source.page of.now.end of.now.target.page of.now.rights
         sources.now.items targets.old.items nodes.now.slots)
-        (λ wants. (wants ≤ of.now.end - of.now.source.page) × WantsPages of.now.source.page of.now.source.page of.now.end
-        of.now.target.page of.now.rights sources.now.items targets.new.items wants nodes.now.slots)) }
+        (λ wants. WantsPages of.now.source.page of.now.source.page of.now.end of.now.target.page of.now.rights
+        sources.now.items targets.new.items wants nodes.now.slots)) }
     ensures lacks { OnErr result (LacksPage of.now.source.page of.now.source.page of.now.end
         of.now.target.page of.now.rights sources.now.items targets.old.items nodes.now.slots) }
     ensures makes { MakesTables targets.old.items targets.new.items }

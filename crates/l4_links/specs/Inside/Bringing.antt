@@ -7,7 +7,7 @@ use Rattle.l4_msg.specs.declared.items.ItemMove.{ItemMove}
 use Rattle.l4_nodes.specs.declared.Place.{Place}
 use Rattle.l4_links.specs.declared.Standing.{Standing}
 use Rattle.l4_links.specs.declared.Entry.{Entry}
-use Rattle.l4_links.specs.Entries.{Entries, entry_at, standing_at, parent_of, IsAt, Stands, IsBrought, IsPlain, source_of, target_of, end_of}
+use Rattle.l4_links.specs.Entries.{Entries, entry_at, standing_at, parent_of, IsAt, Stands, IsBrought, IsDue, LacksKey, IsPlain, source_of, target_of, end_of}
 
 -- a child of the parent is under the key now, with the parent's frame and those of these rights that the parent has
 pub record Replaces (parent key : ℕ) (rights : RightsSet) (old new : Entries) : Type 0 where
@@ -43,7 +43,7 @@ pub data AtMost (P : ℕ → Type 0) : ℕ → ℕ → ℕ → Type 0 where
   pass : {next end most : ℕ} → ¬ (P next) → AtMost P (next + 1) end most → AtMost P next end most
 
 -- the sum of the first of these numbers
-pub sum_to : (ℕ → ℕ) → ℕ → ℕ
+unfoldable pub sum_to : (ℕ → ℕ) → ℕ → ℕ
 sum_to counts zero = 0
 sum_to counts (suc n) = sum_to counts n + counts n
 
@@ -53,3 +53,9 @@ pub record WantsItems (from to : ℕ) (items : List ItemMove) (end : ℕ) (s : E
   pub each : (item : ℕ) (by : ItemMove) → item < end → slice_get items item ≡ Some by
       → AtMost (IsLacking (source_of from by) (end_of by) (target_of to by) by.rights s) by.mv.source.first (end_of by) (counts item)
   pub total : sum_to counts end ≤ wants
+
+-- what the items before this number bring can come: it fits, its tables are there, and so many slots are enough, none if nothing lacks a key
+abbrev pub CanBring : (from to : ℕ) (items : List ItemMove) (end : ℕ) (s : Entries) (targets : Rows) (wants : ℕ) → Type 0
+CanBring from to items end s targets wants =
+    Fits (IsDue from to items end s) s × HaveTables (IsDue from to items end s) targets × WantsItems from to items end s wants
+    × (1 ≤ wants → LacksKey (IsDue from to items end s) s)

@@ -126,18 +126,29 @@ Lacks key taken rights slots = (k : ℕ) × (key ≡ Some k) × SharesSome k rig
 abbrev pub IsHindered : Option ℕ → Option ℕ → RightsSet → Slots → Type 0
 IsHindered key taken rights slots = (k : ℕ) × (key ≡ Some k) × SharesSome k rights slots × (taken ≢ None)
 
--- so it is for each of these entries; at most so many find theirs free
-pub record WantsRow (f t n : ℕ) (rights : RightsSet) (source target : List (Option ℕ)) (wants : ℕ) (slots : Slots) : Type 0 where
-  pub takes : (step : ℕ) → step < n → Takes (slice_index_or source (f + step) None) (slice_index_or target (t + step) None) rights slots
-  pub most : AtMost (λ step. Lacks (slice_index_or source (f + step) None) (slice_index_or target (t + step) None) rights slots) 0 n wants
-  pub some : 1 ≤ wants → (step : ℕ) × (step < n) × Lacks (slice_index_or source (f + step) None) (slice_index_or target (t + step) None) rights slots
+-- it finds its place, and so many slots are what it needs
+abbrev pub WantsOne : (key taken : Option ℕ) → RightsSet → Slots → (wants : ℕ) → Type 0
+WantsOne key taken rights slots wants = Takes key taken rights slots × (1 ≤ wants → Lacks key taken rights slots) × (Lacks key taken rights slots → 1 ≤ wants) × (wants ≤ 1)
+
+-- from the first of these numbers on and below the second, this holds; at most so many lack something
+pub record Wants (Takes Lacks : ℕ → Type 0) (from end wants : ℕ) : Type 0 where
+  pub takes : (n : ℕ) → from ≤ n → n < end → Takes n
+  pub most : AtMost Lacks from end wants
+  pub some : 1 ≤ wants → (n : ℕ) × (from ≤ n) × (n < end) × Lacks n
+  pub few : from + wants ≤ end
+
+-- so it is for each of these entries
+abbrev pub WantsRow : (f t n : ℕ) → RightsSet → (source target : List (Option ℕ)) → (wants : ℕ) → Slots → Type 0
+WantsRow f t n rights source target wants slots =
+    Wants (λ step. Takes (slice_index_or source (f + step) None) (slice_index_or target (t + step) None) rights slots)
+    (λ step. Lacks (slice_index_or source (f + step) None) (slice_index_or target (t + step) None) rights slots) 0 n wants
 
 -- the same for pages, by the tables; those of the places that lack a key are there
-pub record WantsPages (source from end target : ℕ) (rights : RightsSet) (sources targets : Rows) (wants : ℕ) (slots : Slots) : Type 0 where
-  pub takes : (page : ℕ) → from ≤ page → page < end → Takes (entry sources page) (entry targets (page - source + target)) rights slots
-  pub made : (page : ℕ) → from ≤ page → page < end → Lacks (entry sources page) (entry targets (page - source + target)) rights slots → is_made targets ((page - source + target) / table_pages) ≡ true
-  pub most : AtMost (λ page. Lacks (entry sources page) (entry targets (page - source + target)) rights slots) from end wants
-  pub some : 1 ≤ wants → (page : ℕ) × (from ≤ page) × (page < end) × Lacks (entry sources page) (entry targets (page - source + target)) rights slots
+abbrev pub WantsPages : (source from end target : ℕ) → RightsSet → (sources targets : Rows) → (wants : ℕ) → Slots → Type 0
+WantsPages source from end target rights sources targets wants slots =
+    Wants (λ page. Takes (entry sources page) (entry targets (page - source + target)) rights slots
+    × (Lacks (entry sources page) (entry targets (page - source + target)) rights slots → is_made targets ((page - source + target) / table_pages) ≡ true))
+    (λ page. Lacks (entry sources page) (entry targets (page - source + target)) rights slots) from end wants
 
 abbrev pub IsHinderedPage : (source from end target : ℕ) → RightsSet → (sources targets : Rows) → Slots → Type 0
 IsHinderedPage source from end target rights sources targets slots = (page : ℕ) × (from ≤ page) × (page < end) × IsHindered (entry sources page) (entry targets (page - source + target)) rights slots

@@ -1,20 +1,17 @@
-use Rattle.std.proofs.Common.{◌≡◌, ℕ, ◌+◌, ◌-◌, ◌/◌, true, Option, Some, Result, Ok, Err, OnErr, sym, ap, ◌∙◌, subst, arith}
+use Rattle.std.proofs.Common.{◌≡◌, ℕ, ◌+◌, ◌-◌, ◌/◌, true, Option, Some, sym, ap, ◌∙◌, subst, arith}
 use Rattle.l4_spaces.specs.Tables.{table_pages}
 use Rattle.l4_spaces.specs.Rows.{row, entry, is_made}
 use Rattle.l4_spaces.proofs.Rows.{row_was}
 use Rattle.l4_nodes.specs.declared.Place.{Place}
 use Rattle.l4_links.specs.Inside.Moving.{CanGo, IsStuck}
-use Rattle.l4_links.proofs.PageRuns.{shown_made, made_within, made_whole}
+use Rattle.l4_links.proofs.Results.{on_err}
 use Rattle.l4_links.proofs.RowMoves.{run_goes, run_stuck}
+use Rattle.l4_links.proofs.TableEntries.{shown_made, made_within, made_whole}
 use Rattle.l4_links.proofs.blocks.can_go_from.Goals.{After-place_from-place, After-can_go_run, After-index-target}
 use Rattle.l4_links.proofs.blocks.can_go_from.Goals as goal
 
 place_is : (c : After-place_from-place) → c.place_from-place.result.page ≡ c.args.page - c.args.of.now.source.page + c.args.of.now.target.page
 place_is c = ap (λ (p : Place). p.page) c.place_from-place.ensures
-
-on_err : {T E P : Type 0} (r : Result T E) → P → OnErr r P
-on_err (Ok x) p = tt
-on_err (Err e) p = p
 
 pub returns-then-not-can_go-clause-can : goal.returns-then-not-can_go-clause-can
 returns-then-not-can_go-clause-can c =

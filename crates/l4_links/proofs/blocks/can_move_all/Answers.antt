@@ -1,8 +1,9 @@
-use Rattle.std.proofs.Common.{◌≡◌, ◌<◌, ◌≤◌, ◌-◌, ◌+◌, ℕ, Option, Some, None, MatchOption, Result, Ok, Err, OnErr, refl, ◌∙◌, subst, arith}
+use Rattle.std.proofs.Common.{◌≡◌, ◌<◌, ◌≤◌, ◌-◌, ◌+◌, ℕ, Option, Some, None, refl, ◌∙◌, subst, arith}
 use Rattle.l4_spaces.specs.Rows.{entry, AreTablesOf}
 use Rattle.l4_spaces.proofs.Aside.{none_present, made_aside}
 use Rattle.l4_links.specs.Inside.Moving.{IsStuckIn, CanGoIn}
 use Rattle.l4_links.proofs.Moving.{makes_more, can_first, can_all, can_joined, hinders_found, lacks_found}
+use Rattle.l4_links.proofs.Results.{on_some, on_none, on_err}
 use Rattle.l4_links.proofs.blocks.can_move_all.Goals.{After-next_page}
 use Rattle.l4_links.proofs.blocks.can_move_all.Goals as goal
 
@@ -32,15 +33,6 @@ returns-in_default-clause-can c = λ _.
     can_all c.args.of.now.source c.loop-next.page c.args.of.now.end c.args.of.now.target c.args.of.now.rights c.args.nodes.now.slots c.requires.named.0 c.loop-next.targets.items c.requires.named.1.indexed
     (none_present c.requires.named.0 c.args.of.now.source.space c.loop-next.page c.args.of.now.end c.args.sources.now.items c.requires.named.1.source c.in_default.ensures) c.loop-next.invariant.can
 
--- what is known of the run
-on_some : (P : Type 0) (F : ℕ → Type 0) (r : Option ℕ) (a : ℕ) → r ≡ Some a → MatchOption r P F → F a
-on_some P F None a is m = absurd (let z : ◌≡◌ {A = Option ℕ} None (Some a) = is in cc)
-on_some P F (Some b) a is m = subst F (let z : b ≡ a = (let y : ◌≡◌ {A = Option ℕ} (Some b) (Some a) = is in cc) in z) m
-
-on_none : (P : Type 0) (F : ℕ → Type 0) (r : Option ℕ) → r ≡ None → MatchOption r P F → P
-on_none P F None is m = m
-on_none P F (Some b) is m = absurd (let z : ◌≡◌ {A = Option ℕ} (Some b) None = is in cc)
-
 pub loop-next-preserved : goal.loop-next-preserved
 loop-next-preserved c =
     let went =
@@ -54,10 +46,6 @@ loop-next-preserved c =
           c.can_go_from.new.targets.items c.requires.named.1.indexed c.requires.named.1.source (targets (goal.at.loop-next-preserved c).After-next_page) c.loop-next.invariant.can c.in-Some.ensures.least went.2 c.can_go_from.ensures.makes;
       makes = makes_more c.args.targets.now.items c.loop-next.targets.items c.can_go_from.new.targets.items c.loop-next.invariant.makes c.can_go_from.ensures.makes;
     }
-
-on_err : {T E P : Type 0} (r : Result T E) → P → OnErr r P
-on_err (Ok x) p = tt
-on_err (Err e) p = p
 
 pub returns-in_default-found-clause-hinders : goal.returns-in_default-found-clause-hinders
 returns-in_default-found-clause-hinders c = λ _.

@@ -8,8 +8,8 @@ use Rattle.l4_spaces.proofs.Rows.{row_was}
 use Rattle.l4_nodes.specs.declared.Place.{Place}
 use Rattle.l4_links.specs.Inside.Moving.{AreNamed, AreOthersSame}
 use Rattle.l4_links.proofs.Moving.{moves_first, moves_all, made_still}
-use Rattle.l4_links.proofs.PageRuns.{shown_made, made_within, made_whole}
 use Rattle.l4_links.proofs.RowMoves.{run_gone}
+use Rattle.l4_links.proofs.TableEntries.{shown_made, made_within, made_whole}
 use Rattle.l4_links.proofs.blocks.move_all.Goals.{After-next_page, After-place_from-place, After-index_mut-target}
 use Rattle.l4_links.proofs.blocks.move_all.Goals as goal
 

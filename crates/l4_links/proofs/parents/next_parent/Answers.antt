@@ -1,6 +1,6 @@
 use Rattle.std.proofs.Common.{sym, ◌∙◌, arith}
 use Rattle.l4_links.proofs.ParentWalk.{none_from, found_from}
-use Rattle.l4_links.proofs.PageRuns.{match_both}
+use Rattle.l4_links.proofs.Results.{match_both}
 use Rattle.l4_links.proofs.parents.next_parent.Goals as goal
 
 pub returns-in-Some : goal.returns-in-Some

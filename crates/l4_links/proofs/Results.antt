@@ -1,0 +1,21 @@
+-- What is known of a result.
+use Rattle.std.proofs.Common.{◌≡◌, Option, Some, None, MatchOption, Result, Ok, Err, OnErr, subst}
+
+-- what is known of a result leads to more
+pub match_both : {A : Type 0} (r : Option A) (P Q : Type 0) (F G : A → Type 0) → (P → Q) → ((a : A) → F a → G a) → MatchOption r P F → MatchOption r Q G
+match_both None P Q F G f g m = f m
+match_both (Some a) P Q F G f g m = g a m
+
+pub match_any : {A : Type 0} (r : Option A) (P C : Type 0) (F : A → Type 0) → (P → C) → ((a : A) → F a → C) → MatchOption r P F → C
+match_any None P C F f g m = f m
+match_any (Some a) P C F f g m = g a m
+
+pub on_some : {A : Type 0} (P : Type 0) (F : A → Type 0) (r : Option A) (a : A) → r ≡ Some a → MatchOption r P F → F a
+on_some {A} P F r a is m = subst (λ (o : Option A). MatchOption o P F) is m
+
+pub on_none : {A : Type 0} (P : Type 0) (F : A → Type 0) (r : Option A) → r ≡ None → MatchOption r P F → P
+on_none {A} P F r is m = subst (λ (o : Option A). MatchOption o P F) is m
+
+pub on_err : {T E P : Type 0} (r : Result T E) → P → OnErr r P
+on_err (Ok x) p = tt
+on_err (Err e) p = p

@@ -1,0 +1,16 @@
+use Rattle.std.proofs.Common.{◌≤◌, ◌+◌, ◌-◌}
+use Rattle.l4_links.specs.Inside.Growing.{WantsPages}
+use Rattle.l4_links.specs.Inside.Moving.{MakesTables}
+use Rattle.l4_links.proofs.wants.wants_item.Given as goal
+
+-- what the pages before this one need
+abbrev pub invariant-loop-next : goal.invariant-loop-next
+invariant-loop-next l = record {
+  pages : WantsPages l.of.source.page l.of.source.page l.page l.of.target.page l.of.rights l.sources.items l.targets.items l.wants l.nodes.slots;
+  few : l.of.source.page + l.wants ≤ l.page;
+  before : l.page ≤ l.of.end;
+  makes : MakesTables l.fn.targets.items l.targets.items;
+}
+
+abbrev pub decreases-loop-next : goal.decreases-loop-next
+decreases-loop-next l = l.of.end - l.page

@@ -1,0 +1,11 @@
+use Rattle.std.proofs.Common.{◌≤◌}
+use Rattle.l4_links.specs.Inside.Growing.{WantsRow}
+use Rattle.l4_links.proofs.wants.wants_run.Given as goal
+
+-- what the entries before this one need
+abbrev pub invariant-loop-step : goal.invariant-loop-step
+invariant-loop-step l = record {
+  row : WantsRow l.from l.to l.step l.rights l.source l.target l.wants l.nodes.slots;
+  few : l.wants ≤ l.step;
+  within : l.step ≤ l.run.entries;
+}
