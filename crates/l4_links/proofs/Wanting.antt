@@ -5,13 +5,14 @@ use Rattle.std.specs.Option.{option_map, option_and_then}
 use Rattle.l4_fpage.specs.Rights.{RightsSet, common, no_rights}
 use Rattle.l4_spaces.specs.Tables.{Tables, key_of, table_pages}
 use Rattle.l4_spaces.specs.Rows.{Rows, row, entry, is_made, NoneIn, IsFirstIn, AreTablesOf, AreAside}
-use Rattle.l4_spaces.proofs.Aside.{made_aside}
+use Rattle.l4_spaces.proofs.Aside.{still_aside, made_aside}
 use Rattle.l4_msg.specs.declared.items.ItemMove.{ItemMove}
 use Rattle.l4_nodes.specs.declared.Place.{Place}
 use Rattle.l4_nodes.specs.declared.nodes.Node.{Node}
 use Rattle.l4_nodes.specs.Slots.{Slots, node_at}
 use Rattle.l4_links.specs.declared.Standing.{Standing}
 use Rattle.l4_links.specs.declared.Entry.{Entry}
+use Rattle.l4_links.specs.declared.blocks.Pages.{Pages}
 use Rattle.l4_links.specs.Leads.{Leads, step}
 use Rattle.l4_links.specs.Entries.{Entries, entry_at, standing_at, parent_of, IsAt, moved_place, IsShared, brought, IsBrought, IsDue, LacksKey, HasOther, ArePlain, source_of, target_of, end_of}
 use Rattle.l4_links.specs.Inside.Bringing.{IsSpare, Fits, HaveTables, IsLacking, AtMost, none, one, pass, sum_to, WantsItems, CanBring}
@@ -19,9 +20,8 @@ use Rattle.l4_links.specs.Inside.Trees.{parent_at}
 use Rattle.l4_links.specs.Inside.Nodes.{limbs}
 use Rattle.l4_links.specs.Inside.Growing.{SharesNone, SharesSome, Takes, Lacks, IsHindered, Wants, WantsRow, WantsPages, IsHinderedPage, LacksPage, IsSpareNode}
 use Rattle.l4_links.specs.Inside.Keeping.{IsIndexed, standing_of, entries_of}
-use Rattle.l4_links.specs.Inside.Moving.{MakesTables}
+use Rattle.l4_links.specs.Inside.Moving.{MakesTables, AreNamed}
 use Rattle.l4_links.proofs.Bringing.{at_most_back, at_most_joined}
-use Rattle.l4_links.proofs.Moving.{makes_more}
 use Rattle.l4_links.proofs.Naming.{is_at}
 use Rattle.l4_links.proofs.Seen.{standing_is, standing_node, leads_of}
 use Rattle.l4_links.proofs.TableEntries.{entry_of_page, entry_named, shown_made, at_page, at_line}
@@ -202,15 +202,18 @@ module _ (source target : ℕ) (rights : RightsSet) (sources targets : Rows) (sl
     run_hindered end nth lt fits h =
         (page + nth, omega arith, omega (arith, lt, fits), at_page source target sources targets page place f t n from place_is f_is t_is line target_line line_is target_is f_in t_in (λ key taken. IsHindered key taken rights slots) nth lt h)
 
+-- tables were made, which have no keys
+named_made : (from to : ℕ) (sources old new : Rows) (slots : Slots) (all : Tables) → AreNamed from to sources old slots all → MakesTables old new → AreNamed from to sources new slots all
+named_made from to sources old new slots all t makes = record { source = t.source; target = made_aside all to old new t.target makes.same makes.whole makes.full; indexed = t.indexed }
+
 -- pages of an item, as a contract sees them
-module _ (source : Place) (end : ℕ) (target : Place) (rights : RightsSet) (slots : Slots) (pages all : Tables) (sources targets : Rows) (apart : source.space ≢ target.space) (src : AreTablesOf pages source.space sources) (i : IsIndexed slots all)
-    (aside : AreAside target.space targets pages all) where
+module _ (source : Place) (end : ℕ) (target : Place) (rights : RightsSet) (slots : Slots) (all : Tables) (sources targets : Rows) (t : AreNamed source.space target.space sources targets slots all) where
   abbrev goes : ℕ → Place
   goes page = moved_place source target (record { space = source.space; page = page })
 
   -- what is brought is a child of a page, by the tables
   shared_key : (key : ℕ) (h : IsShared source end rights (entries_of slots) key) → entry sources h.entry.place.page ≡ Some key
-  shared_key key h = sym (aside.away source.space h.entry.place.page apart ∙ src.keys h.entry.place.page) ∙ entry_named slots all i source.space key h.entry h.at h.inside.0
+  shared_key key h = sym (t.source.keys h.entry.place.page) ∙ entry_named slots all t.indexed source.space key h.entry h.at h.inside.0
 
   shared_some : (key : ℕ) → IsShared source end rights (entries_of slots) key → SharesSome key rights slots
   shared_some key h =
@@ -221,7 +224,7 @@ module _ (source : Place) (end : ℕ) (target : Place) (rights : RightsSet) (slo
   due_at : (page key : ℕ) → source.page ≤ page → page < end → entry sources page ≡ Some key → SharesSome key rights slots → (e : Entry) × IsBrought source end target rights (entries_of slots) e × (e.place ≡ goes page)
   due_at page key ge lt shows some =
       let here : Place = record { space = source.space; page = page } in
-      let e = entry_of_page (entries_of slots) key here ((is_at slots here key).0 ((i.names here key).0 (aside.away source.space page apart ∙ src.keys page ∙ shows))) in
+      let e = entry_of_page (entries_of slots) key here ((is_at slots here key).0 ((t.indexed.names here key).0 (t.source.keys page ∙ shows))) in
       let its : e.0.place.page ≡ page = ap (λ (p : Place). p.page) e.2 in
       let h : IsShared source end rights (entries_of slots) key = record {
         entry = e.0;
@@ -235,10 +238,10 @@ module _ (source : Place) (end : ℕ) (target : Place) (rights : RightsSet) (slo
 
   -- the tables name what is at a place
   named_there : (page : ℕ) → (k : ℕ) → IsAt (entries_of slots) (goes page) k → entry targets (page - source.page + target.page) ≡ Some k
-  named_there page k at = sym (aside.here.keys (page - source.page + target.page)) ∙ (i.names (goes page) k).1 ((is_at slots (goes page) k).1 at)
+  named_there page k at = sym (t.target.keys (page - source.page + target.page)) ∙ (t.indexed.names (goes page) k).1 ((is_at slots (goes page) k).1 at)
 
   at_place : (page : ℕ) → (k : ℕ) → entry targets (page - source.page + target.page) ≡ Some k → IsAt (entries_of slots) (goes page) k
-  at_place page k is = (is_at slots (goes page) k).0 ((i.names (goes page) k).0 (aside.here.keys (page - source.page + target.page) ∙ is))
+  at_place page k is = (is_at slots (goes page) k).0 ((t.indexed.names (goes page) k).0 (t.target.keys (page - source.page + target.page) ∙ is))
 
   pub lacks_page : LacksPage source.page source.page end target.page rights sources targets slots → LacksKey (IsBrought source end target rights (entries_of slots)) (entries_of slots)
   lacks_page l =
@@ -259,14 +262,14 @@ module _ (source : Place) (end : ℕ) (target : Place) (rights : RightsSet) (slo
     spare : ArePlain (entries_of slots) → (key k : ℕ) (was : Entry) (h : IsShared source end rights (entries_of slots) key) → entry_at (entries_of slots) k ≡ Some was → was.place ≡ moved_place source target h.entry.place → IsSpare (entries_of slots) k was
     spare plain key k was h at place = elim ((w.takes h.entry.place.page h.inside.1 h.inside.2).0 key (shared_key key h) (shared_some key h)) [
       | inl free ↦ no_some k (sym free ∙ named)
-      | inr t ↦ its t.2.node (subst (λ (z : ℕ). node_at slots z ≡ Some t.2.node) (same t.0 t.1) t.2.stands) t.2.parent (subst (λ (z : ℕ). (low : ℕ) → ¬ (Leads (parent_at (limbs slots)) low z)) (same t.0 t.1) t.2.leaf)
+      | inr o ↦ its o.2.node (subst (λ (z : ℕ). node_at slots z ≡ Some o.2.node) (same o.0 o.1) o.2.stands) o.2.parent (subst (λ (z : ℕ). (low : ℕ) → ¬ (Leads (parent_at (limbs slots)) low z)) (same o.0 o.1) o.2.leaf)
     ]
       where
         named : entry targets (h.entry.place.page - source.page + target.page) ≡ Some k
         named = named_there h.entry.place.page k (ap (option_map {T = Entry} (λ x. x.place)) at ∙ ap (λ (p : Place). Some p) place)
 
-        same : (t : ℕ) → entry targets (h.entry.place.page - source.page + target.page) ≡ Some t → t ≡ k
-        same t is = same_some (sym is ∙ named)
+        same : (other : ℕ) → entry targets (h.entry.place.page - source.page + target.page) ≡ Some other → other ≡ k
+        same other is = same_some (sym is ∙ named)
 
         its : (n : Node) → node_at slots k ≡ Some n → n.parent ≢ None → ((low : ℕ) → ¬ (Leads (parent_at (limbs slots)) low k)) → IsSpare (entries_of slots) k was
         its n stands parent leaf = record {
@@ -320,6 +323,11 @@ unfolding sum_to
 sum_same f g zero same = refl
 sum_same f g (suc n) same = (let before = sum_same f g n (λ k lt. same k (omega (arith, lt))) in let here = same n (omega arith) in omega (arith, before, here))
 
+-- the tables of the places' space are aside, and those that were made have no keys
+pub named_aside : (from to : ℕ) → from ≢ to → (pages all : Tables) (sources targets made : Rows) (slots : Slots) → AreTablesOf pages from sources → AreAside to targets pages all → IsIndexed slots all → MakesTables targets made → AreNamed from to sources made slots all
+named_aside from to differ pages all sources targets made slots src aside i makes =
+    named_made from to sources targets made slots all (record { source = still_aside pages all from sources (λ p. aside.away from p differ) src; target = aside.here; indexed = i }) makes
+
 -- more is due
 lacks_on : {A B : Entry → Type 0} {s : Entries} → ((e : Entry) → A e → B e) → LacksKey A s → LacksKey B s
 lacks_on on l = record { entry = l.entry; due = on l.entry l.due; absent = l.absent }
@@ -339,9 +347,19 @@ can_first from to items s targets = (
     none_due : {e : Entry} → ¬ (IsDue from to items 0 s e)
     none_due due = let lt = due.before in omega (arith, lt)
 
+-- with the item no more is wanted than there are places up to its last one
+pub ends_before : (from to : ℕ) (by : ItemMove) (of : Pages) → of ≡ record { source = source_of from by; end = end_of by; target = target_of to by; rights = by.rights } → (slots : Slots) (sources targets : Rows) (a b : ℕ)
+    → WantsPages of.source.page of.source.page of.end of.target.page of.rights sources targets b slots → a ≤ by.mv.target.first → a + b ≤ by.mv.target.first + 2 ^ by.mv.target.log
+ends_before from to by of of_is slots sources targets a b w le =
+    let first : of.source.page ≡ by.mv.source.first = ap (λ (o : Pages). o.source.page) of_is in
+    let last : of.end ≡ end_of by = ap (λ (o : Pages). o.end) of_is in
+    let size : 2 ^ by.mv.source.log ≡ 2 ^ by.mv.target.log = ap (λ (z : ℕ). 2 ^ z) by.mv.same_size in
+    let few = w.few in
+    omega (arith, le, few, first, last, size)
+
 -- items, one after another
-module _ (from to : ℕ) (differ : from ≢ to) (items : List ItemMove) (n : ℕ) (by : ItemMove) (by_is : slice_get items n ≡ Some by) (slots : Slots) (pages all : Tables) (sources old targets : Rows) (src : AreTablesOf pages from sources) (i : IsIndexed slots all)
-    (before : AreAside to old pages all) (makes : MakesTables old targets) (source : Place) (end : ℕ) (target : Place) (rights : RightsSet) (source_is : source ≡ source_of from by) (end_is : end ≡ end_of by) (target_is : target ≡ target_of to by) (rights_is : rights ≡ by.rights) where
+module _ (from to : ℕ) (items : List ItemMove) (n : ℕ) (by : ItemMove) (by_is : slice_get items n ≡ Some by) (slots : Slots) (all : Tables) (sources targets : Rows) (t : AreNamed from to sources targets slots all) (of : Pages)
+    (of_is : of ≡ record { source = source_of from by; end = end_of by; target = target_of to by; rights = by.rights }) where
   abbrev s : Entries
   s = entries_of slots
 
@@ -364,22 +382,13 @@ module _ (from to : ℕ) (differ : from ≢ to) (items : List ItemMove) (n : ℕ
         inr (subst (λ (b : ItemMove). IsBrought (source_of from b) (end_of b) (target_of to b) b.rights s e) its d.brings)
   ]
 
-  -- the tables that were made have no keys
-  aside : (rows : Rows) → MakesTables old rows → AreAside to rows pages all
-  aside rows m = record { here = made_aside all to old rows before.here m.same m.whole m.full; away = before.away; spaces = before.spaces }
-
-  -- the pages are those of the item
-  of_item : (F : Place → ℕ → Place → RightsSet → Type 0) → F source end target rights → F (source_of from by) (end_of by) (target_of to by) by.rights
-  of_item F h = subst (λ (r : RightsSet). F (source_of from by) (end_of by) (target_of to by) r) rights_is
-      (subst (λ (t : Place). F (source_of from by) (end_of by) t rights) target_is (subst (λ (e : ℕ). F (source_of from by) e target rights) end_is (subst (λ (p : Place). F p end target rights) source_is h)))
-
-  pub item_lacks : (last : ℕ) → n < last → LacksPage source.page source.page end target.page rights sources targets slots → LacksKey (IsDue from to items last s) s
+  pub item_lacks : (last : ℕ) → n < last → LacksPage of.source.page of.source.page of.end of.target.page of.rights sources targets slots → LacksKey (IsDue from to items last s) s
   item_lacks last lt l = lacks_on (due_mine last lt)
-      (lacks_page (source_of from by) (end_of by) (target_of to by) by.rights slots pages all sources targets differ src i (aside targets makes) (of_item (λ a e b r. LacksPage a.page a.page e b.page r sources targets slots) l))
+      (lacks_page (source_of from by) (end_of by) (target_of to by) by.rights slots all sources targets t (subst (λ (o : Pages). LacksPage o.source.page o.source.page o.end o.target.page o.rights sources targets slots) of_is l))
 
-  pub item_hindered : (last : ℕ) → n < last → IsHinderedPage source.page source.page end target.page rights sources targets slots → HasOther (IsDue from to items last s) s
+  pub item_hindered : (last : ℕ) → n < last → IsHinderedPage of.source.page of.source.page of.end of.target.page of.rights sources targets slots → HasOther (IsDue from to items last s) s
   item_hindered last lt l = other_on (due_mine last lt)
-      (hindered_page (source_of from by) (end_of by) (target_of to by) by.rights slots pages all sources targets differ src i (aside targets makes) (of_item (λ a e b r. IsHinderedPage a.page a.page e b.page r sources targets slots) l))
+      (hindered_page (source_of from by) (end_of by) (target_of to by) by.rights slots all sources targets t (subst (λ (o : Pages). IsHinderedPage o.source.page o.source.page o.end o.target.page o.rights sources targets slots) of_is l))
 
   -- the sum grows by what the item wants
   counts_more : (a b : ℕ) → WantsItems from to items n s a → AtMost (IsLacking (source_of from by) (end_of by) (target_of to by) by.rights s) by.mv.source.first (end_of by) b → WantsItems from to items (n + 1) s (a + b)
@@ -405,33 +414,27 @@ module _ (from to : ℕ) (differ : from ≢ to) (items : List ItemMove) (n : ℕ
       Most : ItemMove → ℕ → Type 0
       Most x = AtMost (IsLacking (source_of from x) (end_of x) (target_of to x) x.rights s) x.mv.source.first (end_of x)
 
-  pub can_more : ArePlain s → (made : Rows) → MakesTables targets made → (a b : ℕ) → CanBring from to items n s targets a → WantsPages source.page source.page end target.page rights sources made b slots → CanBring from to items (n + 1) s made (a + b)
-  can_more plain made more a b can wants = (
-    λ e due. elim (due_split e due) [
-      | inl first ↦ can.0 e first
-      | inr mine ↦ fits_item (source_of from by) (end_of by) (target_of to by) by.rights slots pages all sources made differ src i there b w plain e mine
-    ],
-    λ e due high low is lt. elim (due_split e due) [
-      | inl first ↦ more.kept high (can.1 e first high low is lt)
-      | inr mine ↦ tables_item (source_of from by) (end_of by) (target_of to by) by.rights slots pages all sources made differ src i there b w e mine high low is lt
-    ],
-    counts_more a b can.2 (most_item (source_of from by) (end_of by) (target_of to by) by.rights slots pages all sources made differ src i there b w),
-    λ h. elim (cases_lt 0 a) [
-      | inl lt ↦ lacks_on due_before (can.3 lt)
-      | inr le ↦ lacks_on (due_mine (n + 1) (omega arith)) (lacks_page (source_of from by) (end_of by) (target_of to by) by.rights slots pages all sources made differ src i there (w.some (omega (arith, h, le))))
-    ],
-  )
-    where
-      there : AreAside to made pages all
-      there = aside made (makes_more old targets made makes more)
+  -- the item is one more
+  module _ (made : Rows) (more : MakesTables targets made) (a b : ℕ) (wants : WantsPages of.source.page of.source.page of.end of.target.page of.rights sources made b slots) where
+    named : AreNamed from to sources made slots all
+    named = named_made from to sources targets made slots all t more
 
-      w : WantsPages by.mv.source.first by.mv.source.first (end_of by) by.mv.target.first by.rights sources made b slots
-      w = of_item (λ a e t r. WantsPages a.page a.page e t.page r sources made b slots) wants
+    w : WantsPages by.mv.source.first by.mv.source.first (end_of by) by.mv.target.first by.rights sources made b slots
+    w = subst (λ (o : Pages). WantsPages o.source.page o.source.page o.end o.target.page o.rights sources made b slots) of_is wants
 
-  -- with the item no more is wanted than there are places up to its last one
-  pub ends_before : (made : Rows) (a b : ℕ) → WantsPages source.page source.page end target.page rights sources made b slots → a ≤ by.mv.target.first → a + b ≤ by.mv.target.first + 2 ^ by.mv.target.log
-  ends_before made a b w le =
-      let first : source.page ≡ by.mv.source.first = ap (λ (p : Place). p.page) source_is in
-      let size : 2 ^ by.mv.source.log ≡ 2 ^ by.mv.target.log = ap (λ (z : ℕ). 2 ^ z) by.mv.same_size in
-      let few = w.few in
-      omega (arith, le, few, first, size, end_is)
+    pub can_more : ArePlain s → CanBring from to items n s targets a → CanBring from to items (n + 1) s made (a + b)
+    can_more plain can = (
+      λ e due. elim (due_split e due) [
+        | inl first ↦ can.0 e first
+        | inr mine ↦ fits_item (source_of from by) (end_of by) (target_of to by) by.rights slots all sources made named b w plain e mine
+      ],
+      λ e due high low is lt. elim (due_split e due) [
+        | inl first ↦ more.kept high (can.1 e first high low is lt)
+        | inr mine ↦ tables_item (source_of from by) (end_of by) (target_of to by) by.rights slots all sources made named b w e mine high low is lt
+      ],
+      counts_more a b can.2 (most_item (source_of from by) (end_of by) (target_of to by) by.rights slots all sources made named b w),
+      λ h. elim (cases_lt 0 a) [
+        | inl lt ↦ lacks_on due_before (can.3 lt)
+        | inr le ↦ lacks_on (due_mine (n + 1) (omega arith)) (lacks_page (source_of from by) (end_of by) (target_of to by) by.rights slots all sources made named (w.some (omega (arith, h, le))))
+      ],
+    )
