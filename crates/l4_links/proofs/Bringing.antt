@@ -1,11 +1,11 @@
 -- What is due comes part by part.
-use Rattle.std.proofs.Common.{◌≡◌, ◌≢◌, ℕ, ◌+◌, ◌<◌, ◌≤◌, ◌⊎◌, Option, Some, None, false, refl, sym, ap, ◌∙◌, subst, inl, inr, arith}
+use Rattle.std.proofs.Common.{◌≡◌, ◌≢◌, ℕ, ◌+◌, ◌≤◌, ◌⊎◌, Option, Some, None, false, refl, sym, ap, ◌∙◌, inl, inr, arith}
 use Rattle.std.specs.Option.{option_map, option_and_then}
 use Rattle.l4_fpage.specs.Rights.{RightsSet, common}
 use Rattle.l4_nodes.specs.declared.Place.{Place}
 use Rattle.l4_links.specs.declared.Standing.{Standing}
 use Rattle.l4_links.specs.declared.Entry.{Entry}
-use Rattle.l4_links.specs.Entries.{Entries, entry_at, standing_at, parent_of, IsAt, AddsChild, IsShared, child_entry, brought, IsBrought, IsFilled, Brings, IsPlain}
+use Rattle.l4_links.specs.Entries.{Entries, entry_at, IsAt, AddsChild, IsShared, child_entry, IsBrought, IsFilled, Brings}
 use Rattle.l4_links.specs.Inside.Bringing.{Replaces, IsSpare, Fits, IsLacking, AtMost, none, one, pass}
 
 same_entry : {a b : Entry} → ◌≡◌ {A = Option Entry} (Some a) (Some b) → a ≡ b
@@ -27,10 +27,13 @@ module _ (A B : Entry → Type 0) (old mid new : Entries) (a : Brings A old mid)
       | inl due ↦ inl (inr due)
       | inr was ↦ elim (a.only key e was.0) [
         | inl due ↦ inl (inl due)
-        | inr first ↦ inr (first.0, λ f. elim f.1 [
-          | inl x ↦ first.1 (f.0, x, f.2)
-          | inr y ↦ was.1 (f.0, y, f.2)
-        ])
+        | inr first ↦ inr (
+          first.0,
+          λ f. elim f.1 [
+            | inl x ↦ first.1 (f.0, x, f.2)
+            | inr y ↦ was.1 (f.0, y, f.2)
+          ],
+        )
       ]
     ];
   }
@@ -91,10 +94,10 @@ brings_renewed parent key rights old new s was at unwanted once either = record 
 
 -- what is due is not in the space of these pages, so these bring what they brought
 module _ (Due : Entry → Type 0) (old new : Entries) (brings : Brings Due old new) (source : Place) (end : ℕ) (target : Place) (rights : RightsSet) (away : (e : Entry) → Due e → e.place.space ≢ source.space) where
-  entry_on : (key : ℕ) (e : Entry) → entry_at old key ≡ Some e → e.place.space ≡ source.space → entry_at new key ≡ Some e
+  pub entry_on : (key : ℕ) (e : Entry) → entry_at old key ≡ Some e → e.place.space ≡ source.space → entry_at new key ≡ Some e
   entry_on key e at in_space = brings.kept key e at (λ f. away f.0 f.1 (ap (λ (p : Place). p.space) f.2 ∙ in_space))
 
-  entry_back : (key : ℕ) (e : Entry) → entry_at new key ≡ Some e → e.place.space ≡ source.space → entry_at old key ≡ Some e
+  pub entry_back : (key : ℕ) (e : Entry) → entry_at new key ≡ Some e → e.place.space ≡ source.space → entry_at old key ≡ Some e
   entry_back key e at in_space = elim (brings.only key e at) [
     | inl due ↦ absurd (away e due in_space)
     | inr was ↦ was.0
@@ -106,7 +109,7 @@ module _ (Due : Entry → Type 0) (old new : Entries) (brings : Brings Due old n
   abbrev back : (key : ℕ) → IsShared source end rights new key → IsShared source end rights old key
   back key h = record { entry = h.entry; at = entry_back key h.entry h.at h.inside.0; inside = h.inside; standing = h.standing; stands = h.stands; shares = h.shares }
 
-  pub brought_on : (e : Entry) → IsBrought source end target rights old e → IsBrought source end target rights new e
+  abbrev pub brought_on : (e : Entry) → IsBrought source end target rights old e → IsBrought source end target rights new e
   brought_on e b = (b.0, on b.0 b.1, b.2)
 
   abbrev pub brought_back : (e : Entry) → IsBrought source end target rights new e → IsBrought source end target rights old e
@@ -127,6 +130,7 @@ module _ (Due : Entry → Type 0) (old new : Entries) (brings : Brings Due old n
         where
           at_new : (k : ℕ) (x : Entry) → entry_at new k ≡ Some x → x.place ≡ l.entry.place → ⊥
           at_new k x is same = l.absent k (ap (option_map {T = Entry} (λ y. y.place)) is ∙ ap (λ (p : Place). Some p) same)
+
           still : (k : ℕ) (x : Entry) → entry_at old k ≡ Some x → x.place ≡ l.entry.place → ⊥
           still k x is same =
               let out : ¬ (IsFilled Due x.place) = λ f. (let t = brings.there f.0 f.1 in at_new t.0 f.0 t.1 (f.2 ∙ same)) in

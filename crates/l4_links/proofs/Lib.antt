@@ -28,9 +28,11 @@ pub mod Results
 pub mod TableEntries
 pub mod Wanting
 pub mod Bringing
+pub mod Results
+pub mod TableEntries
+pub mod BroughtParts
 pub mod RowSteps
 pub mod PageRuns
-pub mod OnePage
 pub mod Moving
 pub mod RowMoves
 pub mod Noting

@@ -11,9 +11,9 @@ ghost use Rattle.l4_nodes.specs.Slots.{HasRoomFor};
 ghost use Rattle.l4_links.specs.Entries.{IsBrought, IsDue, AreOverLeaves, LacksKey, HasOther, AreApart, ArePlain};
 ghost use Rattle.l4_links.specs.Inside.Nodes.{AreKeys, IsForest};
 ghost use Rattle.l4_links.specs.Inside.Keeping.{entries_of, IsLive};
-ghost use Rattle.l4_links.specs.Inside.Bringing.{Fits, HaveTables, IsLacking, AtMost, CanBring};
+ghost use Rattle.l4_links.specs.Inside.Bringing.{Fits, HaveTables, IsBroughtFrom, CanBring};
 ghost use Rattle.l4_links.specs.Inside.Moving.{MakesTables};
-ghost use Rattle.l4_links.specs.Inside.Growing.{SharesNone, SharesSome, Takes, Lacks, Enters, Renews, IsSpareNode, IsBareNode, AreRows, BringsRow, AreGrowing, BringsAll, BringsPart};
+ghost use Rattle.l4_links.specs.Inside.Growing.{SharesNone, SharesSome, Takes, Lacks, Enters, Renews, IsSpareNode, IsBareNode, BringsRow, CanRun, HaveRoom, LeavesRoom, AreGrowing, BringsAll, BringsPart};
 
 use crate::blocks::{Pages, pages_of, place_from};
 use crate::lists::{add_under, link_under, unlink};
@@ -152,15 +152,9 @@ fn bring_run(
     requires target { run.now.to + run.now.entries ≤ length target.old }
     requires short { run.now.entries ≤ table_pages }
     requires fits { place.page + run.now.entries ≤ space_pages }
-    requires ready { (from high other : ℕ) × (first head : Option ℕ) × (stamp : ℕ)
-        × (all : Tables) × AreRows from high place.space other source.now target.old
-        nodes.old.slots first head stamp all
-        × (place.page ≡ other * table_pages + run.now.to)
-        × Fits (IsBrought (record { space = from; page = high * table_pages + run.now.from }) (high * table_pages + run.now.from + run.now.entries) place rights (entries_of nodes.old.slots)) (entries_of nodes.old.slots) }
-    requires room { (wants : ℕ) × HasRoomFor nodes.old wants × AtMost (λ step. Lacks (slice_index_or source.now (run.now.from + step) None) (slice_index_or target.old (run.now.to + step) None) rights nodes.old.slots) 0 run.now.entries wants }
-    ensures brings { BringsRow run.now.from run.now.to run.now.entries place rights source.now target.old
-        target.new nodes.old.slots nodes.new.slots }
-    ensures room { (wants more : ℕ) → AtMost (λ step. Lacks (slice_index_or source.now (run.now.from + step) None) (slice_index_or target.old (run.now.to + step) None) rights nodes.old.slots) 0 run.now.entries wants → HasRoomFor nodes.old (wants + more) → HasRoomFor nodes.new more }
+    requires ready { CanRun run.now.from run.now.to run.now.entries place rights source.now target.old nodes.old }
+    ensures { BringsRow run.now.from run.now.to run.now.entries run.now.entries place rights source.now target.old target.new
+        nodes.old nodes.new }
 {
     let from = run.from;
     let to = run.to;
@@ -193,15 +187,16 @@ fn bring_from(
     requires growing { (pages : Tables) × (first head : Option ℕ) × (stamp : ℕ) × (all : Tables)
         × AreTablesOf pages of.now.source.space sources.now.items
         × AreGrowing of.now.target.space pages targets.old.items nodes.old.slots first head stamp all }
-    requires takes { Fits (IsBrought of.now.source of.now.end of.now.target of.now.rights (entries_of nodes.old.slots)) (entries_of nodes.old.slots) }
-    requires made { HaveTables (IsBrought of.now.source of.now.end of.now.target of.now.rights (entries_of nodes.old.slots)) targets.old.items }
-    requires room { (wants : ℕ) × HasRoomFor nodes.old wants × AtMost (IsLacking of.now.source of.now.end of.now.target of.now.rights (entries_of nodes.old.slots)) page of.now.end wants }
+    requires takes { Fits (IsBroughtFrom of.now.source page of.now.end of.now.target of.now.rights (entries_of nodes.old.slots))
+        (entries_of nodes.old.slots) }
+    requires made { HaveTables (IsBroughtFrom of.now.source page of.now.end of.now.target of.now.rights
+        (entries_of nodes.old.slots)) targets.old.items }
+    requires room { HaveRoom of.now.source of.now.end of.now.target of.now.rights page 0 nodes.old }
     ensures next { (page < result) × (result ≤ of.now.end) }
     ensures brings { BringsPart of.now.source page result of.now.target of.now.rights sources.now.items
         targets.old.items targets.new.items nodes.old.slots nodes.new.slots }
     ensures made { (high : ℕ) → is_made targets.old.items high ≡ true → is_made targets.new.items high ≡ true }
-    ensures room { (wants : ℕ) → HasRoomFor nodes.old wants → AtMost (IsLacking of.now.source of.now.end of.now.target of.now.rights (entries_of nodes.old.slots)) page of.now.end wants
-        → (left : ℕ) × HasRoomFor nodes.new left × AtMost (IsLacking of.now.source of.now.end of.now.target of.now.rights (entries_of nodes.old.slots)) result of.now.end left }
+    ensures room { LeavesRoom of.now.source page result of.now.target of.now.rights nodes.old nodes.new }
 {
     let Some(_) = sharing(nodes, key, of.rights) else {
         return page + 1;
@@ -222,13 +217,17 @@ fn bring_item(nodes: &mut Slots, sources: &Vec<Row>, targets: &mut Vec<Row>, of:
     requires growing { (pages : Tables) × (first head : Option ℕ) × (stamp : ℕ) × (all : Tables)
         × AreTablesOf pages of.now.source.space sources.now.items
         × AreGrowing of.now.target.space pages targets.old.items nodes.old.slots first head stamp all }
-    requires takes { Fits (IsBrought of.now.source of.now.end of.now.target of.now.rights (entries_of nodes.old.slots)) (entries_of nodes.old.slots) }
-    requires made { HaveTables (IsBrought of.now.source of.now.end of.now.target of.now.rights (entries_of nodes.old.slots)) targets.old.items }
-    requires room { (wants : ℕ) × HasRoomFor nodes.old wants × AtMost (IsLacking of.now.source of.now.end of.now.target of.now.rights (entries_of nodes.old.slots)) of.now.source.page of.now.end wants }
-    ensures brings { BringsPart of.now.source of.now.source.page of.now.end of.now.target of.now.rights sources.now.items
+    requires takes { Fits (IsBrought of.now.source of.now.end of.now.target of.now.rights (entries_of nodes.old.slots))
+        (entries_of nodes.old.slots) }
+    requires made { HaveTables (IsBrought of.now.source of.now.end of.now.target of.now.rights
+        (entries_of nodes.old.slots)) targets.old.items }
+    requires room { HaveRoom of.now.source of.now.end of.now.target of.now.rights of.now.source.page 0 nodes.old }
+    ensures brings { (pages : Tables) → AreTablesOf pages of.now.source.space sources.now.items
+        → BringsAll of.now.target.space (IsBrought of.now.source of.now.end of.now.target of.now.rights (entries_of nodes.old.slots)) pages
         targets.old.items targets.new.items nodes.old.slots nodes.new.slots }
     ensures made { (high : ℕ) → is_made targets.old.items high ≡ true → is_made targets.new.items high ≡ true }
-    ensures room { (wants more : ℕ) → AtMost (IsLacking of.now.source of.now.end of.now.target of.now.rights (entries_of nodes.old.slots)) of.now.source.page of.now.end wants → HasRoomFor nodes.old (wants + more) → HasRoomFor nodes.new more }
+    ensures room { (more : ℕ) → HaveRoom of.now.source of.now.end of.now.target of.now.rights of.now.source.page more
+        nodes.old → 1 ≤ more → HasRoomFor nodes.new more }
 {
     let mut page = of.source.page;
     loop {

@@ -15,6 +15,10 @@ pub record Replaces (parent key : ℕ) (rights : RightsSet) (old new : Entries) 
   pub at_parent : standing_at old parent ≡ Some above
   pub stands : Stands key (record { frame = above.frame; rights = common above.rights rights; source = false; granted = None; parent = Some parent }) old new
 
+-- the entry is that of the child of one of the block's pages from this one on and below the end
+abbrev pub IsBroughtFrom : (source : Place) (page end : ℕ) (target : Place) → RightsSet → Entries → Entry → Type 0
+IsBroughtFrom source page end target rights s e = (b : IsBrought source end target rights s e) × (page ≤ b.1.entry.place.page)
+
 -- a child can take the place of what is under the key: it has a parent, is not marked, and is no parent
 pub record IsSpare (s : Entries) (key : ℕ) (e : Entry) : Type 0 where
   pub plain : IsPlain e

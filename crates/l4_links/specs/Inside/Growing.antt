@@ -7,15 +7,15 @@ use Rattle.l4_spaces.specs.Rows.{Rows, entry, is_made, AreTablesOf, AreAside, Is
 use Rattle.l4_spaces.specs.Keys.{IsKey}
 use Rattle.l4_nodes.specs.declared.Place.{Place}
 use Rattle.l4_nodes.specs.declared.nodes.Node.{Node}
-use Rattle.l4_nodes.specs.Slots.{Slots, node_at}
+use Rattle.l4_nodes.specs.Slots.{Slots, Store, node_at, HasRoomFor}
 use Rattle.l4_links.specs.declared.Entry.{Entry}
 use Rattle.l4_links.specs.Leads.{Leads}
 use Rattle.l4_links.specs.Inside.Trees.{parent_at}
 use Rattle.l4_links.specs.Inside.Nodes.{limbs, AddsUnder}
-use Rattle.l4_links.specs.Inside.Bringing.{Replaces, AtMost}
+use Rattle.l4_links.specs.Inside.Bringing.{Replaces, AtMost, IsBroughtFrom, IsLacking, Fits}
 use Rattle.l4_links.specs.Inside.Stacks.{HasStack}
 use Rattle.l4_links.specs.Inside.Keeping.{IsIndexed, IsLive, entries_of}
-use Rattle.l4_links.specs.Entries.{moved_place, IsBrought, Brings}
+use Rattle.l4_links.specs.Entries.{moved_place, Brings}
 
 -- what is under the key shares no right with these
 abbrev pub SharesNone : ℕ → RightsSet → Slots → Type 0
@@ -55,13 +55,50 @@ pub record AreSameBeyond (to other : ℕ) (old new : Tables) : Type 0 where
   pub away : (space page : ℕ) → ¬ ((space ≡ to) × InTable other page) → key_of new space page ≡ key_of old space page
   pub spaces : new.spaces ≡ old.spaces
 
--- The first of these entries of the source's table have their children at the entries of the target's table, and at this place and those after it.
--- All else is as it was.
-abbrev pub BringsRow : (f t n : ℕ) → Place → RightsSet → (source row_old row_new : List (Option ℕ)) → Slots → Slots → Type 0
-BringsRow f t n place rights source row_old row_new old new =
-    (from high other : ℕ) (first head : Option ℕ) (stamp : ℕ) (all : Tables) → AreRows from high place.space other source row_old old first head stamp all → place.page ≡ other * table_pages + t
-    → (later : Tables) × AreRows from high place.space other source row_new new first head stamp later × AreSameBeyond place.space other all later
-    × Brings (IsBrought (record { space = from; page = high * table_pages + f }) (high * table_pages + f + n) place rights (entries_of old)) (entries_of old) (entries_of new)
+-- there is room for what the block's pages from this one on bring to places without a key, and for so many more
+abbrev pub HaveRoom : (source : Place) (end : ℕ) (target : Place) → RightsSet → (page more : ℕ) → Store → Type 0
+HaveRoom source end target rights page more store = (wants : ℕ) × AtMost (IsLacking source end target rights (entries_of store.slots)) page end wants × (1 ≤ wants + more → HasRoomFor store (wants + more))
+
+-- room for more is left, once the pages up to this one have brought their children
+abbrev pub LeavesRoom : (source : Place) (page mid : ℕ) (target : Place) → RightsSet → (old new : Store) → Type 0
+LeavesRoom source page mid target rights old new = (end more : ℕ) → mid ≤ end → HaveRoom source end target rights page more old → HaveRoom source end target rights mid more new
+
+-- these entries of two tables are those of one of the block's pages and of its place
+pub record StartAt (f t : ℕ) (place source : Place) (page : ℕ) (target : Place) (high other : ℕ) : Type 0 where
+  pub from : source.page ≤ page
+  pub page_is : page ≡ high * table_pages + f
+  pub place_is : place ≡ moved_place source target (record { space = source.space; page = page })
+  pub there_is : place.page ≡ other * table_pages + t
+
+-- the block's pages from this one on have their children, in two tables, and all else is as it was
+pub record RunsUpTo (source : Place) (page end : ℕ) (target : Place) (high other : ℕ) (rights : RightsSet) (line row : List (Option ℕ)) (old new : Store) (first head : Option ℕ) (stamp : ℕ) (all later : Tables) : Type 0 where
+  pub rows : AreRows source.space high target.space other line row new.slots first head stamp later
+  pub beyond : AreSameBeyond target.space other all later
+  pub brings : Brings (IsBroughtFrom source page end target rights (entries_of old.slots)) (entries_of old.slots) (entries_of new.slots)
+  pub room : LeavesRoom source page end target rights old new
+
+-- so many entries of two tables can get their children, whatever the block and the tables are
+pub record CanRun (f t n : ℕ) (place : Place) (rights : RightsSet) (line row : List (Option ℕ)) (store : Store) : Type 0 where
+  pub source : Place
+  pub page : ℕ
+  pub end : ℕ
+  pub target : Place
+  pub high : ℕ
+  pub other : ℕ
+  pub first : Option ℕ
+  pub head : Option ℕ
+  pub stamp : ℕ
+  pub all : Tables
+  pub start : StartAt f t place source page target high other
+  pub rows : AreRows source.space high target.space other line row store.slots first head stamp all
+  pub before : page + n ≤ end
+  pub fits : Fits (IsBroughtFrom source page end target rights (entries_of store.slots)) (entries_of store.slots)
+  pub room : HaveRoom source end target rights page 0 store
+
+-- the first of these have them
+abbrev pub BringsRow : (f t n done : ℕ) → Place → RightsSet → (line row_old row_new : List (Option ℕ)) → (old new : Store) → Type 0
+BringsRow f t n done place rights line row_old row_new old new =
+    (c : CanRun f t n place rights line row_old old) → (later : Tables) × RunsUpTo c.source c.page (c.page + done) c.target c.high c.other rights line row_new old new c.first c.head c.stamp c.all later
 
 -- what is under the key gives its place to a child of what is under the other one: the trees are mended, and each page keeps its key
 pub record Renews (parent key : ℕ) (rights : RightsSet) (old new : Slots) : Type 0 where
@@ -98,11 +135,10 @@ BringsAll to Due pages old_rows new_rows old new =
     (first head : Option ℕ) (stamp : ℕ) (all : Tables) → AreGrowing to pages old_rows old first head stamp all
     → (later : Tables) × AreGrowing to pages new_rows new first head stamp later × Brings Due (entries_of old) (entries_of new)
 
--- the same for the pages from this one on, whose tables these are
+-- the same for the block's pages from this one on, whose tables these are
 abbrev pub BringsPart : (source : Place) (page end : ℕ) (target : Place) → RightsSet → (sources old_rows new_rows : Rows) → (old new : Slots) → Type 0
 BringsPart source page end target rights sources old_rows new_rows old new =
-    (pages : Tables) → AreTablesOf pages source.space sources
-    → BringsAll target.space (IsBrought (record { space = source.space; page = page }) end (moved_place source target (record { space = source.space; page = page })) rights (entries_of old)) pages old_rows new_rows old new
+    (pages : Tables) → AreTablesOf pages source.space sources → BringsAll target.space (IsBroughtFrom source page end target rights (entries_of old)) pages old_rows new_rows old new
 
 -- what is under the key can give its place to a child: it has a parent, and nothing descends from it
 pub record IsSpareNode (key : ℕ) (slots : Slots) : Type 0 where
