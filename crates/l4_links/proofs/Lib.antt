@@ -28,9 +28,8 @@ pub mod Results
 pub mod TableEntries
 pub mod Wanting
 pub mod Bringing
-pub mod Results
-pub mod TableEntries
 pub mod BroughtParts
+pub mod Items
 pub mod RowSteps
 pub mod PageRuns
 pub mod Moving

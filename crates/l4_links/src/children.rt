@@ -8,12 +8,12 @@ ghost use Rattle.l4_nodes.specs.Slots.{node_at};
 ghost use Rattle.l4_spaces.specs.Tables.{Tables, IsPage};
 ghost use Rattle.l4_spaces.specs.Rows.{entry, is_made, AreTablesOf};
 ghost use Rattle.l4_nodes.specs.Slots.{HasRoomFor};
-ghost use Rattle.l4_links.specs.Entries.{IsBrought, IsDue, AreOverLeaves, LacksKey, HasOther, AreApart, ArePlain};
+ghost use Rattle.l4_links.specs.Entries.{IsBrought, IsDue, Brings, AreOverLeaves, LacksKey, HasOther, AreApart, ArePlain};
 ghost use Rattle.l4_links.specs.Inside.Nodes.{AreKeys, IsForest};
 ghost use Rattle.l4_links.specs.Inside.Keeping.{entries_of, IsLive};
-ghost use Rattle.l4_links.specs.Inside.Bringing.{Fits, HaveTables, IsBroughtFrom, CanBring};
+ghost use Rattle.l4_links.specs.Inside.Bringing.{Fits, HaveTables, IsBroughtFrom, CanBring, Ends};
 ghost use Rattle.l4_links.specs.Inside.Moving.{MakesTables};
-ghost use Rattle.l4_links.specs.Inside.Growing.{SharesNone, SharesSome, Takes, Lacks, Enters, Renews, IsSpareNode, IsBareNode, BringsRow, CanRun, HaveRoom, LeavesRoom, AreGrowing, BringsAll, BringsPart};
+ghost use Rattle.l4_links.specs.Inside.Growing.{SharesNone, SharesSome, Takes, Lacks, Enters, Renews, IsSpareNode, IsBareNode, BringsRow, CanRun, HaveRoom, LeavesRoom, AreGrowing, StayGrowing, BringsAll, BringsPart};
 
 use crate::blocks::{Pages, pages_of, place_from};
 use crate::lists::{add_under, link_under, unlink};
@@ -22,7 +22,7 @@ use l4_fpage::Rights;
 use l4_msg::ItemMove;
 use l4_nodes::{Node, Place, Slots, node_of, set_rights};
 use l4_spaces::tables::{TABLE_PAGES, next_page};
-use l4_spaces::{BLOCK, NoMemory, Row};
+use l4_spaces::{BLOCK, NoMemory, Row, Spaces};
 
 /// Entries of one table, and as many of another one.
 #[derive(Clone, Copy)]
@@ -274,10 +274,22 @@ fn wants_all(
     Ok(Some(wants))
 }
 
+/// Allocates room for so many slots, if there are any.
+fn make_room(nodes: &mut Slots, wants: usize) -> Result<(), NoMemory>
+    ensures room { OnOk result (1 ≤ wants → HasRoomFor nodes.new wants) }
+    ensures same { nodes.new.slots ≡ nodes.old.slots }
+    ensures some { OnErr result (1 ≤ wants) }
+{
+    if wants == 0 {
+        return Ok(());
+    }
+    nodes.make_room(wants)
+}
+
 /// Gives the pages of all items their children, if each child can take its place. Returns whether it can.
 pub(crate) fn bring_all(
     nodes: &mut Slots,
-    sources: &Vec<Row>,
+    pages: &Spaces,
     targets: &mut Vec<Row>,
     from: u64,
     to: u64,
@@ -285,26 +297,27 @@ pub(crate) fn bring_all(
 ) -> Result<bool, NoMemory>
     requires differ { from ≢ to }
     requires apart { AreApart items.now }
-    requires growing { (pages : Tables) × (first head : Option ℕ) × (stamp : ℕ) × (all : Tables)
-        × AreTablesOf pages from sources.now.items
-        × AreGrowing to pages targets.old.items nodes.old.slots first head stamp all }
+    requires growing { (first head : Option ℕ) × (stamp : ℕ) × (all : Tables)
+        × AreGrowing to pages.now targets.old.items nodes.old.slots first head stamp all }
     requires plain { ArePlain (entries_of nodes.old.slots) }
-    ensures brings { IfOk result (λ done. done ≡ true → (pages : Tables) → AreTablesOf pages from sources.now.items
-        → BringsAll to (IsDue from to items.now (length items.now) (entries_of nodes.old.slots)) pages targets.old.items
-        targets.new.items nodes.old.slots nodes.new.slots) }
-    ensures leaves { IfOk result (λ done. done ≡ true
-        → AreOverLeaves (IsDue from to items.now (length items.now) (entries_of nodes.old.slots)) (entries_of nodes.old.slots)) }
-    ensures left { IfOk result (λ done. done ≡ false → (nodes.new.slots ≡ nodes.old.slots)
-        × MakesTables targets.old.items targets.new.items
-        × HasOther (IsDue from to items.now (length items.now) (entries_of nodes.old.slots)) (entries_of nodes.old.slots)) }
-    ensures err { OnErr result ((nodes.new.slots ≡ nodes.old.slots) × MakesTables targets.old.items targets.new.items
-        × LacksKey (IsDue from to items.now (length items.now) (entries_of nodes.old.slots)) (entries_of nodes.old.slots)) }
+    ensures growing { StayGrowing to pages.now targets.old.items targets.new.items nodes.old.slots nodes.new.slots }
+    ensures maps { Ends result (Brings (IsDue from to items.now (length items.now) (entries_of nodes.old.slots)) (entries_of nodes.old.slots) (entries_of nodes.new.slots)
+        × AreOverLeaves (IsDue from to items.now (length items.now) (entries_of nodes.old.slots)) (entries_of nodes.old.slots))
+        ((nodes.new.slots ≡ nodes.old.slots) × HasOther (IsDue from to items.now (length items.now) (entries_of nodes.old.slots)) (entries_of nodes.old.slots))
+        ((nodes.new.slots ≡ nodes.old.slots) × LacksKey (IsDue from to items.now (length items.now) (entries_of nodes.old.slots)) (entries_of nodes.old.slots)) }
 {
-    let found = wants_all(nodes, sources, targets, from, to, items)?;
+    let Some(sources) = pages.tables(from) else {
+        return Ok(true);
+    };
+    let Ok(found) = wants_all(nodes, sources, targets, from, to, items) else {
+        return Err(NoMemory);
+    };
     let Some(wants) = found else {
         return Ok(false);
     };
-    nodes.make_room(wants)?;
+    let Ok(()) = make_room(nodes, wants) else {
+        return Err(NoMemory);
+    };
     for item in 0..items.len() {
         let of = pages_of(from, to, &items[item]);
         bring_item(nodes, sources, targets, &of);

@@ -10,6 +10,7 @@ ghost use Rattle.l4_fpage.specs.Rights.{common, no_rights};
 ghost use Rattle.std.specs.Option.{option_map};
 ghost use Rattle.l4_spaces.specs.Tables.{IsPage, space_pages};
 ghost use Rattle.l4_nodes.specs.Slots.{HasRoomFor};
+ghost use Rattle.l4_links.specs.Inside.Bringing.{Ends};
 ghost use Rattle.l4_links.specs.Inside.Keeping.{standing_of};
 
 mod blocks;
@@ -308,61 +309,56 @@ impl Links {
             self.old.entries) }
         ensures spaces { self.new.spaces ≡ self.old.spaces }
     {
-        if items.len() == 1 && items[0].mv.source.log == 0 {
-            let of = pages_of(from, to, &items[0]);
-            let added = self.add_at(of.source, of.target, of.rights)?;
-            if added {
-                return Ok(true);
-            }
+        let Ok(added) = self.add_alone(from, to, items) else {
+            return Err(NoMemory);
+        };
+        if added {
+            return Ok(true);
         }
         let mut targets = self.pages.take_tables(to);
-        let done = match self.pages.tables(from) {
-            Some(sources) => bring_all(&mut self.nodes, sources, &mut targets, from, to, items),
-            None => Ok(true),
-        };
+        let done = bring_all(&mut self.nodes, &self.pages, &mut targets, from, to, items);
         self.pages.put_tables(to, targets);
         self.stamp = fresh(self.stamp);
         done
     }
 
-    /// Adds the child of one page, if its place has no key, or no right is shared. Returns whether this was done. To take tables aside would
-    /// cost more than the page.
-    fn add_at(&mut self, source: Place, target: Place, rights: Rights) -> Result<bool, NoMemory>
-        requires differ { source.space ≢ target.space }
-        requires there { IsTrue (set.contains self.old.spaces target.space) }
-        requires fits { IsPage target.page }
-        ensures brings { IfOk result (λ done. done ≡ true
-            → Brings (IsBrought source (source.page + 1) target rights self.old.entries) self.old.entries
-            self.new.entries) }
-        ensures free { IfOk result (λ done. done ≡ true → (e : AnEntry)
-            → IsBrought source (source.page + 1) target rights self.old.entries e → (key : ℕ)
-            → ¬ (IsAt self.old.entries e.place key)) }
-        ensures left { IfOk result (λ done. done ≡ false → (key : ℕ)
-            → entry_at self.new.entries key ≡ entry_at self.old.entries key) }
-        ensures err { OnErr result
-            ((key : ℕ) → entry_at self.new.entries key ≡ entry_at self.old.entries key) }
-        ensures lacks { OnErr result
-            (LacksKey (IsBrought source (source.page + 1) target rights self.old.entries)
-            self.old.entries) }
+    /// Does the same for a single page whose place has no key, or that shares no right. Returns false for all else, and then nothing has
+    /// changed. To take tables aside would cost more than the page.
+    fn add_alone(&mut self, from: u64, to: u64, items: &[ItemMove]) -> Result<bool, NoMemory>
+        requires there { IsTrue (set.contains self.old.spaces to) }
+        ensures maps { Ends result
+            (Brings (IsDue from to items.now (length items.now) self.old.entries) self.old.entries self.new.entries
+            × AreOverLeaves (IsDue from to items.now (length items.now) self.old.entries) self.old.entries)
+            (self.new ≡ self.old)
+            ((self.new ≡ self.old) × LacksKey (IsDue from to items.now (length items.now) self.old.entries) self.old.entries) }
         ensures spaces { self.new.spaces ≡ self.old.spaces }
     {
-        let Some(key) = self.find(source) else {
+        if items.len() != 1 {
+            return Ok(false);
+        }
+        let of = pages_of(from, to, &items[0]);
+        if of.end - of.source.page != 1 {
+            return Ok(false);
+        }
+        let Some(key) = self.find(of.source) else {
             return Ok(true);
         };
-        let Some(above) = sharing(&self.nodes, key, rights) else {
+        let Some(above) = sharing(&self.nodes, key, of.rights) else {
             return Ok(true);
         };
         let Ok(child) = self.nodes.make_key() else {
-            if let Some(_) = self.find(target) {
+            if let Some(_) = self.find(of.target) {
                 return Ok(false);
             }
             return Err(NoMemory);
         };
-        let claimed = self.pages.claim(target.space, target.page, child)?;
+        let Ok(claimed) = self.pages.claim(of.target.space, of.target.page, child) else {
+            return Err(NoMemory);
+        };
         if !claimed {
             return Ok(false);
         }
-        lists::add_under(&mut self.nodes, key, target, &above, rights);
+        lists::add_under(&mut self.nodes, key, of.target, &above, of.rights);
         self.stamp = fresh(self.stamp);
         Ok(true)
     }

@@ -129,6 +129,11 @@ pub record AreGrowing (to : ℕ) (pages : Tables) (targets : Rows) (slots : Slot
   pub indexed : IsIndexed slots all
   pub there : IsTrue (set.contains all.spaces to)
 
+-- so it still is, of other nodes and tables
+abbrev pub StayGrowing : ℕ → Tables → (old_rows new_rows : Rows) → (old new : Slots) → Type 0
+StayGrowing to pages old_rows new_rows old new =
+    (first head : Option ℕ) (stamp : ℕ) (all : Tables) → AreGrowing to pages old_rows old first head stamp all → (later : Tables) × AreGrowing to pages new_rows new first head stamp later
+
 -- what is due is there, while the tables of the places' space are aside
 abbrev pub BringsAll : ℕ → (Entry → Type 0) → Tables → (old_rows new_rows : Rows) → (old new : Slots) → Type 0
 BringsAll to Due pages old_rows new_rows old new =

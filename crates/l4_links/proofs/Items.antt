@@ -1,0 +1,339 @@
+-- What a message brings, item by item, while the tables of the places' space are aside.
+use Rattle.std.proofs.Common.{◌≡◌, ◌≢◌, ◌⊎◌, ℕ, zero, suc, ◌+◌, ◌-◌, ◌^◌, ◌<◌, ◌≤◌, Bool, true, false, List, Option, Some, None, Result, Ok, Err, IfOk, OnErr, is_some, length, slice_get, get_or, refl, sym, ap, ◌∙◌, subst, inl, inr, arith}
+use Rattle.std.proofs.lemmas.Bool.{cases_eq, cases_lt}
+use Rattle.std.proofs.lemmas.Option.{slice_get-get_or}
+use Rattle.std.specs.Option.{option_map, option_and_then}
+use Rattle.l4_fpage.specs.Rights.{RightsSet, common, no_rights}
+use Rattle.l4_spaces.specs.Tables.{Tables, key_of, space_tables}
+use Rattle.l4_spaces.specs.Rows.{Rows, entry, is_made, AreWhole, AreAside}
+use Rattle.l4_spaces.proofs.Aside.{made_aside}
+use Rattle.l4_msg.specs.declared.items.ItemMove.{ItemMove}
+use Rattle.l4_nodes.specs.declared.Place.{Place}
+use Rattle.l4_nodes.specs.declared.nodes.Node.{Node}
+use Rattle.l4_nodes.specs.Slots.{Slots, Store, HasRoomFor, node_at}
+use Rattle.l4_links.specs.Leads.{Leads, step, steps}
+use Rattle.l4_links.specs.declared.Standing.{Standing}
+use Rattle.l4_links.specs.declared.Entry.{Entry}
+use Rattle.l4_links.specs.declared.blocks.Pages.{Pages}
+use Rattle.l4_links.specs.Entries.{Entries, entry_at, standing_at, parent_of, IsAt, Descends, moved_place, child_entry, source_of, target_of, end_of, IsBrought, IsDue, Brings, AddsChild, AreOverLeaves, LacksKey, HasOther, AreApart}
+use Rattle.l4_links.specs.Inside.Bringing.{IsSpare, Fits, HaveTables, IsLacking, AtMost, sum_to, WantsItems, Ends}
+use Rattle.l4_links.specs.Inside.Growing.{SharesNone, HaveRoom, AreGrowing, StayGrowing, BringsAll}
+use Rattle.l4_links.specs.Inside.Moving.{MakesTables}
+use Rattle.l4_links.specs.Inside.Keeping.{IsIndexed, entries_of, standing_of}
+use Rattle.l4_links.proofs.Asides.{indexed_alike}
+use Rattle.l4_links.proofs.Bringing.{brings_joined, brings_as, brings_none, brings_added, brought_on, brought_back, lacking_back, fits_on, at_most_back}
+use Rattle.l4_links.proofs.Seen.{standing_is}
+use Rattle.l4_links.proofs.TableEntries.{entry_of_page, entry_named}
+
+-- the place of the page is the target
+pub goes_there : (source target : Place) → moved_place source target source ≡ target
+goes_there source target = λ i. record { space = target.space; page = (let e : source.page - source.page + target.page ≡ target.page = omega arith in e i) }
+
+pub same_by : {a b : ItemMove} → ◌≡◌ {A = Option ItemMove} (Some a) (Some b) → a ≡ b
+same_by h = cc
+
+pub same_key : {a b : ℕ} → ◌≡◌ {A = Option ℕ} (Some a) (Some b) → a ≡ b
+same_key h = cc
+
+pub same_place : {a b : Place} → ◌≡◌ {A = Option Place} (Some a) (Some b) → a ≡ b
+same_place h = cc
+
+pub same_standing : {a b : Standing} → ◌≡◌ {A = Option Standing} (Some a) (Some b) → a ≡ b
+same_standing h = cc
+
+-- the element that is read stands there
+pub read_there : {A : Type 0} (xs : List A) (i : ℕ) (x : A) → i < length xs → x ≡ get_or xs i x → slice_get xs i ≡ Some x
+read_there {A = A} xs i x lt is = slice_get-get_or xs i x lt ∙ ap (λ (v : A). Some v) (sym is)
+
+-- what is under the key shares no right, or one, as a contract sees it
+pub none_shared : (slots : Slots) (rights : RightsSet) (key : ℕ) → SharesNone key rights slots → (x : Standing) → standing_at (entries_of slots) key ≡ Some x → common x.rights rights ≡ no_rights
+none_shared slots rights key none x is = over (node_at slots key) refl (sym (standing_is slots key) ∙ is)
+  where
+    over : (o : Option Node) → node_at slots key ≡ o → option_map standing_of o ≡ Some x → common x.rights rights ≡ no_rights
+    over None at z = absurd (let w : ◌≡◌ {A = Option Standing} None (Some x) = z in cc)
+    over (Some n) at z = sym (ap (λ (y : Standing). common y.rights rights) (same_standing z)) ∙ none n at
+
+-- what is known of an attempt's end
+pub if_done : {E : Type 0} (r : Result Bool E) (D L R P : Type 0) → Ends r D L R → (D → P) → IfOk r (λ done. done ≡ true → P)
+if_done (Ok true) D L R P e f = λ _. f e
+if_done (Ok false) D L R P e f = λ z. absurd (let w : ◌≡◌ false true = z in cc)
+if_done (Err x) D L R P e f = tt
+
+pub was_left : (E : Type 0) (b : Bool) (D L R : Type 0) → b ≡ false → Ends {E = E} (Ok b) D L R → L
+was_left E false D L R is e = e
+was_left E true D L R is e = absurd (let z : ◌≡◌ true false = is in cc)
+
+-- tables were made, which have no keys
+pub growing_made : (to : ℕ) (pages : Tables) (rows made : Rows) (slots : Slots) (first head : Option ℕ) (stamp : ℕ) (all : Tables) → MakesTables rows made → AreGrowing to pages rows slots first head stamp all → AreGrowing to pages made slots first head stamp all
+growing_made to pages rows made slots first head stamp all m g = record {
+  live = g.live;
+  stack = g.stack;
+  aside = record { here = made_aside all to rows made g.aside.here m.same m.whole m.full; away = g.aside.away; spaces = g.aside.spaces };
+  indexed = g.indexed;
+  there = g.there;
+}
+
+-- the tables are back
+module _ (to : ℕ) (pages after later : Tables) (rows : Rows) (back : AreAside to rows pages after) (aside : AreAside to rows pages later) where
+  back_alike : (space page : ℕ) → key_of after space page ≡ key_of later space page
+  back_alike space page = elim (cases_eq space to) [
+    | inl e ↦ ap (λ (z : ℕ). key_of after z page) e ∙ back.here.keys page ∙ sym (aside.here.keys page) ∙ sym (ap (λ (z : ℕ). key_of later z page) e)
+    | inr ne ↦ back.away space page ne ∙ sym (aside.away space page ne)
+  ]
+
+  pub indexed_back : (slots : Slots) → IsIndexed slots later → IsIndexed slots after
+  indexed_back slots i = indexed_alike slots later after back_alike (back.spaces ∙ sym aside.spaces) i
+
+-- the sum with one number more, and with some
+sum_more : (counts : ℕ → ℕ) (i : ℕ) → sum_to counts (i + 1) ≡ sum_to counts i + counts i
+unfolding sum_to
+sum_more counts i = ap (sum_to counts) (let e : i + 1 ≡ suc i = omega arith in e)
+
+sum_up : (counts : ℕ → ℕ) (a b : ℕ) → a ≤ b → sum_to counts a ≤ sum_to counts b
+unfolding sum_to
+sum_up counts a zero le = let e : a ≡ 0 = omega (arith, le) in subst (λ (z : ℕ). sum_to counts z ≤ sum_to counts 0) (sym e) (omega arith)
+sum_up counts a (suc b) le = elim (cases_lt a (suc b)) [
+  | inl lt ↦ (let up = sum_up counts a b (omega (arith, lt)) in omega (arith, up))
+  | inr ge ↦ (let e : a ≡ suc b = omega (arith, ge, le) in subst (λ (z : ℕ). sum_to counts z ≤ sum_to counts (suc b)) (sym e) (omega arith))
+]
+
+-- with less room there is room
+pub room_less : (s : Store) (more less : ℕ) → less ≤ more → HasRoomFor s more → HasRoomFor s less
+room_less s more less le r = record { slots = (let a = r.slots in omega (arith, a, le)); notes = r.notes; keys = r.keys }
+
+-- nothing leads to what nothing has as its parent
+no_descent : (s : Entries) (key : ℕ) → ((low : ℕ) → parent_of s low ≢ Some key) → (low high : ℕ) → Leads (parent_of s) low high → high ≡ key → ⊥
+no_descent s key leaf low high (step {low = l} is) e = leaf l (is ∙ ap (λ (k : ℕ). Some k) e)
+no_descent s key leaf low high (steps {middle = m} is rest) e = no_descent s key leaf m high rest e
+
+-- what fits is over leaves
+pub fits_leaves : (Due : Entry → Type 0) (s : Entries) → Fits Due s → AreOverLeaves Due s
+fits_leaves Due s fits e due key at low down = let was = entry_of_page s key e.place at in no_descent s key (fits e due key was.0 was.1 was.2).leaf low key down refl
+
+-- nothing is due
+pub none_mapped : (Due : Entry → Type 0) (s : Entries) → ((e : Entry) → ¬ (Due e)) → Brings Due s s × AreOverLeaves Due s
+none_mapped Due s none = (brings_none Due s none, λ e due. absurd (none e due))
+
+module _ (from to : ℕ) (differ : from ≢ to) (items : List ItemMove) (apart : AreApart items) (s : Entries) where
+  abbrev DueTo : ℕ → Entry → Type 0
+  DueTo i = IsDue from to items i s
+
+  abbrev By : ItemMove → Entries → Entry → Type 0
+  By by now = IsBrought (source_of from by) (end_of by) (target_of to by) by.rights now
+
+  -- where it goes
+  by_page : (by : ItemMove) (e : Entry) → By by s e → (by.mv.target.first ≤ e.place.page) × (e.place.page < by.mv.target.first + 2 ^ by.mv.target.log)
+  by_page by e b =
+      let page : e.place.page ≡ b.1.entry.place.page - by.mv.source.first + by.mv.target.first = ap (λ (x : Entry). x.place.page) b.2 in
+      let size : 2 ^ by.mv.source.log ≡ 2 ^ by.mv.target.log = ap (λ (k : ℕ). 2 ^ k) by.mv.same_size in
+      let low = b.1.inside.1 in
+      let high = b.1.inside.2 in (omega (arith, page, low), omega (arith, page, low, high, size))
+
+  by_space : (by : ItemMove) (e : Entry) → By by s e → e.place.space ≡ to
+  by_space by e b = ap (λ (x : Entry). x.place.space) b.2
+
+  due_away : (i : ℕ) (e : Entry) → DueTo i e → e.place.space ≢ from
+  due_away i e d same = differ (sym same ∙ by_space d.by e d.brings)
+
+  pub none_yet : (e : Entry) → ¬ (DueTo 0 e)
+  none_yet e d = let lt = d.before in omega (arith, lt)
+
+  -- one item more, which writes from this state on
+  module _ (i : ℕ) (by : ItemMove) (is : slice_get items i ≡ Some by) (now : Entries) (brings : Brings (DueTo i) s now) where
+    due_both : (e : Entry) → DueTo i e ⊎ By by s e → DueTo (i + 1) e
+    due_both e (inl d) = record { item = d.item; by = d.by; before = (let lt = d.before in omega (arith, lt)); item_is = d.item_is; brings = d.brings }
+    due_both e (inr b) = record { item = i; by = by; before = omega arith; item_is = is; brings = b }
+
+    due_parts : (e : Entry) → DueTo (i + 1) e → DueTo i e ⊎ By by s e
+    due_parts e d = elim (cases_lt d.item i) [
+      | inl lt ↦ inl (record { item = d.item; by = d.by; before = lt; item_is = d.item_is; brings = d.brings })
+      | inr le ↦
+          let lt = d.before in
+          let same : d.item ≡ i = omega (arith, le, lt) in inr (subst (λ (b : ItemMove). By b s e) (same_by (sym d.item_is ∙ ap (slice_get items) same ∙ is)) d.brings)
+    ]
+
+    parts_apart : (x y : Entry) → DueTo i x → By by s y → x.place ≢ y.place
+    parts_apart x y d b same =
+        let page : x.place.page ≡ y.place.page = ap (λ (p : Place). p.page) same in
+        let before = (by_page d.by x d.brings).1 in
+        let after = (by_page by y b).0 in
+        let le = apart d.item i d.by by d.before d.item_is is in omega (arith, page, before, after, le)
+
+    -- the parents are in the other space
+    clear : (x y : Entry) (t : Standing) (key : ℕ) → DueTo i x → By by s y → x.stands ≡ Some t → t.parent ≡ Some key → ¬ (IsAt s y.place key)
+    clear x y t key d b stands parent at =
+        let h = d.brings.1 in
+        let up : t ≡ record { frame = h.standing.frame; rights = common h.standing.rights d.by.rights; source = false; granted = None; parent = Some d.brings.0 } = same_standing (sym stands ∙ ap (λ (e : Entry). e.stands) d.brings.2) in
+        let key_is : key ≡ d.brings.0 = same_key (sym parent ∙ ap (λ (z : Standing). z.parent) up) in
+        let place : y.place ≡ h.entry.place = same_place (sym at ∙ ap (λ (k : ℕ). option_map {T = Entry} (λ e. e.place) (entry_at s k)) key_is ∙ ap (option_map {T = Entry} (λ e. e.place)) h.at) in
+        differ (sym h.inside.0 ∙ ap (λ (p : Place). p.space) (sym place) ∙ by_space by y b)
+
+    abbrev on : (e : Entry) → By by s e → By by now e
+    on = brought_on (DueTo i) s now brings (source_of from by) (end_of by) (target_of to by) by.rights (due_away i)
+
+    abbrev back : (e : Entry) → By by now e → By by s e
+    back = brought_back (DueTo i) s now brings (source_of from by) (end_of by) (target_of to by) by.rights (due_away i)
+
+    module _ (n : ℕ) (in_items : i < n) where
+      whole : (e : Entry) → By by now e → DueTo n e
+      whole e b = record { item = i; by = by; before = in_items; item_is = is; brings = back e b }
+
+      pub next_fits : Fits (DueTo n) s → Fits (By by now) now
+      next_fits fits y due =
+          fits_on (DueTo i) (By by s) s now brings parts_apart clear (λ e b. fits e (record { item = i; by = by; before = in_items; item_is = is; brings = b })) y (back y due)
+
+      pub next_tables : (targets : Rows) → HaveTables (DueTo n) targets → HaveTables (By by now) targets
+      next_tables targets made e due = made e (whole e due)
+
+      pub next_most : (wants : ℕ) (w : WantsItems from to items n s wants) → AtMost (IsLacking (source_of from by) (end_of by) (target_of to by) by.rights now) by.mv.source.first (end_of by) (w.counts i)
+      next_most wants w = at_most_back (lacking_back (DueTo i) s now brings (source_of from by) (end_of by) (target_of to by) by.rights (due_away i)) (w.each i by in_items is)
+
+    pub next_brings : (new : Entries) → Brings (By by now) now new → Brings (DueTo (i + 1)) s new
+    next_brings new b = brings_as (λ e. DueTo i e ⊎ By by s e) (DueTo (i + 1)) s new due_both due_parts (brings_joined (DueTo i) (By by s) s now new brings (brings_as (By by now) (By by s) now new back on b) parts_apart)
+
+-- a space without tables brings nothing
+pub none_there : (from to n : ℕ) (items : List ItemMove) (pages : Tables) (rows : Rows) (slots : Slots) (first head : Option ℕ) (stamp : ℕ) (all : Tables) → from ≢ to → ((page : ℕ) → key_of pages from page ≡ None)
+    → AreGrowing to pages rows slots first head stamp all → (e : Entry) → ¬ (IsDue from to items n (entries_of slots) e)
+none_there from to n items pages rows slots first head stamp all differ none g e d =
+    let h = d.brings.1 in
+    let z : ◌≡◌ {A = Option ℕ} None (Some d.brings.0) = sym (g.aside.away from h.entry.place.page differ ∙ none h.entry.place.page) ∙ entry_named slots all g.indexed from d.brings.0 h.entry h.at h.inside.0 in cc
+
+-- the items before this one have brought what is due, and there is room for what the others bring
+pub record HaveBrought (from to : ℕ) (items : List ItemMove) (i wants : ℕ) (pages : Tables) (old_rows rows : Rows) (old now : Store) : Type 0 where
+  pub brings : BringsAll to (IsDue from to items i (entries_of old.slots)) pages old_rows rows old.slots now.slots
+  pub fits : Fits (IsDue from to items (length items) (entries_of old.slots)) (entries_of old.slots)
+  pub made : HaveTables (IsDue from to items (length items) (entries_of old.slots)) rows
+  pub asks : WantsItems from to items (length items) (entries_of old.slots) wants
+  pub room : (rest : ℕ) → sum_to asks.counts i + rest ≤ wants → 1 ≤ rest → HasRoomFor now rest
+
+module _ (from to : ℕ) (differ : from ≢ to) (items : List ItemMove) (apart : AreApart items) (wants : ℕ) (pages : Tables) (old_rows : Rows) (old : Store) where
+  -- tables and room were made
+  pub still_growing : (rows : Rows) (now : Slots) → MakesTables old_rows rows → now ≡ old.slots → StayGrowing to pages old_rows rows old.slots now
+  still_growing rows now makes same first head stamp all g = (all, subst (λ (s : Slots). AreGrowing to pages rows s first head stamp all) (sym same) (growing_made to pages old_rows rows old.slots first head stamp all makes g))
+
+  at_first : (w : WantsItems from to items (length items) (entries_of old.slots) wants) (rest : ℕ) → sum_to w.counts 0 + rest ≤ wants → rest ≤ wants
+  unfolding sum_to
+  at_first w rest le = omega (arith, le)
+
+  pub brought_first : (rows : Rows) (now : Store) → MakesTables old_rows rows → now.slots ≡ old.slots → (1 ≤ wants → HasRoomFor now wants) → Fits (IsDue from to items (length items) (entries_of old.slots)) (entries_of old.slots)
+      → HaveTables (IsDue from to items (length items) (entries_of old.slots)) rows → WantsItems from to items (length items) (entries_of old.slots) wants → HaveBrought from to items 0 wants pages old_rows rows old now
+  brought_first rows now makes same room fits made asks = record {
+    brings = λ first head stamp all g.
+        (let v = still_growing rows now.slots makes same first head stamp all g in (v.0, v.1, subst (λ (s : Slots). Brings (IsDue from to items 0 (entries_of old.slots)) (entries_of old.slots) (entries_of s)) (sym same) (brings_none (IsDue from to items 0 (entries_of old.slots)) (entries_of old.slots) (none_yet from to differ items apart (entries_of old.slots)))));
+    fits = fits;
+    made = made;
+    asks = asks;
+    room = λ rest le some. (let all : rest ≤ wants = at_first asks rest le in room_less now wants rest all (room (omega (arith, all, some))));
+  }
+
+  -- the next item
+  module _ (i : ℕ) (rows : Rows) (now : Store) (h : HaveBrought from to items i wants pages old_rows rows old now) (by : ItemMove) (is : slice_get items i ≡ Some by) (in_items : i < length items)
+      (first head : Option ℕ) (stamp : ℕ) (all : Tables) (g : AreGrowing to pages old_rows old.slots first head stamp all) where
+    abbrev brings : Brings (IsDue from to items i (entries_of old.slots)) (entries_of old.slots) (entries_of now.slots)
+    brings = (h.brings first head stamp all g).2
+
+    pub item_fits : Fits (IsBrought (source_of from by) (end_of by) (target_of to by) by.rights (entries_of now.slots)) (entries_of now.slots)
+    item_fits = next_fits from to differ items apart (entries_of old.slots) i by is (entries_of now.slots) brings (length items) in_items h.fits
+
+    pub item_tables : HaveTables (IsBrought (source_of from by) (end_of by) (target_of to by) by.rights (entries_of now.slots)) rows
+    item_tables = next_tables from to differ items apart (entries_of old.slots) i by is (entries_of now.slots) brings (length items) in_items rows h.made
+
+    item_room : (more : ℕ) → sum_to h.asks.counts (i + 1) + more ≤ wants → HaveRoom (source_of from by) (end_of by) (target_of to by) by.rights by.mv.source.first more now
+    item_room more le = (
+      h.asks.counts i,
+      next_most from to differ items apart (entries_of old.slots) i by is (entries_of now.slots) brings (length items) in_items wants h.asks,
+      λ some. h.room (h.asks.counts i + more) (let e = sum_more h.asks.counts i in omega (arith, le, e)) some,
+    )
+
+    pub item_asks : HaveRoom (source_of from by) (end_of by) (target_of to by) by.rights by.mv.source.first 0 now
+    item_asks = item_room 0 (let up = sum_up h.asks.counts (i + 1) (length items) (omega (arith, in_items)) in let total = h.asks.total in omega (arith, up, total))
+
+    pub brought_next : (new_rows : Rows) (new : Store) → BringsAll to (IsBrought (source_of from by) (end_of by) (target_of to by) by.rights (entries_of now.slots)) pages rows new_rows now.slots new.slots
+        → ((high : ℕ) → is_made rows high ≡ true → is_made new_rows high ≡ true)
+        → ((more : ℕ) → HaveRoom (source_of from by) (end_of by) (target_of to by) by.rights by.mv.source.first more now → 1 ≤ more → HasRoomFor new more) → HaveBrought from to items (i + 1) wants pages old_rows new_rows old new
+    brought_next new_rows new b kept room = record {
+      brings = λ f k s t start.
+          (let v = h.brings f k s t start in
+          let u = b f k s v.0 v.1 in
+          (u.0, u.1, next_brings from to differ items apart (entries_of old.slots) i by is (entries_of now.slots) v.2 (entries_of new.slots) u.2));
+      fits = h.fits;
+      made = λ e due high low page_is lt. kept high (h.made e due high low page_is lt);
+      asks = h.asks;
+      room = λ rest le some. room rest (item_room rest le) some;
+    }
+
+-- A message of one page. What is due is the child of what is at the source, if that shares a right.
+module _ (from to : ℕ) (items : List ItemMove) (by : ItemMove) (one : length items ≡ 1) (is : slice_get items 0 ≡ Some by) (page : end_of by - by.mv.source.first ≡ 1) (s : Entries) where
+  abbrev OneDue : Entry → Type 0
+  OneDue = IsDue from to items (length items) s
+
+  one_by : (e : Entry) (d : OneDue e) → d.by ≡ by
+  one_by e d = let lt = d.before in let first : d.item ≡ 0 = omega (arith, lt, one) in same_by (sym d.item_is ∙ ap (slice_get items) first ∙ is)
+
+  one_shared : (e : Entry) → OneDue e → (key : ℕ) × (h : Entry) × (x : Standing) × (entry_at s key ≡ Some h) × (h.place ≡ source_of from by) × (h.stands ≡ Some x) × (common x.rights by.rights ≢ no_rights)
+      × (e ≡ child_entry (target_of to by) key x by.rights)
+  one_shared e d = parts (subst (λ (b : ItemMove). IsBrought (source_of from b) (end_of b) (target_of to b) b.rights s e) (one_by e d) d.brings)
+    where
+      parts : IsBrought (source_of from by) (end_of by) (target_of to by) by.rights s e → (key : ℕ) × (h : Entry) × (x : Standing) × (entry_at s key ≡ Some h) × (h.place ≡ source_of from by) × (h.stands ≡ Some x)
+          × (common x.rights by.rights ≢ no_rights) × (e ≡ child_entry (target_of to by) key x by.rights)
+      parts b =
+          let h = b.1 in
+          let low = h.inside.1 in
+          let high = h.inside.2 in
+          let at_page : h.entry.place.page ≡ by.mv.source.first = omega (arith, low, high, page) in
+          let place : h.entry.place ≡ source_of from by = λ i. record { space = h.inside.0 i; page = at_page i } in
+          (b.0, h.entry, h.standing, h.at, place, h.stands, h.shares, b.2 ∙ ap (λ (p : Place). child_entry p b.0 h.standing by.rights) (ap (moved_place (source_of from by) (target_of to by)) place ∙ goes_there (source_of from by) (target_of to by)))
+
+  -- nothing is due, if no right is shared there
+  pub one_none : ((key : ℕ) (x : Standing) → IsAt s (source_of from by) key → standing_at s key ≡ Some x → common x.rights by.rights ≡ no_rights) → (e : Entry) → ¬ (OneDue e)
+  one_none none e d =
+      let h = one_shared e d in
+      h.6 (none h.0 h.2 (ap (option_map {T = Entry} (λ z. z.place)) h.3 ∙ ap (λ (p : Place). Some p) h.4) (ap (option_and_then (λ (z : Entry). z.stands)) h.3 ∙ h.5))
+
+  module _ (key : ℕ) (at : IsAt s (source_of from by) key) (alone : (k : ℕ) → IsAt s (source_of from by) k → k ≡ key) (x : Standing) (stands : standing_at s key ≡ Some x) (shares : common x.rights by.rights ≢ no_rights) where
+    abbrev child : Entry
+    child = child_entry (target_of to by) key x by.rights
+
+    pub one_due : OneDue child
+    one_due =
+        let h = entry_of_page s key (source_of from by) at in
+        let at_page : h.0.place.page ≡ by.mv.source.first = ap (λ (p : Place). p.page) h.2 in
+        record {
+          item = 0;
+          by = by;
+          before = omega (arith, one);
+          item_is = is;
+          brings = (
+            key,
+            record {
+              entry = h.0;
+              at = h.1;
+              inside = (ap (λ (p : Place). p.space) h.2, omega (arith, at_page), omega (arith, at_page, page));
+              standing = x;
+              stands = sym (ap (option_and_then (λ (z : Entry). z.stands)) h.1) ∙ stands;
+              shares = shares;
+            },
+            ap (λ (p : Place). child_entry p key x by.rights) (sym (ap (moved_place (source_of from by) (target_of to by)) h.2 ∙ goes_there (source_of from by) (target_of to by))),
+          );
+        }
+
+    pub due_one : (e : Entry) → OneDue e → e ≡ child
+    due_one e d =
+        let h = one_shared e d in
+        let k : h.0 ≡ key = alone h.0 (ap (option_map {T = Entry} (λ z. z.place)) h.3 ∙ ap (λ (p : Place). Some p) h.4) in
+        let same : h.2 ≡ x = same_standing (sym (ap (option_and_then (λ (z : Entry). z.stands)) h.3 ∙ h.5) ∙ ap (standing_at s) k ∙ stands) in
+        h.7 ∙ (λ i. child_entry (target_of to by) (k i) (same i) by.rights)
+
+    -- it lacks a key
+    pub one_lacks : ((k : ℕ) → ¬ (IsAt s (target_of to by) k)) → LacksKey OneDue s
+    one_lacks absent = record { entry = child; due = one_due; absent = absent }
+
+    -- or has come
+    pub one_mapped : (new : Entries) (k : ℕ) (c : AddsChild key (target_of to by) by.rights s new k) → ((other : ℕ) → ¬ (IsAt s (target_of to by) other)) → Brings OneDue s new × AreOverLeaves OneDue s
+    one_mapped new k c free =
+        let above : c.above ≡ x = same_standing (sym c.at_parent ∙ stands) in
+        let goes : child ≡ child_entry (target_of to by) key c.above by.rights = ap (λ (z : Standing). child_entry (target_of to by) key z by.rights) (sym above) in (
+          brings_as (λ e. e ≡ child_entry (target_of to by) key c.above by.rights) OneDue s new (λ e same. subst OneDue (sym (same ∙ sym goes)) one_due) (λ e d. due_one e d ∙ goes)
+              (brings_added key (target_of to by) by.rights s new k c free cases_eq),
+          λ e d other at. absurd (free other (subst (λ (z : Entry). IsAt s z.place other) (due_one e d) at)),
+        )
