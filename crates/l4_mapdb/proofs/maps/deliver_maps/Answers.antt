@@ -8,7 +8,7 @@ use Rattle.l4_mapdb.proofs.maps.deliver_maps.Goals as goal
 
 -- the places of each item end before those of the later ones
 pub map_items-requires-clause-apart : goal.map_items-requires-clause-apart
-map_items-requires-clause-apart c = λ low high a b less at_low at_high. (c.are_apart.ensures c.if-are_apart.true low high a b less (slice_get_within c.args.items.now high b at_high) at_low at_high).target
+map_items-requires-clause-apart c = λ low high a b less at_low at_high. (c.are_apart.ensures c.if-not-are_apart.false low high a b less (slice_get_within c.args.items.now high b at_high) at_low at_high).target
 
 pub refusal-requires : goal.refusal-requires
 refusal-requires c = record {
@@ -26,5 +26,5 @@ returns-in-Err-clause-cause c = cause_of c.args.links.now c.requires.ground.plac
 
 pub returns-clause-done : goal.returns-clause-done
 returns-clause-done c = λ done. delivered_now c.args.links.now c.args.from c.args.to c.args.items.now c.requires.ground c.requires.there c.requires.maps c.map_items.new.self
-    (brought_mapped c.args.links.now c.args.from c.args.to c.args.items.now c.requires.ground (c.are_apart.ensures c.if-are_apart.true) c.map_items.new.self c.map_items.ensures.spaces (c.in-Ok.ensures.brings done) (c.in-Ok.ensures.leaves done))
+    (brought_mapped c.args.links.now c.args.from c.args.to c.args.items.now c.requires.ground (c.are_apart.ensures c.if-not-are_apart.false) c.map_items.new.self c.map_items.ensures.spaces (c.in-Ok.ensures.brings done) (c.in-Ok.ensures.leaves done))
     c.law_places.ensures
