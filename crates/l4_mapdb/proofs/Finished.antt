@@ -18,9 +18,10 @@ use Rattle.l4_mapdb.specs.Delivering.{IsClean, RootsKnown}
 use Rattle.l4_mapdb.specs.Inside.Cutting.{bare, Capped, IsGrantBelow}
 use Rattle.l4_mapdb.specs.Inside.Messages.{plain, tidied, Tidies, OfItems}
 use Rattle.l4_mapdb.specs.Inside.Placing.{IsStart, Used, Placed}
-use Rattle.l4_mapdb.specs.Inside.Settling.{settled}
+use Rattle.l4_mapdb.specs.Inside.Settling.{settled_standing, settled_entry, settled}
 use Rattle.l4_mapdb.proofs.View.{some_standing, stands_at, same_view}
-use Rattle.l4_mapdb.proofs.Moved.{moved, source_of, IsGrantedHere, IsChildHere, IsLeftHere, stands_here}
+use Rattle.l4_mapdb.proofs.Arrived.{Arrived, arrived_moved, arrived_roots}
+use Rattle.l4_mapdb.proofs.Moved.{at_settled, places_settled, IsGrantedHere, IsChildHere, IsLeftHere, stands_here, arrived_settled}
 use Rattle.l4_mapdb.proofs.CutLoss.{cut_loses, before_burial, not_buried}
 use Rattle.l4_mapdb.proofs.Caps.{IsSameBare, bare_stands, turned}
 use Rattle.l4_mapdb.proofs.Restored.{target_in, source_in}
@@ -221,19 +222,8 @@ module _ (start now : Linked) (from to : ℕ) (items : List ItemMove) (ready : I
           tidied_target : (u : PageMove) → Moves u → link_place u.target ≡ e.place → IsPlain e
           tidied_target u used target = plain_tidied key e (tidied_here key e at_old (subst (OfItems from to items (length items)) target (target_in from to items u.item used.by u.source.page (link_place u.target) used.item used.to_space used.pages))) at
 
-  -- what is left without a parent stood under its key at the start
-  root_now : (key : ℕ) (e : Entry) (t : Standing) → entry_at now.entries key ≡ Some e → e.stands ≡ Some t → t.parent ≡ None → (roots : List ℕ) → RootsKnown start.entries roots → slice_get roots t.frame ≡ Some key
-  root_now key e t at stands top roots known = elim (now_here key e at) [
-    | inl g ↦
-        let s = source_of start now from to items ready Done placed have all g.move g.used in
-        let t_is : t ≡ record s.standing { source = true; granted = Some g.used.by.rights } = same_value (sym stands ∙ ap (λ (x : Entry). x.stands) g.is) in
-        ap (slice_get roots) (ap (λ (x : Standing). x.frame) t_is) ∙ known s.key s.standing (stands_at start.entries s.key s.entry s.standing s.at s.stands) (ap (λ (x : Standing). x.parent) (sym t_is) ∙ top) ∙ ap (λ (k : ℕ). Some k) g.key_is
-    | inr (inl c) ↦ absurd (let z : ◌≡◌ {A = Option ℕ} (Some c.there.parent) None = ap (λ (x : Standing). x.parent) (same_value (ap (λ (x : Entry). x.stands) (sym c.is) ∙ stands)) ∙ top in cc)
-    | inr (inr l) ↦
-        let p = l.plain in
-        let t_is : t ≡ record p.standing { source = l.left.marked } = same_value (sym stands ∙ ap (λ (x : Entry). x.stands) l.is) in
-        ap (slice_get roots) (ap (λ (x : Standing). x.frame) t_is) ∙ known key p.standing (stands_at start.entries key l.before p.standing l.at p.stands) (ap (λ (x : Standing). x.parent) (sym t_is) ∙ top)
-  ]
+  abbrev arrives : Arrived start from to items (settled now)
+  arrives = arrived_settled start now from to items ready Done placed have all
 
   -- the keys of roots that are kept are right in the end
   pub roots_in_the_end : (roots : List ℕ) → RootsKnown start.entries roots → RootsKnown new.entries roots
@@ -250,13 +240,14 @@ module _ (start now : Linked) (from to : ℕ) (items : List ItemMove) (ready : I
       from_buried : (e : Entry) (t : Standing) → entry_at buried.entries key ≡ Some e → e.stands ≡ Some t → t.parent ≡ None → slice_get roots t.frame ≡ Some key
       from_buried e t at stands top =
           let s = stood_before key e t at stands in
-          ap (slice_get roots) s.same.frame ∙ root_now key s.entry s.standing s.at s.stands (sym s.same.parent ∙ top) roots known
+          let settled_is : standing_at (settled now).entries key ≡ Some (settled_standing s.standing) = ap (option_and_then (λ (x : Entry). x.stands)) (at_settled now key ∙ ap settled_entry s.at) ∙ ap (option_map settled_standing) s.stands in
+          ap (slice_get roots) s.same.frame ∙ arrived_roots start (settled now) from to items ready arrives (places_settled now have) roots known key (settled_standing s.standing) settled_is (sym s.same.parent ∙ top)
 
   -- the message is delivered
   pub delivers_in_the_end : HavePlaces buried → AreTrees buried.entries → HavePlaces new → buried.spaces ≡ now.spaces → new.spaces ≡ buried.spaces → Delivers from to items (mappings_of start) (mappings_of new)
   delivers_in_the_end have_buried trees_buried have_new spaces spaces_new = record {
     middle = mappings_of (settled now);
-    moved = moved start now from to items ready Done placed have all;
+    moved = arrived_moved start (settled now) from to items ready arrives (places_settled now have);
     cut = subst (λ (m : Mappings). LosesRights (IsCut Moves (mappings_of (settled now))) (mappings_of (settled now)) m)
         (sym (tidied_view buried new have_buried have_new trees_buried spaces_new (OfItems from to items (length items)) tidies))
         (cut_loses start now from to items ready Done placed have trees all cur buried capped buries have_buried trees_buried spaces);

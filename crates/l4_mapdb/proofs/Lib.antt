@@ -20,8 +20,7 @@ pub mod Deciding
 pub mod Filled
 pub mod Finished
 pub mod Gone
-pub mod Handed
-pub mod Grown
+pub mod Arrived
 pub mod Brought
 pub mod ItemWalk
 pub mod Keyed

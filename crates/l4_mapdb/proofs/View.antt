@@ -173,7 +173,7 @@ some_key s (Some k) q h =
       | Some e ↦ λ is h. (k, refl, at_place s k e is ∙ ap (λ (p : LinkPlace). Some p) (same_places e.place (link_place q) (same_value h)))
     ] refl h
 
-key_place : (s : Entries) (q : Place) (key : ℕ) → IsAt s (link_place q) key → place_at s key ≡ Some q
+pub key_place : (s : Entries) (q : Place) (key : ℕ) → IsAt s (link_place q) key → place_at s key ≡ Some q
 key_place s q key at =
     let e = some_entry s (link_place q) key at in
     ap (option_map {T = Entry} (λ e. map_place e.place)) e.1 ∙ ap (λ (p : LinkPlace). Some (map_place p)) e.2

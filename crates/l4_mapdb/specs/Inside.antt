@@ -1,5 +1,4 @@
 pub mod Cutting
-pub mod Granting
 pub mod Growing
 pub mod Messages
 pub mod Placing

@@ -50,7 +50,6 @@ fn carry_out(links: &mut Links, from: u64, to: u64, items: &[ItemMove])
 fn deliver_any(links: &mut Links, from: u64, to: u64, items: &[ItemMove]) -> Result<(), Cause>
     requires clean { IsClean links.old }
     requires there { IsTrue (set.contains links.old.spaces to) }
-    requires forest { IsForest (mappings_of links.old) }
     ensures ok { OnOk result (IsDelivered from to items.now links.old links.new) }
     ensures err { OnErr result
         ((key : ℕ) → entry_at links.new.entries key ≡ entry_at links.old.entries key) }

@@ -8,7 +8,7 @@ ghost use Rattle.l4_mapdb.specs.Transfer.{IsUsed};
 ghost use Rattle.l4_mapdb.specs.Causes.{HasCause};
 ghost use Rattle.l4_mapdb.specs.View.{mappings_of};
 ghost use Rattle.l4_mapdb.specs.Delivering.{IsDelivered};
-ghost use Rattle.l4_mapdb.specs.Inside.Growing.{AreMaps, IsGround};
+ghost use Rattle.l4_mapdb.specs.Inside.Growing.{AreOfKind, IsGround};
 
 use crate::tangles::{are_apart, refusal};
 use crate::{Cause, ItemMove};
@@ -26,7 +26,7 @@ pub(crate) fn deliver_maps(
 ) -> Result<bool, Cause>
     requires ground { IsGround links.old from to }
     requires there { IsTrue (set.contains links.old.spaces to) }
-    requires maps { AreMaps items.now }
+    requires maps { AreOfKind false items.now }
     ensures done { IfOk result
         (λ done. done ≡ true → IsDelivered from to items.now links.old links.new) }
     ensures left { IfOk result

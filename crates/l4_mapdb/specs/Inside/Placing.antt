@@ -7,7 +7,6 @@ use Rattle.l4_links.specs.declared.Standing.{Standing}
 use Rattle.l4_links.specs.declared.Entry.{Entry}
 use Rattle.l4_links.specs.Entries.{Entries, Linked, entry_at, standing_at, IsAt, IsBlank, HavePlaces, AreTrees, Sprouts, TakesOver}
 use Rattle.l4_msg.specs.declared.items.ItemMove.{ItemMove}
-use Rattle.l4_mapdb.specs.Mappings.{IsForest}
 use Rattle.l4_mapdb.specs.Transfer.{PageMove, IsUsed, IsEntangled, IsGone}
 use Rattle.l4_mapdb.specs.View.{link_place, map_place, mappings_of}
 use Rattle.l4_mapdb.specs.Delivering.{IsClean}
@@ -18,7 +17,6 @@ pub record IsStart (start : Linked) (from to : ℕ) (items : List ItemMove) : Ty
   pub trees : AreTrees start.entries
   pub there : IsTrue (set.contains start.spaces to)
   pub clean : IsClean start
-  pub forest : IsForest (mappings_of start)
   pub free : ¬ (IsEntangled (IsUsed (mappings_of start) from to items) (mappings_of start))
 
 module _ (start : Linked) (from to : ℕ) (items : List ItemMove) where

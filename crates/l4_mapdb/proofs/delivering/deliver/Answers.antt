@@ -1,18 +1,15 @@
 use Rattle.std.proofs.Common.{◌≡◌, IsOk, sym, ◌∙◌, subst}
 use Rattle.std.proofs.lemmas.Result.{on_ok_weaker, on_err_weaker}
-use Rattle.l4_mapdb.specs.Mappings.{Mappings, IsForest}
+use Rattle.l4_mapdb.specs.Mappings.{Mappings}
 use Rattle.l4_mapdb.specs.View.{mappings_of}
 use Rattle.l4_mapdb.proofs.Unchanged.{unchanged}
-use Rattle.l4_mapdb.proofs.Grown.{delivered_same}
+use Rattle.l4_mapdb.proofs.Arrived.{delivered_same}
 use Rattle.l4_mapdb.specs.Transfer.{IsUsed, IsEntangled, TargetsPresent}
 use Rattle.l4_mapdb.proofs.delivering.deliver.Goals.{After-law_places-2}
 use Rattle.l4_mapdb.proofs.delivering.deliver.Goals as goal
 
 same_view : (c : goal.After-law_places-2) → mappings_of c.deliver_short.new.links ≡ mappings_of c.args.links.now
 same_view c = unchanged c.args.links.now c.deliver_short.new.links c.law_places.ensures c.law_places-2.ensures c.deliver_short.ensures.spaces (c.in-Ok.ensures.left c.if-done.false)
-
-pub deliver_any-requires-clause-forest : goal.deliver_any-requires-clause-forest
-deliver_any-requires-clause-forest c = subst IsForest (sym (same_view (goal.at.deliver_any-requires-clause-forest c).After-law_places-2)) c.requires.forest
 
 pub returns-clause-ok : goal.returns-clause-ok
 returns-clause-ok c = on_ok_weaker c.deliver_any.result (delivered_same c.args.from c.args.to c.args.items.now c.args.links.now c.deliver_short.new.links c.deliver_any.new.links (same_view (goal.at.returns-clause-ok c).After-law_places-2) (c.in-Ok.ensures.left c.if-done.false)) c.deliver_any.ensures.ok

@@ -58,7 +58,6 @@ start c = record {
   trees = c.law_trees.ensures;
   there = c.requires.there;
   clean = c.requires.clean;
-  forest = c.requires.forest;
   free = λ e. false≢true (sym c.if-has_tangle.false ∙ c.has_tangle.ensures.answer.1 (entangled_keys c.args.links.now c.law_places.ensures c.law_trees.ensures c.args.from c.args.to c.args.items.now e));
 }
 

@@ -1,17 +1,23 @@
-use Rattle.std.proofs.Common.{ℕ, sym, ap, ◌∙◌, subst}
-use Rattle.l4_links.specs.Entries.{Linked, entry_at, IsAt}
+use Rattle.std.proofs.Common.{◌≡◌, ℕ, length, Some, sym, ap, ◌∙◌, subst, arith}
+use Rattle.std.proofs.lemmas.Option.{slice_get-get_or}
+use Rattle.l4_links.specs.Entries.{Linked, entry_at, IsAt, MovesPages, LacksPlace}
 use Rattle.l4_mapdb.specs.declared.sources.UsedMove.{UsedMove}
 use Rattle.l4_mapdb.specs.Delivering.{IsClean}
 use Rattle.l4_mapdb.specs.Inside.Messages.{IsMoved, LacksKey}
 use Rattle.l4_mapdb.proofs.Prepared.{cause_of}
-use Rattle.l4_mapdb.proofs.Handed.{granted_now}
+use Rattle.l4_mapdb.proofs.OneGrant.{block_delivered, block_lacks}
 use Rattle.l4_mapdb.proofs.granting.deliver_grants.Goals as goal
 
 pub refusal-requires : goal.refusal-requires
-refusal-requires c = record {
-  clean = subst IsClean (sym c.in-Err.ensures.err) c.requires.ground.clean;
-  lacks = subst (λ (s : Linked). (move : UsedMove) × IsMoved s.entries c.args.from c.args.to c.args.items.now move × ((key : ℕ) → ¬ (IsAt s.entries move.target key))) (sym c.in-Err.ensures.err) c.in-Err.ensures.lacks;
-}
+refusal-requires c =
+    let one : length c.args.items.now ≡ 1 = c.if-items-ne1.false in
+    record {
+      clean = subst IsClean (sym c.in-Err.ensures.err) c.requires.ground.clean;
+      lacks = subst (λ (s : Linked). (move : UsedMove) × IsMoved s.entries c.args.from c.args.to c.args.items.now move × ((key : ℕ) → ¬ (IsAt s.entries move.target key))) (sym c.in-Err.ensures.err)
+          (block_lacks c.args.links.now c.args.from c.args.to c.args.items.now c.requires.ground c.index-items-0.result one (slice_get-get_or c.args.items.now 0 c.index-items-0.result (omega (arith, one)) ∙ ap (λ z. Some z) (sym c.index-items-0.is))
+          (subst (λ (end : ℕ). LacksPlace (record { space = c.args.from; page = c.index-items-0.result.mv.source.first }) end (record { space = c.args.to; page = c.index-items-0.result.mv.target.first }) c.index-items-0.result.rights
+          c.args.links.now.entries) c.end_of-end.ensures.is c.in-Err.ensures.lacks));
+    }
 
 pub returns-in-Err-clause-err : goal.returns-in-Err-clause-err
 returns-in-Err-clause-err c = λ key. c.refusal.ensures.same key ∙ ap (λ (s : Linked). entry_at s.entries key) c.in-Err.ensures.err
@@ -21,7 +27,11 @@ returns-in-Err-clause-cause c =
     cause_of c.args.links.now c.requires.ground.places c.requires.ground.trees c.args.from c.args.to c.args.items.now c.refusal.result
     (subst (λ (s : Linked). LacksKey (IsMoved s.entries c.args.from c.args.to c.args.items.now) s.entries c.refusal.result) c.in-Err.ensures.err c.refusal.ensures.cause)
 
-pub returns-then-handed-clause-done : goal.returns-then-handed-clause-done
-returns-then-handed-clause-done c = λ _.
-    granted_now c.args.links.now c.args.from c.args.to c.args.items.now c.requires.ground c.requires.there c.requires.grants
-    (c.in-Ok.ensures.apart c.if-handed.true) c.grant_block.new.links (c.in-Ok.ensures.handed c.if-handed.true) c.law_places.ensures
+pub returns-clause-done : goal.returns-clause-done
+returns-clause-done c = λ done.
+    let one : length c.args.items.now ≡ 1 = c.if-items-ne1.false in
+    block_delivered c.args.links.now c.args.from c.args.to c.args.items.now c.requires.ground c.index-items-0.result one (slice_get-get_or c.args.items.now 0 c.index-items-0.result (omega (arith, one)) ∙ ap (λ z. Some z) (sym c.index-items-0.is))
+    c.requires.grants c.move_pages.new.self
+    (subst (λ (end : ℕ). MovesPages (record { space = c.args.from; page = c.index-items-0.result.mv.source.first }) end (record { space = c.args.to; page = c.index-items-0.result.mv.target.first }) c.index-items-0.result.rights
+    c.args.links.now.entries c.move_pages.new.self.entries) c.end_of-end.ensures.is (c.in-Ok.ensures.moved done))
+    c.move_pages.ensures.spaces c.requires.there c.law_places.ensures

@@ -2,8 +2,7 @@ use Rattle.std.proofs.Common.{sym, ap, ◌∙◌}
 use Rattle.std.proofs.lemmas.Option.{slice_get_within}
 use Rattle.l4_mapdb.proofs.Prepared.{cause_of}
 use Rattle.l4_mapdb.proofs.RoomMade.{lacks_same, lacks_still}
-use Rattle.l4_mapdb.proofs.Grown.{delivered_now}
-use Rattle.l4_mapdb.proofs.Brought.{brought_mapped, lacks_of}
+use Rattle.l4_mapdb.proofs.Brought.{brought_delivered, lacks_of}
 use Rattle.l4_mapdb.proofs.maps.deliver_maps.Goals as goal
 
 -- the places of each item end before those of the later ones
@@ -25,6 +24,6 @@ returns-in-Err-clause-cause c = cause_of c.args.links.now c.requires.ground.plac
     (lacks_same c.args.links.now c.requires.ground.clean c.args.from c.args.to c.args.items.now c.map_items.new.self.entries c.in-Err.ensures.err c.refusal.result c.refusal.ensures.cause)
 
 pub returns-clause-done : goal.returns-clause-done
-returns-clause-done c = λ done. delivered_now c.args.links.now c.args.from c.args.to c.args.items.now c.requires.ground c.requires.there c.requires.maps c.map_items.new.self
-    (brought_mapped c.args.links.now c.args.from c.args.to c.args.items.now c.requires.ground (c.are_apart.ensures c.if-not-are_apart.false) c.map_items.new.self c.map_items.ensures.spaces (c.in-Ok.ensures.brings done) (c.in-Ok.ensures.leaves done))
-    c.law_places.ensures
+returns-clause-done c = λ done.
+    brought_delivered c.args.links.now c.args.from c.args.to c.args.items.now c.requires.ground c.requires.maps (c.are_apart.ensures c.if-not-are_apart.false) c.map_items.new.self c.map_items.ensures.spaces
+    (c.in-Ok.ensures.brings done) (c.in-Ok.ensures.leaves done) c.requires.there c.law_places.ensures
