@@ -1,9 +1,10 @@
 ghost use Rattle.std.specs.Prelude.{◌≡◌, ◌≤◌, ◌+◌, ◌-◌, IfOk, true};
 ghost use Rattle.l4_spaces.specs.Tables.{IsPage, space_pages};
-ghost use Rattle.l4_links.specs.Entries.{IsBlank, HaveRights};
+ghost use Rattle.l4_links.specs.Entries.{IsBlank, HaveRights, IsPlain, ArePlain};
 
-use l4_fpage::Rights;
-use l4_links::{Entry, Halt, Links, NoMemory, Place, Standing};
+use l4_fpage::{Block, Rights};
+use l4_links::{Entry, Links, NoMemory, Place, Standing};
+use l4_msg::{ItemMove, Move};
 use std::test::Fail;
 
 /// Returns a page of space 0.
@@ -40,20 +41,6 @@ fn child(links: &mut Links, parent: usize, page: u32) -> Result<usize, NoMemory>
     Ok(key)
 }
 
-/// Adds a child of what is at the page of space 0, at a page of space 1, with all rights of its parent.
-fn child_away(links: &mut Links, page: u32, other: u32) -> Result<Option<Halt>, NoMemory>
-    requires from { IsPage page }
-    requires to { IsPage other }
-{
-    links.add_space(1)?;
-    let source = Place { space: 0, page };
-    let target = Place {
-        space: 1,
-        page: other,
-    };
-    Ok(links.add_children(source, page + 1, target, Rights::all()))
-}
-
 /// Returns a root with all rights.
 fn root(links: &mut Links, frame: u32) -> Result<usize, NoMemory>
     requires { IsPage frame }
@@ -87,6 +74,53 @@ fn have_rights(links: &Links) -> bool
         }
     }
     true
+}
+
+/// Returns whether something stands there with a right, and without a mark.
+fn is_plain(entry: &Entry) -> bool
+    ensures { result ≡ true → IsPlain entry.now }
+{
+    let Some(standing) = entry.stands else {
+        return false;
+    };
+    if entry.wanted || standing.source || standing.granted.is_some() {
+        return false;
+    }
+    !standing.rights.is_empty()
+}
+
+/// Returns whether something stands at each page that has a key, with a right and without a mark.
+fn are_plain(links: &Links) -> bool
+    ensures { result ≡ true → ArePlain links.now.entries }
+{
+    for key in 0..links.bound() {
+        if let Some(entry) = links.at(key) {
+            if !is_plain(&entry) {
+                return false;
+            }
+        }
+    }
+    true
+}
+
+/// Maps a page of space 0 to a page of space 1. Returns whether this was done.
+fn map_away(links: &mut Links, page: u32, other: u32, rights: Rights) -> Result<bool, NoMemory> {
+    links.add_space(1)?;
+    let Some(source) = Block::new(page, 0) else {
+        return Err(NoMemory);
+    };
+    let Some(target) = Block::new(other, 0) else {
+        return Err(NoMemory);
+    };
+    if !are_plain(links) {
+        return Err(NoMemory);
+    }
+    let item = ItemMove {
+        mv: Move { source, target },
+        rights,
+        grant: false,
+    };
+    links.map_items(0, 1, &[item])
 }
 
 /// Clears the key, where all that stands has a right.
@@ -330,66 +364,33 @@ fn finds_parents(rt: HostRuntime) {
 }
 
 #[test]
-fn adds_the_child_of_one_page(rt: HostRuntime) {
+fn maps_a_page(rt: HostRuntime) {
     let mut links = Links::new(rt.alloc(), 3).expect(&rt, "memory");
     let [top, middle, low] = chain(&mut links).expect(&rt, "memory");
-    assert_eq!(rt; child_away(&mut links, 10, 12), Ok(None));
-    let next = links.find(away(12)).expect(&rt, "a child");
-    // page 12 of space 1 has a key now
-    let halt = Halt {
-        page: 5,
-        key: top,
-        refused: false,
-    };
-    assert_eq!(rt; child_away(&mut links, 5, 12), Ok(Some(halt)));
-    links.cap_below(middle, Rights::of_bits(5));
-    let rows = [(low, 5, Some(middle)), (next, 5, Some(middle))];
+    assert_eq!(rt; map_away(&mut links, 10, 12, Rights::all()), Ok(true));
+    let own = links.find(away(12)).expect(&rt, "a child");
+    assert!(rt; stand_so(&links, &[(own, 7, Some(middle))]));
+    // its own child has other rights then, and a cap finds it
+    assert_eq!(rt; map_away(&mut links, 10, 12, Rights::of_bits(5)), Ok(true));
+    links.cap_below(middle, Rights::of_bits(6));
+    let rows = [(low, 6, Some(middle)), (own, 4, Some(middle))];
     assert!(rt; stand_so(&links, &[(middle, 7, Some(top))]) && stand_so(&links, &rows));
 }
 
-/// Lets a child of the parent have what the parent has of these rights, if the call may be made.
-fn renew(links: &mut Links, parent: usize, key: usize, rights: Rights) -> bool {
-    let Some(above) = links.standing(parent) else {
-        return false;
-    };
-    if above.rights.intersection(rights).is_empty() {
-        return false;
-    }
-    let Some(below) = links.standing(key) else {
-        return false;
-    };
-    if below.source {
-        return false;
-    }
-    if let Some(_) = below.granted {
-        return false;
-    }
-    if !links.is_leaf(key) {
-        return false;
-    }
-    if !have_rights(links) {
-        return false;
-    }
-    links.renew_child(parent, key, rights)
-}
-
 #[test]
-fn renews_a_child_in_place(rt: HostRuntime) {
+fn maps_a_page_in_place_of_another_child(rt: HostRuntime) {
     let mut links = Links::new(rt.alloc(), 3).expect(&rt, "memory");
-    let [top, left, right, low] = nephew(&mut links).expect(&rt, "memory");
-    assert!(rt; renew(&mut links, top, right, Rights::of_bits(5)));
-    assert!(rt; stand_so(&links, &[(left, 7, Some(top)), (right, 5, Some(top))]));
-    // rights come back too, and a cap finds them
-    links.cap_below(top, Rights::of_bits(5));
-    assert!(rt; renew(&mut links, left, low, Rights::of_bits(7)));
-    assert!(rt; renew(&mut links, top, right, Rights::of_bits(6)));
-    assert!(rt; stand_so(&links, &[(low, 5, Some(left)), (right, 6, Some(top))]));
-    links.cap_below(top, Rights::of_bits(5));
-    assert!(rt; stand_so(&links, &[(low, 5, Some(left)), (right, 4, Some(top))]));
-    // another page's child, and one that something descends from, stay as they are
-    assert!(rt; !renew(&mut links, top, low, Rights::all()));
-    assert!(rt; !renew(&mut links, top, left, Rights::all()));
-    assert!(rt; stand_so(&links, &[(low, 5, Some(left)), (left, 5, Some(top))]));
+    let [top, middle, _] = chain(&mut links).expect(&rt, "memory");
+    assert_eq!(rt; map_away(&mut links, 10, 12, Rights::of_bits(5)), Ok(true));
+    assert_eq!(rt; map_away(&mut links, 5, 12, Rights::of_bits(6)), Ok(true));
+    let next = links.find(away(12)).expect(&rt, "a child");
+    // what descends from the other page no longer has it
+    links.cap_below(middle, Rights::of_bits(1));
+    assert!(rt; stand_so(&links, &[(next, 6, Some(top)), (middle, 7, Some(top))]));
+    // something descends from it now, so it stays
+    let low = child(&mut links, next, 13).expect(&rt, "memory");
+    assert_eq!(rt; map_away(&mut links, 10, 12, Rights::all()), Ok(false));
+    assert!(rt; stand_so(&links, &[(next, 6, Some(top)), (low, 6, Some(next))]));
 }
 
 #[test]
