@@ -5,7 +5,7 @@ use Rattle.l4_nodes.specs.declared.Place.{Place as LinkPlace}
 use Rattle.l4_links.specs.Entries.{Entries}
 use Rattle.l4_msg.specs.declared.items.ItemMove.{ItemMove}
 use Rattle.l4_mapdb.specs.declared.sources.UsedMove.{UsedMove}
-use Rattle.l4_mapdb.specs.Inside.Messages.{IsMoved, turn, turn_of}
+use Rattle.l4_mapdb.specs.Inside.Messages.{IsMoved}
 use Rattle.l4_mapdb.specs.Inside.Tangles.{AreApart, Replaces, Clashes, HasTangle}
 use Rattle.l4_mapdb.proofs.Moves.{one_by, move_item}
 use Rattle.l4_mapdb.proofs.Marking.{by_key}
@@ -97,22 +97,6 @@ module _ (s : Entries) (from to : ℕ) (items : List ItemMove) (apart : AreApart
     | inl less ↦ let r = rising m n a b less in (λ g. r.0 (inl g), r.1)
     | inr ge ↦ let r = rising n m b a (omega (arith, ge, ne)) in (λ g e. r.0 (inr g) (sym e), λ e. r.1 (sym e))
   ]
-
-  -- no two used moves have one target
-  pub targets_differ : (m n : UsedMove) → Used m → Used n → m.target ≡ n.target → turn_of m ≡ turn_of n
-  targets_differ m n a b same = by_key m.item n.item
-      (λ e.
-      let by : a.by ≡ b.by = one_by items n.item a.by b.by (ap (slice_get items) (sym e) ∙ a.item) b.item in
-      let first : a.by.mv.target.first ≡ b.by.mv.target.first = ap (λ (x : ItemMove). x.mv.target.first) by in
-      let source : a.by.mv.source.first ≡ b.by.mv.source.first = ap (λ (x : ItemMove). x.mv.source.first) by in
-      let page : m.target.page ≡ n.target.page = ap (λ (p : LinkPlace). p.page) same in
-      let from_a : m.page ≡ a.by.mv.source.first + a.pages.index = a.pages.source_is in
-      let into_a : m.target.page ≡ a.by.mv.target.first + a.pages.index = a.pages.target_is in
-      let from_b : n.page ≡ b.by.mv.source.first + b.pages.index = b.pages.source_is in
-      let into_b : n.target.page ≡ b.by.mv.target.first + b.pages.index = b.pages.target_is in
-      let pages : m.page ≡ n.page = omega (arith, first, source, page, from_a, into_a, from_b, into_b) in
-      (λ i. turn (e i) (pages i)))
-      (λ ne. absurd ((differing m n a b ne).1 (ap (λ (p : LinkPlace). p.page) same)))
 
   pub none_clashes : (m : UsedMove) → Used m → ¬ (Clashes Used m)
   none_clashes m used (inl f) = (differing m f.other used f.used f.differ).1 (ap (λ (p : LinkPlace). p.page) (sym f.target))
