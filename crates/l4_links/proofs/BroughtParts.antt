@@ -10,7 +10,6 @@ use Rattle.l4_links.specs.declared.Standing.{Standing}
 use Rattle.l4_links.specs.declared.Entry.{Entry}
 use Rattle.l4_links.specs.Entries.{Entries, entry_at, IsAt, moved_place, child_entry, Brings}
 use Rattle.l4_links.specs.Inside.Bringing.{IsBroughtFrom, Fits, HaveTables, IsLacking, AtMost, none, one, pass}
-use Rattle.l4_links.specs.Inside.Growing.{HaveRoom}
 use Rattle.l4_links.proofs.Bringing.{brings_joined, brings_as, brought_on, brought_back, lacking_back, fits_on, at_most_more}
 
 same_entry : {a b : Entry} → ◌≡◌ {A = Option Entry} (Some a) (Some b) → a ≡ b
@@ -149,7 +148,3 @@ at_most_drop {P} {next} {end} {most} mid le within (pass other rest) = elim (cas
 -- room for fewer
 pub room_less : (store : Store) (a b : ℕ) → b ≤ a → HasRoomFor store a → HasRoomFor store b
 room_less store a b le r = (let s = r.slots in record { slots = omega (arith, s, le); notes = r.notes; keys = r.keys })
-
--- some pages need no room any more
-pub room_passed : (source : Place) (end : ℕ) (target : Place) (rights : RightsSet) (page mid more : ℕ) (store : Store) → page ≤ mid → mid ≤ end → HaveRoom source end target rights page more store → HaveRoom source end target rights mid more store
-room_passed source end target rights page mid more store le within h = (h.0, at_most_drop mid le within h.1, h.2)

@@ -11,9 +11,9 @@ ghost use Rattle.l4_nodes.specs.Slots.{HasRoomFor};
 ghost use Rattle.l4_links.specs.Entries.{IsBrought, IsDue, Brings, AreOverLeaves, LacksKey, HasOther, AreApart, ArePlain};
 ghost use Rattle.l4_links.specs.Inside.Nodes.{AreKeys, IsForest};
 ghost use Rattle.l4_links.specs.Inside.Keeping.{entries_of, IsLive};
-ghost use Rattle.l4_links.specs.Inside.Bringing.{Fits, HaveTables, IsBroughtFrom, CanBring, Ends};
+ghost use Rattle.l4_links.specs.Inside.Bringing.{Fits, HaveTables, CanBring, Ends};
 ghost use Rattle.l4_links.specs.Inside.Moving.{MakesTables};
-ghost use Rattle.l4_links.specs.Inside.Growing.{SharesNone, SharesSome, Takes, Lacks, Enters, Renews, IsSpareNode, IsBareNode, BringsRow, CanRun, HaveRoom, LeavesRoom, AreGrowing, StayGrowing, BringsAll, BringsPart};
+ghost use Rattle.l4_links.specs.Inside.Growing.{SharesNone, Lacks, Enters, Renews, IsSpareNode, IsBareNode, CanEnter, BringsRow, CanRun, HaveRoom, AreGrowing, StayGrowing, BringsAll, CanBringFrom, BringsPages};
 
 use crate::blocks::{Pages, pages_of, place_from};
 use crate::lists::{add_under, link_under, unlink};
@@ -21,7 +21,7 @@ use crate::wants::wants_item;
 use l4_fpage::Rights;
 use l4_msg::ItemMove;
 use l4_nodes::{Node, Place, Slots, node_of, set_rights};
-use l4_spaces::tables::{TABLE_PAGES, next_page};
+use l4_spaces::tables::{TABLE_PAGES, is_ready, key_in, next_page};
 use l4_spaces::{BLOCK, NoMemory, Row, Spaces};
 
 /// Entries of one table, and as many of another one.
@@ -110,15 +110,9 @@ fn bring_at(
     place: Place,
     rights: Rights,
 )
-    requires live { (first : Option ℕ) × (stamp : ℕ) × IsLive nodes.old.slots first stamp }
-    requires few { AreKeys nodes.old.slots }
-    requires bare { (k t : ℕ) → key ≡ Some k → SharesSome k rights nodes.old.slots
-        → slice_index_or target.old low None ≡ Some t → IsBareNode t nodes.old.slots }
     requires fits { IsPage place.page }
     requires within { low < length target.old }
-    requires takes { Takes key (slice_index_or target.old low None) rights nodes.old.slots }
-    requires apart { key ≡ slice_index_or target.old low None → key ≡ None }
-    requires room { Lacks key (slice_index_or target.old low None) rights nodes.old.slots → HasRoomFor nodes.old 1 }
+    requires can { CanEnter key (slice_index_or target.old low None) rights nodes.old }
     ensures enters { Enters key place rights low nodes.old.slots nodes.new.slots target.old target.new }
     ensures lacked { (more : ℕ) → HasRoomFor nodes.old (more + 1) → HasRoomFor nodes.new more }
     ensures room { ¬ (Lacks key (slice_index_or target.old low None) rights nodes.old.slots) → (more : ℕ)
@@ -148,11 +142,8 @@ fn bring_run(
     place: Place,
     rights: Rights,
 )
-    requires source { run.now.from + run.now.entries ≤ length source.now }
-    requires target { run.now.to + run.now.entries ≤ length target.old }
-    requires short { run.now.entries ≤ table_pages }
     requires fits { place.page + run.now.entries ≤ space_pages }
-    requires ready { CanRun run.now.from run.now.to run.now.entries place rights source.now target.old nodes.old }
+    requires can { CanRun run.now.from run.now.to run.now.entries place rights source.now target.old nodes.old }
     ensures { BringsRow run.now.from run.now.to run.now.entries run.now.entries place rights source.now target.old target.new
         nodes.old nodes.new }
 {
@@ -179,24 +170,15 @@ fn bring_from(
     page: u32,
     key: usize,
 ) -> u32
-    requires apart { of.now.source.space ≢ of.now.target.space }
     requires from { of.now.source.page ≤ page }
     requires before { page < of.now.end }
     requires fits { of.now.end - of.now.source.page + of.now.target.page ≤ space_pages }
     requires shows { entry sources.now.items page ≡ Some key }
-    requires growing { (pages : Tables) × (first head : Option ℕ) × (stamp : ℕ) × (all : Tables)
-        × AreTablesOf pages of.now.source.space sources.now.items
-        × AreGrowing of.now.target.space pages targets.old.items nodes.old.slots first head stamp all }
-    requires takes { Fits (IsBroughtFrom of.now.source page of.now.end of.now.target of.now.rights (entries_of nodes.old.slots))
-        (entries_of nodes.old.slots) }
-    requires made { HaveTables (IsBroughtFrom of.now.source page of.now.end of.now.target of.now.rights
-        (entries_of nodes.old.slots)) targets.old.items }
-    requires room { HaveRoom of.now.source of.now.end of.now.target of.now.rights page 0 nodes.old }
+    requires can { CanBringFrom of.now.source page of.now.end of.now.target of.now.rights sources.now.items targets.old.items
+        nodes.old }
     ensures next { (page < result) × (result ≤ of.now.end) }
-    ensures brings { BringsPart of.now.source page result of.now.target of.now.rights sources.now.items
-        targets.old.items targets.new.items nodes.old.slots nodes.new.slots }
-    ensures made { (high : ℕ) → is_made targets.old.items high ≡ true → is_made targets.new.items high ≡ true }
-    ensures room { LeavesRoom of.now.source page result of.now.target of.now.rights nodes.old nodes.new }
+    ensures brings { BringsPages of.now.source page result of.now.target of.now.rights sources.now.items targets.old.items
+        targets.new.items nodes.old nodes.new }
 {
     let Some(_) = sharing(nodes, key, of.rights) else {
         return page + 1;
@@ -207,6 +189,27 @@ fn bring_from(
     let target = &mut targets[(place.page / TABLE_PAGES) as usize];
     bring_run(nodes, source, target, &run, place, of.rights);
     page + run.entries as u32
+}
+
+/// Gives the only page its child.
+#[inline]
+fn bring_page(nodes: &mut Slots, sources: &Vec<Row>, targets: &mut Vec<Row>, of: &Pages)
+    requires one { of.now.end ≡ of.now.source.page + 1 }
+    requires fits { IsPage of.now.target.page }
+    requires can { CanBringFrom of.now.source of.now.source.page of.now.end of.now.target of.now.rights
+        sources.now.items targets.old.items nodes.old }
+    ensures { BringsPages of.now.source of.now.source.page of.now.end of.now.target of.now.rights sources.now.items
+        targets.old.items targets.new.items nodes.old nodes.new }
+{
+    let Some(key) = key_in(sources, of.source.page) else {
+        return;
+    };
+    if !is_ready(targets, of.target.page) {
+        return;
+    }
+    let target = &mut targets[(of.target.page / TABLE_PAGES) as usize];
+    let low = (of.target.page % TABLE_PAGES) as usize;
+    bring_at(nodes, target, low, Some(key), of.target, of.rights);
 }
 
 /// Gives all pages their children.
@@ -229,6 +232,9 @@ fn bring_item(nodes: &mut Slots, sources: &Vec<Row>, targets: &mut Vec<Row>, of:
     ensures room { (more : ℕ) → HaveRoom of.now.source of.now.end of.now.target of.now.rights of.now.source.page more
         nodes.old → 1 ≤ more → HasRoomFor nodes.new more }
 {
+    if of.end - of.source.page == 1 {
+        return bring_page(nodes, sources, targets, of);
+    }
     let mut page = of.source.page;
     loop {
         let Some((next, key)) = next_page(sources, page, of.end) else {

@@ -11,8 +11,8 @@ use Rattle.l4_nodes.specs.Slots.{Slots, Store, node_at, HasRoomFor}
 use Rattle.l4_links.specs.declared.Entry.{Entry}
 use Rattle.l4_links.specs.Leads.{Leads}
 use Rattle.l4_links.specs.Inside.Trees.{parent_at}
-use Rattle.l4_links.specs.Inside.Nodes.{limbs, AddsUnder}
-use Rattle.l4_links.specs.Inside.Bringing.{Replaces, AtMost, IsBroughtFrom, IsLacking, Fits}
+use Rattle.l4_links.specs.Inside.Nodes.{limbs, AreKeys, AddsUnder}
+use Rattle.l4_links.specs.Inside.Bringing.{Replaces, AtMost, IsBroughtFrom, IsLacking, Fits, HaveTables}
 use Rattle.l4_links.specs.Inside.Stacks.{HasStack}
 use Rattle.l4_links.specs.Inside.Keeping.{IsIndexed, IsLive, entries_of}
 use Rattle.l4_links.specs.Entries.{moved_place, Brings}
@@ -91,6 +91,8 @@ pub record CanRun (f t n : ℕ) (place : Place) (rights : RightsSet) (line row :
   pub all : Tables
   pub start : StartAt f t place source page target high other
   pub rows : AreRows source.space high target.space other line row store.slots first head stamp all
+  pub f_in : f + n ≤ table_pages
+  pub t_in : t + n ≤ table_pages
   pub before : page + n ≤ end
   pub fits : Fits (IsBroughtFrom source page end target rights (entries_of store.slots)) (entries_of store.slots)
   pub room : HaveRoom source end target rights page 0 store
@@ -145,6 +147,27 @@ abbrev pub BringsPart : (source : Place) (page end : ℕ) (target : Place) → R
 BringsPart source page end target rights sources old_rows new_rows old new =
     (pages : Tables) → AreTablesOf pages source.space sources → BringsAll target.space (IsBroughtFrom source page end target rights (entries_of old)) pages old_rows new_rows old new
 
+-- what the block's pages from this one on bring can take its places, whose tables are there, and there is room
+pub record CanBringFrom (source : Place) (page end : ℕ) (target : Place) (rights : RightsSet) (sources rows : Rows) (store : Store) : Type 0 where
+  pub pages : Tables
+  pub first : Option ℕ
+  pub head : Option ℕ
+  pub stamp : ℕ
+  pub all : Tables
+  pub from : source.page ≤ page
+  pub apart : source.space ≢ target.space
+  pub lent : AreTablesOf pages source.space sources
+  pub growing : AreGrowing target.space pages rows store.slots first head stamp all
+  pub fits : Fits (IsBroughtFrom source page end target rights (entries_of store.slots)) (entries_of store.slots)
+  pub made : HaveTables (IsBroughtFrom source page end target rights (entries_of store.slots)) rows
+  pub room : HaveRoom source end target rights page 0 store
+
+-- the block's pages from this one on and below the other one have their children
+pub record BringsPages (source : Place) (page mid : ℕ) (target : Place) (rights : RightsSet) (sources old_rows new_rows : Rows) (old new : Store) : Type 0 where
+  pub brings : BringsPart source page mid target rights sources old_rows new_rows old.slots new.slots
+  pub made : (high : ℕ) → is_made old_rows high ≡ true → is_made new_rows high ≡ true
+  pub room : LeavesRoom source page mid target rights old new
+
 -- what is under the key can give its place to a child: it has a parent, and nothing descends from it
 pub record IsSpareNode (key : ℕ) (slots : Slots) : Type 0 where
   pub node : Node
@@ -163,6 +186,15 @@ Takes key taken rights slots = (k : ℕ) → key ≡ Some k → SharesSome k rig
 -- it is due, and finds its entry free; or not free
 abbrev pub Lacks : Option ℕ → Option ℕ → RightsSet → Slots → Type 0
 Lacks key taken rights slots = (k : ℕ) × (key ≡ Some k) × SharesSome k rights slots × (taken ≡ None)
+
+-- a child can come to its entry
+pub record CanEnter (key taken : Option ℕ) (rights : RightsSet) (store : Store) : Type 0 where
+  pub live : (first : Option ℕ) × (stamp : ℕ) × IsLive store.slots first stamp
+  pub few : AreKeys store.slots
+  pub bare : (k z : ℕ) → key ≡ Some k → SharesSome k rights store.slots → taken ≡ Some z → IsBareNode z store.slots
+  pub takes : Takes key taken rights store.slots
+  pub apart : key ≡ taken → key ≡ None
+  pub room : Lacks key taken rights store.slots → HasRoomFor store 1
 
 abbrev pub IsHindered : Option ℕ → Option ℕ → RightsSet → Slots → Type 0
 IsHindered key taken rights slots = (k : ℕ) × (key ≡ Some k) × SharesSome k rights slots × (taken ≢ None)

@@ -10,7 +10,7 @@ taken : (c : In-Some-at) → slice_index_or c.args.target.now c.args.low None �
 taken c = sym c.at.ensures ∙ c.in-Some-at.is
 
 pub renew-requires-clause-bare : goal.renew-requires-clause-bare
-renew-requires-clause-bare c = let at = (goal.at.renew-requires-clause-bare c).In-Some-at in c.requires.bare c.in-Some.key c.in-Some-at.taken c.in-Some.is (shares at) (taken at)
+renew-requires-clause-bare c = let at = (goal.at.renew-requires-clause-bare c).In-Some-at in c.requires.can.bare c.in-Some.key c.in-Some-at.taken c.in-Some.is (shares at) (taken at)
 
 pub returns-in-Some-at-clause-enters : goal.returns-in-Some-at-clause-enters
 returns-in-Some-at-clause-enters c =
