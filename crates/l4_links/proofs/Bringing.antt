@@ -7,12 +7,7 @@ use Rattle.l4_links.specs.declared.Standing.{Standing}
 use Rattle.l4_links.specs.declared.Entry.{Entry}
 use Rattle.l4_links.specs.Entries.{Entries, entry_at, IsAt, AddsChild, IsShared, child_entry, IsBrought, IsFilled, Brings}
 use Rattle.l4_links.specs.Inside.Bringing.{Replaces, IsSpare, Fits, IsLacking, AtMost, none, one, pass}
-
-same_entry : {a b : Entry} → ◌≡◌ {A = Option Entry} (Some a) (Some b) → a ≡ b
-same_entry h = cc
-
-same_place : {a b : Place} → ◌≡◌ {A = Option Place} (Some a) (Some b) → a ≡ b
-same_place h = cc
+use Rattle.l4_links.proofs.Writes.{same_some}
 
 -- the two parts fill no place twice
 module _ (A B : Entry → Type 0) (old mid new : Entries) (a : Brings A old mid) (b : Brings B mid new) (apart : (x y : Entry) → A x → B y → x.place ≢ y.place) where
@@ -64,7 +59,7 @@ brings_added parent place rights old new key c free either = record {
   there = λ e due. (key, c.filled ∙ ap (λ (x : Entry). Some x) (sym due));
   kept = λ k e at _. c.others k (λ same. some_none k e at same) ∙ at;
   only = λ k e at. elim (either k key) [
-    | inl same ↦ inl (same_entry (sym at ∙ ap (entry_at new) same ∙ c.filled))
+    | inl same ↦ inl (same_some (sym at ∙ ap (entry_at new) same ∙ c.filled))
     | inr ne ↦
         let was = sym (c.others k ne) ∙ at in
         inr (was, λ f. free k (ap (option_map {T = Entry} (λ x. x.place)) was ∙ ap (λ (p : Place). Some p) (sym f.2 ∙ ap (λ (x : Entry). x.place) f.1)))
@@ -79,9 +74,9 @@ pub brings_renewed : (parent key : ℕ) (rights : RightsSet) (old new : Entries)
     → ((a b : ℕ) → IsAt old was.place a → IsAt old was.place b → a ≡ b) → ((k other : ℕ) → (k ≡ other) ⊎ (k ≢ other)) → Brings (λ e. e ≡ child_entry was.place parent s.above rights) old new
 brings_renewed parent key rights old new s was at unwanted once either = record {
   there = λ e due. (key, here ∙ ap (λ (x : Entry). Some x) (sym due));
-  kept = λ k e is out. s.stands.others k (λ same. out (child_entry was.place parent s.above rights, refl, ap (λ (x : Entry). x.place) (same_entry (sym at ∙ ap (entry_at old) (sym same) ∙ is)))) ∙ is;
+  kept = λ k e is out. s.stands.others k (λ same. out (child_entry was.place parent s.above rights, refl, ap (λ (x : Entry). x.place) (same_some (sym at ∙ ap (entry_at old) (sym same) ∙ is)))) ∙ is;
   only = λ k e is. elim (either k key) [
-    | inl same ↦ inl (same_entry (sym is ∙ ap (entry_at new) same ∙ here))
+    | inl same ↦ inl (same_some (sym is ∙ ap (entry_at new) same ∙ here))
     | inr ne ↦
         let before = sym (s.stands.others k ne) ∙ is in
         inr (before, λ f. ne (once k key (ap (option_map {T = Entry} (λ x. x.place)) before ∙ ap (λ (p : Place). Some p) (sym f.2 ∙ ap (λ (x : Entry). x.place) f.1)) (ap (option_map {T = Entry} (λ x. x.place)) at)))
@@ -91,6 +86,14 @@ brings_renewed parent key rights old new s was at unwanted once either = record 
     here : entry_at new key ≡ Some (child_entry was.place parent s.above rights)
     here = s.stands.here ∙ ap (option_map {T = Entry} (λ e. record e { stands = Some (record { frame = s.above.frame; rights = common s.above.rights rights; source = false; granted = None; parent = Some parent }) })) at
         ∙ (λ i. Some (record { place = was.place; wanted = unwanted i; stands = Some (record { frame = s.above.frame; rights = common s.above.rights rights; source = false; granted = None; parent = Some parent }) }))
+
+-- the parent of what is brought is on one of the pages
+pub parent_away : (source : Place) (end : ℕ) (target : Place) (rights : RightsSet) (s : Entries) (e : Entry) (t : Standing) (key : ℕ) → IsBrought source end target rights s e → e.stands ≡ Some t → t.parent ≡ Some key
+    → (place : Place) → IsAt s place key → place.space ≡ source.space
+parent_away source end target rights s e t key b stands parent place at =
+    let up : t ≡ record { frame = b.1.standing.frame; rights = common b.1.standing.rights rights; source = false; granted = None; parent = Some b.0 } = same_some (sym stands ∙ ap (λ (z : Entry). z.stands) b.2) in
+    let same : b.0 ≡ key = same_some (sym (ap (λ (z : Standing). z.parent) up) ∙ parent) in
+    let its : b.1.entry.place ≡ place = same_some (sym (ap (option_map {T = Entry} (λ z. z.place)) (sym (ap (entry_at s) same) ∙ b.1.at)) ∙ at) in ap (λ (p : Place). p.space) (sym its) ∙ b.1.inside.0
 
 -- what is due is not in the space of these pages, so these bring what they brought
 module _ (Due : Entry → Type 0) (old new : Entries) (brings : Brings Due old new) (source : Place) (end : ℕ) (target : Place) (rights : RightsSet) (away : (e : Entry) → Due e → e.place.space ≢ source.space) where
@@ -126,7 +129,7 @@ module _ (Due : Entry → Type 0) (old new : Entries) (brings : Brings Due old n
     where
       over : (key : ℕ) (o : Option Entry) → entry_at old key ≡ o → option_map {T = Entry} (λ x. x.place) o ≡ Some l.entry.place → ⊥
       over key None was z = absurd (let w : ◌≡◌ {A = Option Place} None (Some l.entry.place) = z in cc)
-      over key (Some e) was z = still key e was (same_place z)
+      over key (Some e) was z = still key e was (same_some z)
         where
           at_new : (k : ℕ) (x : Entry) → entry_at new k ≡ Some x → x.place ≡ l.entry.place → ⊥
           at_new k x is same = l.absent k (ap (option_map {T = Entry} (λ y. y.place)) is ∙ ap (λ (p : Place). Some p) same)

@@ -10,13 +10,8 @@ use Rattle.l4_links.specs.declared.Standing.{Standing}
 use Rattle.l4_links.specs.declared.Entry.{Entry}
 use Rattle.l4_links.specs.Entries.{Entries, entry_at, IsAt, moved_place, child_entry, Brings}
 use Rattle.l4_links.specs.Inside.Bringing.{IsBroughtFrom, Fits, HaveTables, IsLacking, AtMost, none, one, pass}
-use Rattle.l4_links.proofs.Bringing.{brings_joined, brings_as, brought_on, brought_back, lacking_back, fits_on, at_most_more}
-
-same_entry : {a b : Entry} → ◌≡◌ {A = Option Entry} (Some a) (Some b) → a ≡ b
-same_entry h = cc
-
-same_standing : {a b : Standing} → ◌≡◌ {A = Option Standing} (Some a) (Some b) → a ≡ b
-same_standing h = cc
+use Rattle.l4_links.proofs.Bringing.{brings_joined, brings_as, parent_away, brought_on, brought_back, lacking_back, fits_on, at_most_more}
+use Rattle.l4_links.proofs.Writes.{same_some}
 
 -- no page shares a right
 pub nothing_brought : (source : Place) (page end : ℕ) (target : Place) (rights : RightsSet) (s : Entries)
@@ -36,8 +31,8 @@ module _ (source : Place) (page : ℕ) (target : Place) (rights : RightsSet) (s 
       let page_is : h.entry.place.page ≡ page = omega (arith, le, lt) in
       let place : h.entry.place ≡ record { space = source.space; page = page } = (λ i. record { space = h.inside.0 i; page = page_is i }) in
       let same : b.0.0 ≡ key = alone b.0.0 (ap (option_map {T = Entry} (λ x. x.place)) h.at ∙ ap (λ (p : Place). Some p) place) in
-      let entry : h.entry ≡ here = same_entry (sym h.at ∙ ap (entry_at s) same ∙ at) in
-      let standing : h.standing ≡ above = same_standing (sym h.stands ∙ ap (λ (x : Entry). x.stands) entry ∙ stands) in
+      let entry : h.entry ≡ here = same_some (sym h.at ∙ ap (entry_at s) same ∙ at) in
+      let standing : h.standing ≡ above = same_some (sym h.stands ∙ ap (λ (x : Entry). x.stands) entry ∙ stands) in
       b.0.2 ∙ (λ i. child_entry (moved_place source target (place i)) (same i) (standing i) rights)
 
   abbrev pub one_back : (end : ℕ) → page < end → common above.rights rights ≢ no_rights → (e : Entry) → e ≡ child_entry (moved_place source target (record { space = source.space; page = page })) key above rights → IsBroughtFrom source page end target rights s e
@@ -94,13 +89,7 @@ module _ (source : Place) (page mid end : ℕ) (target : Place) (rights : Rights
 
     -- a child's parent is on its page, and so at no place
     clear : (x y : Entry) (t : Standing) (key : ℕ) → IsBroughtFrom source page mid target rights old x → IsBroughtFrom source mid end target rights old y → x.stands ≡ Some t → t.parent ≡ Some key → ¬ (IsAt old y.place key)
-    clear x y t key b c stands parent at =
-        let standing : t ≡ record { frame = b.0.1.standing.frame; rights = common b.0.1.standing.rights rights; source = false; granted = None; parent = Some b.0.0 } = same_standing (sym stands ∙ ap (λ (z : Entry). z.stands) b.0.2) in
-        let same : ◌≡◌ {A = Option ℕ} (Some b.0.0) (Some key) = sym (ap (λ (z : Standing). z.parent) standing) ∙ parent in
-        let key_is : b.0.0 ≡ key = cc in
-        let place : ◌≡◌ {A = Option Place} (Some b.0.1.entry.place) (Some y.place) = sym (ap (option_map {T = Entry} (λ z. z.place)) (sym (ap (entry_at old) key_is) ∙ b.0.1.at)) ∙ at in
-        let its : b.0.1.entry.place ≡ y.place = cc in
-        apart (sym b.0.1.inside.0 ∙ ap (λ (p : Place). p.space) its ∙ ap (λ (z : Entry). z.place.space) c.0.2)
+    clear x y t key b c stands parent at = apart (sym (parent_away source mid target rights old x t key b.0 stands parent y.place at) ∙ ap (λ (z : Entry). z.place.space) c.0.2)
 
     pub parts_joined : (new : Entries) → Brings (IsBroughtFrom source mid end target rights now) now new → Brings (IsBroughtFrom source page end target rights old) old new
     parts_joined new b = brings_as (λ e. IsBroughtFrom source page mid target rights old e ⊎ IsBroughtFrom source mid end target rights old e) (IsBroughtFrom source page end target rights old) old new

@@ -16,30 +16,20 @@ use Rattle.l4_links.specs.declared.Standing.{Standing}
 use Rattle.l4_links.specs.declared.Entry.{Entry}
 use Rattle.l4_links.specs.declared.blocks.Pages.{Pages}
 use Rattle.l4_links.specs.Entries.{Entries, entry_at, standing_at, parent_of, IsAt, Descends, moved_place, child_entry, source_of, target_of, end_of, IsBrought, IsDue, Brings, AddsChild, AreOverLeaves, LacksKey, HasOther, AreApart}
-use Rattle.l4_links.specs.Inside.Bringing.{IsSpare, Fits, HaveTables, IsLacking, AtMost, sum_to, WantsItems, Ends}
+use Rattle.l4_links.specs.Inside.Bringing.{IsSpare, IsBroughtFrom, Fits, HaveTables, IsLacking, AtMost, sum_to, WantsItems, Ends}
 use Rattle.l4_links.specs.Inside.Growing.{SharesNone, HaveRoom, AreGrowing, StayGrowing, BringsAll}
 use Rattle.l4_links.specs.Inside.Moving.{MakesTables}
 use Rattle.l4_links.specs.Inside.Keeping.{IsIndexed, entries_of, standing_of}
 use Rattle.l4_links.proofs.Asides.{indexed_alike}
-use Rattle.l4_links.proofs.Bringing.{brings_joined, brings_as, brings_none, brings_added, brought_on, brought_back, lacking_back, fits_on, at_most_back}
+use Rattle.l4_links.proofs.Bringing.{brings_joined, brings_as, brings_none, brings_added, parent_away, brought_on, brought_back, lacking_back, fits_on, at_most_back}
+use Rattle.l4_links.proofs.BroughtParts.{nothing_brought, one_on, one_back, room_less}
 use Rattle.l4_links.proofs.Seen.{standing_is}
+use Rattle.l4_links.proofs.Writes.{same_some, map_from}
 use Rattle.l4_links.proofs.TableEntries.{entry_of_page, entry_named}
 
 -- the place of the page is the target
 pub goes_there : (source target : Place) → moved_place source target source ≡ target
 goes_there source target = λ i. record { space = target.space; page = (let e : source.page - source.page + target.page ≡ target.page = omega arith in e i) }
-
-pub same_by : {a b : ItemMove} → ◌≡◌ {A = Option ItemMove} (Some a) (Some b) → a ≡ b
-same_by h = cc
-
-pub same_key : {a b : ℕ} → ◌≡◌ {A = Option ℕ} (Some a) (Some b) → a ≡ b
-same_key h = cc
-
-pub same_place : {a b : Place} → ◌≡◌ {A = Option Place} (Some a) (Some b) → a ≡ b
-same_place h = cc
-
-pub same_standing : {a b : Standing} → ◌≡◌ {A = Option Standing} (Some a) (Some b) → a ≡ b
-same_standing h = cc
 
 -- the element that is read stands there
 pub read_there : {A : Type 0} (xs : List A) (i : ℕ) (x : A) → i < length xs → x ≡ get_or xs i x → slice_get xs i ≡ Some x
@@ -47,11 +37,8 @@ read_there {A = A} xs i x lt is = slice_get-get_or xs i x lt ∙ ap (λ (v : A).
 
 -- what is under the key shares no right, or one, as a contract sees it
 pub none_shared : (slots : Slots) (rights : RightsSet) (key : ℕ) → SharesNone key rights slots → (x : Standing) → standing_at (entries_of slots) key ≡ Some x → common x.rights rights ≡ no_rights
-none_shared slots rights key none x is = over (node_at slots key) refl (sym (standing_is slots key) ∙ is)
-  where
-    over : (o : Option Node) → node_at slots key ≡ o → option_map standing_of o ≡ Some x → common x.rights rights ≡ no_rights
-    over None at z = absurd (let w : ◌≡◌ {A = Option Standing} None (Some x) = z in cc)
-    over (Some n) at z = sym (ap (λ (y : Standing). common y.rights rights) (same_standing z)) ∙ none n at
+none_shared slots rights key none x is =
+    let n = map_from standing_of (node_at slots key) x (sym (standing_is slots key) ∙ is) in sym (ap (λ (y : Standing). common y.rights rights) n.2) ∙ none n.0 n.1
 
 -- what is known of an attempt's end
 pub if_done : {E : Type 0} (r : Result Bool E) (D L R P : Type 0) → Ends r D L R → (D → P) → IfOk r (λ done. done ≡ true → P)
@@ -96,10 +83,6 @@ sum_up counts a (suc b) le = elim (cases_lt a (suc b)) [
   | inl lt ↦ (let up = sum_up counts a b (omega (arith, lt)) in omega (arith, up))
   | inr ge ↦ (let e : a ≡ suc b = omega (arith, ge, le) in subst (λ (z : ℕ). sum_to counts z ≤ sum_to counts (suc b)) (sym e) (omega arith))
 ]
-
--- with less room there is room
-pub room_less : (s : Store) (more less : ℕ) → less ≤ more → HasRoomFor s more → HasRoomFor s less
-room_less s more less le r = record { slots = (let a = r.slots in omega (arith, a, le)); notes = r.notes; keys = r.keys }
 
 -- nothing leads to what nothing has as its parent
 no_descent : (s : Entries) (key : ℕ) → ((low : ℕ) → parent_of s low ≢ Some key) → (low high : ℕ) → Leads (parent_of s) low high → high ≡ key → ⊥
@@ -149,7 +132,7 @@ module _ (from to : ℕ) (differ : from ≢ to) (items : List ItemMove) (apart :
       | inl lt ↦ inl (record { item = d.item; by = d.by; before = lt; item_is = d.item_is; brings = d.brings })
       | inr le ↦
           let lt = d.before in
-          let same : d.item ≡ i = omega (arith, le, lt) in inr (subst (λ (b : ItemMove). By b s e) (same_by (sym d.item_is ∙ ap (slice_get items) same ∙ is)) d.brings)
+          let same : d.item ≡ i = omega (arith, le, lt) in inr (subst (λ (b : ItemMove). By b s e) (same_some (sym d.item_is ∙ ap (slice_get items) same ∙ is)) d.brings)
     ]
 
     parts_apart : (x y : Entry) → DueTo i x → By by s y → x.place ≢ y.place
@@ -161,12 +144,7 @@ module _ (from to : ℕ) (differ : from ≢ to) (items : List ItemMove) (apart :
 
     -- the parents are in the other space
     clear : (x y : Entry) (t : Standing) (key : ℕ) → DueTo i x → By by s y → x.stands ≡ Some t → t.parent ≡ Some key → ¬ (IsAt s y.place key)
-    clear x y t key d b stands parent at =
-        let h = d.brings.1 in
-        let up : t ≡ record { frame = h.standing.frame; rights = common h.standing.rights d.by.rights; source = false; granted = None; parent = Some d.brings.0 } = same_standing (sym stands ∙ ap (λ (e : Entry). e.stands) d.brings.2) in
-        let key_is : key ≡ d.brings.0 = same_key (sym parent ∙ ap (λ (z : Standing). z.parent) up) in
-        let place : y.place ≡ h.entry.place = same_place (sym at ∙ ap (λ (k : ℕ). option_map {T = Entry} (λ e. e.place) (entry_at s k)) key_is ∙ ap (option_map {T = Entry} (λ e. e.place)) h.at) in
-        differ (sym h.inside.0 ∙ ap (λ (p : Place). p.space) (sym place) ∙ by_space by y b)
+    clear x y t key d b stands parent at = differ (sym (parent_away (source_of from d.by) (end_of d.by) (target_of to d.by) d.by.rights s x t key d.brings stands parent y.place at) ∙ by_space by y b)
 
     abbrev on : (e : Entry) → By by s e → By by now e
     on = brought_on (DueTo i) s now brings (source_of from by) (end_of by) (target_of to by) by.rights (due_away i)
@@ -267,62 +245,50 @@ module _ (from to : ℕ) (items : List ItemMove) (by : ItemMove) (one : length i
   abbrev OneDue : Entry → Type 0
   OneDue = IsDue from to items (length items) s
 
-  one_by : (e : Entry) (d : OneDue e) → d.by ≡ by
-  one_by e d = let lt = d.before in let first : d.item ≡ 0 = omega (arith, lt, one) in same_by (sym d.item_is ∙ ap (slice_get items) first ∙ is)
+  end_is : end_of by ≡ by.mv.source.first + 1
+  end_is = omega (arith, page)
 
-  one_shared : (e : Entry) → OneDue e → (key : ℕ) × (h : Entry) × (x : Standing) × (entry_at s key ≡ Some h) × (h.place ≡ source_of from by) × (h.stands ≡ Some x) × (common x.rights by.rights ≢ no_rights)
-      × (e ≡ child_entry (target_of to by) key x by.rights)
-  one_shared e d = parts (subst (λ (b : ItemMove). IsBrought (source_of from b) (end_of b) (target_of to b) b.rights s e) (one_by e d) d.brings)
-    where
-      parts : IsBrought (source_of from by) (end_of by) (target_of to by) by.rights s e → (key : ℕ) × (h : Entry) × (x : Standing) × (entry_at s key ≡ Some h) × (h.place ≡ source_of from by) × (h.stands ≡ Some x)
-          × (common x.rights by.rights ≢ no_rights) × (e ≡ child_entry (target_of to by) key x by.rights)
-      parts b =
-          let h = b.1 in
-          let low = h.inside.1 in
-          let high = h.inside.2 in
-          let at_page : h.entry.place.page ≡ by.mv.source.first = omega (arith, low, high, page) in
-          let place : h.entry.place ≡ source_of from by = λ i. record { space = h.inside.0 i; page = at_page i } in
-          (b.0, h.entry, h.standing, h.at, place, h.stands, h.shares, b.2 ∙ ap (λ (p : Place). child_entry p b.0 h.standing by.rights) (ap (moved_place (source_of from by) (target_of to by)) place ∙ goes_there (source_of from by) (target_of to by)))
+  one_brings : (e : Entry) → OneDue e → IsBroughtFrom (source_of from by) by.mv.source.first (by.mv.source.first + 1) (target_of to by) by.rights s e
+  one_brings e d =
+      let lt = d.before in
+      let first : d.item ≡ 0 = omega (arith, lt, one) in
+      let same : d.by ≡ by = same_some (sym d.item_is ∙ ap (slice_get items) first ∙ is) in
+      let b = subst (λ (n : ℕ). IsBrought (source_of from by) n (target_of to by) by.rights s e) end_is (subst (λ (b : ItemMove). IsBrought (source_of from b) (end_of b) (target_of to b) b.rights s e) same d.brings) in
+      (b, b.1.inside.1)
 
   -- nothing is due, if no right is shared there
   pub one_none : ((key : ℕ) (x : Standing) → IsAt s (source_of from by) key → standing_at s key ≡ Some x → common x.rights by.rights ≡ no_rights) → (e : Entry) → ¬ (OneDue e)
   one_none none e d =
-      let h = one_shared e d in
-      h.6 (none h.0 h.2 (ap (option_map {T = Entry} (λ z. z.place)) h.3 ∙ ap (λ (p : Place). Some p) h.4) (ap (option_and_then (λ (z : Entry). z.stands)) h.3 ∙ h.5))
+      nothing_brought (source_of from by) by.mv.source.first (by.mv.source.first + 1) (target_of to by) by.rights s
+      (λ k h x at in_space low high stands.
+      let at_page : h.place.page ≡ by.mv.source.first = omega (arith, low, high) in
+      let place : h.place ≡ source_of from by = (λ i. record { space = in_space i; page = at_page i }) in
+      none k x (ap (option_map {T = Entry} (λ z. z.place)) at ∙ ap (λ (p : Place). Some p) place) (ap (option_and_then (λ (z : Entry). z.stands)) at ∙ stands)) e (one_brings e d)
 
   module _ (key : ℕ) (at : IsAt s (source_of from by) key) (alone : (k : ℕ) → IsAt s (source_of from by) k → k ≡ key) (x : Standing) (stands : standing_at s key ≡ Some x) (shares : common x.rights by.rights ≢ no_rights) where
     abbrev child : Entry
     child = child_entry (target_of to by) key x by.rights
 
+    goes : child_entry (moved_place (source_of from by) (target_of to by) (source_of from by)) key x by.rights ≡ child
+    goes = ap (λ (p : Place). child_entry p key x by.rights) (goes_there (source_of from by) (target_of to by))
+
+    here : (h : Entry) × (entry_at s key ≡ Some h) × (h.place ≡ source_of from by)
+    here = entry_of_page s key (source_of from by) at
+
+    stands_here : here.0.stands ≡ Some x
+    stands_here = sym (ap (option_and_then (λ (z : Entry). z.stands)) here.1) ∙ stands
+
     pub one_due : OneDue child
-    one_due =
-        let h = entry_of_page s key (source_of from by) at in
-        let at_page : h.0.place.page ≡ by.mv.source.first = ap (λ (p : Place). p.page) h.2 in
-        record {
-          item = 0;
-          by = by;
-          before = omega (arith, one);
-          item_is = is;
-          brings = (
-            key,
-            record {
-              entry = h.0;
-              at = h.1;
-              inside = (ap (λ (p : Place). p.space) h.2, omega (arith, at_page), omega (arith, at_page, page));
-              standing = x;
-              stands = sym (ap (option_and_then (λ (z : Entry). z.stands)) h.1) ∙ stands;
-              shares = shares;
-            },
-            ap (λ (p : Place). child_entry p key x by.rights) (sym (ap (moved_place (source_of from by) (target_of to by)) h.2 ∙ goes_there (source_of from by) (target_of to by))),
-          );
-        }
+    one_due = record {
+      item = 0;
+      by = by;
+      before = omega (arith, one);
+      item_is = is;
+      brings = (one_back (source_of from by) by.mv.source.first (target_of to by) by.rights s (omega arith) key here.0 here.1 here.2 x stands_here (end_of by) (omega (arith, page)) shares child (sym goes)).0;
+    }
 
     pub due_one : (e : Entry) → OneDue e → e ≡ child
-    due_one e d =
-        let h = one_shared e d in
-        let k : h.0 ≡ key = alone h.0 (ap (option_map {T = Entry} (λ z. z.place)) h.3 ∙ ap (λ (p : Place). Some p) h.4) in
-        let same : h.2 ≡ x = same_standing (sym (ap (option_and_then (λ (z : Entry). z.stands)) h.3 ∙ h.5) ∙ ap (standing_at s) k ∙ stands) in
-        h.7 ∙ (λ i. child_entry (target_of to by) (k i) (same i) by.rights)
+    due_one e d = one_on (source_of from by) by.mv.source.first (target_of to by) by.rights s (omega arith) key here.0 here.1 here.2 x stands_here alone e (one_brings e d) ∙ goes
 
     -- it lacks a key
     pub one_lacks : ((k : ℕ) → ¬ (IsAt s (target_of to by) k)) → LacksKey OneDue s
@@ -331,9 +297,9 @@ module _ (from to : ℕ) (items : List ItemMove) (by : ItemMove) (one : length i
     -- or has come
     pub one_mapped : (new : Entries) (k : ℕ) (c : AddsChild key (target_of to by) by.rights s new k) → ((other : ℕ) → ¬ (IsAt s (target_of to by) other)) → Brings OneDue s new × AreOverLeaves OneDue s
     one_mapped new k c free =
-        let above : c.above ≡ x = same_standing (sym c.at_parent ∙ stands) in
-        let goes : child ≡ child_entry (target_of to by) key c.above by.rights = ap (λ (z : Standing). child_entry (target_of to by) key z by.rights) (sym above) in (
-          brings_as (λ e. e ≡ child_entry (target_of to by) key c.above by.rights) OneDue s new (λ e same. subst OneDue (sym (same ∙ sym goes)) one_due) (λ e d. due_one e d ∙ goes)
+        let above : c.above ≡ x = same_some (sym c.at_parent ∙ stands) in
+        let same : child ≡ child_entry (target_of to by) key c.above by.rights = ap (λ (z : Standing). child_entry (target_of to by) key z by.rights) (sym above) in (
+          brings_as (λ e. e ≡ child_entry (target_of to by) key c.above by.rights) OneDue s new (λ e e_is. subst OneDue (sym (e_is ∙ sym same)) one_due) (λ e d. due_one e d ∙ same)
               (brings_added key (target_of to by) by.rights s new k c free cases_eq),
           λ e d other at. absurd (free other (subst (λ (z : Entry). IsAt s z.place other) (due_one e d) at)),
         )

@@ -10,13 +10,14 @@ use Rattle.l4_links.specs.Entries.{Linked, Entries, standing_at, IsAt, AddsChild
 use Rattle.l4_links.specs.Inside.Keeping.{entries_of, standing_of}
 use Rattle.l4_links.specs.Inside.Nodes.{AddsUnder}
 use Rattle.l4_links.proofs.Adding.{blank_of}
-use Rattle.l4_links.proofs.Items.{same_key, read_there, none_shared, none_mapped, one_none, one_lacks, one_mapped}
+use Rattle.l4_links.proofs.Items.{read_there, none_shared, none_mapped, one_none, one_lacks, one_mapped}
 use Rattle.l4_links.proofs.Kept.{nodes_blank, sound_nodes, sound_child}
 use Rattle.l4_links.proofs.Moving.{unnamed}
 use Rattle.l4_links.proofs.Naming.{is_at, indexed_same, indexed_added}
 use Rattle.l4_links.proofs.Seen.{standing_is}
 use Rattle.l4_links.proofs.Stacking.{stack_nodes, stack_comes}
 use Rattle.l4_links.proofs.Views.{view_added}
+use Rattle.l4_links.proofs.Writes.{same_some}
 use Rattle.l4_links.proofs.Links.add_alone.Goals.{After-sharing, In-Some-sharing, After-make_key, After-add_under}
 use Rattle.l4_links.proofs.Links.add_alone.Goals as goal
 
@@ -37,7 +38,7 @@ found : (c : After-sharing) → IsAt c.args.self.now.entries (source_of c.args.f
 found c = subst (λ (p : Place). IsAt c.args.self.now.entries p c.in-Some.key) c.pages_of-of.ensures.source ((c.find.ensures c.in-Some.key).0 c.in-Some.is)
 
 alone : (c : After-sharing) (k : ℕ) → IsAt c.args.self.now.entries (source_of c.args.from c.index-items-0.result) k → k ≡ c.in-Some.key
-alone c k at = same_key (sym ((c.find.ensures k).1 (subst (λ (p : Place). IsAt c.args.self.now.entries p k) (sym c.pages_of-of.ensures.source) at)) ∙ c.in-Some.is)
+alone c k at = same_some (sym ((c.find.ensures k).1 (subst (λ (p : Place). IsAt c.args.self.now.entries p k) (sym c.pages_of-of.ensures.source) at)) ∙ c.in-Some.is)
 
 pub returns-in_default-sharing-clause-maps : goal.returns-in_default-sharing-clause-maps
 returns-in_default-sharing-clause-maps c =
