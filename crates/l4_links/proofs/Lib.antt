@@ -27,6 +27,7 @@ pub mod Asides
 pub mod Results
 pub mod TableEntries
 pub mod Wanting
+pub mod WantedItems
 pub mod Bringing
 pub mod BroughtParts
 pub mod Items

@@ -17,7 +17,7 @@ ghost use Rattle.l4_links.specs.Inside.Growing.{SharesNone, Lacks, Enters, Renew
 
 use crate::blocks::{Pages, pages_of, place_from};
 use crate::lists::{add_under, link_under, unlink};
-use crate::wants::wants_item;
+use crate::wants::{Wants, wants_item};
 use l4_fpage::Rights;
 use l4_msg::ItemMove;
 use l4_nodes::{Node, Place, Slots, node_of, set_rights};
@@ -244,8 +244,7 @@ fn bring_item(nodes: &mut Slots, sources: &Vec<Row>, targets: &mut Vec<Row>, of:
     }
 }
 
-/// Returns for how many slots there must be room for the children of all items, or None if one of them can't take its place. Allocates the
-/// tables of their places.
+/// Returns what the children of all items need, or None if one of them can't take its place. Allocates the tables of their places.
 fn wants_all(
     nodes: &Slots,
     sources: &Vec<Row>,
@@ -253,7 +252,7 @@ fn wants_all(
     from: u64,
     to: u64,
     items: &[ItemMove],
-) -> Result<Option<usize>, NoMemory>
+) -> Result<Option<Wants>, NoMemory>
     requires differ { from ≢ to }
     requires apart { AreApart items.now }
     requires growing { (pages : Tables) × (first head : Option ℕ) × (stamp : ℕ) × (all : Tables)
@@ -263,21 +262,23 @@ fn wants_all(
     ensures wants { IfOk result (λ found. MatchOption found
         (HasOther (IsDue from to items.now (length items.now) (entries_of nodes.now.slots))
         (entries_of nodes.now.slots))
-        (λ wants. CanBring from to items.now (length items.now) (entries_of nodes.now.slots) targets.new.items wants)) }
+        (λ wants. CanBring from to items.now (length items.now) (entries_of nodes.now.slots) targets.new.items wants.slots wants.changes)) }
     ensures lacks { OnErr result (LacksKey (IsDue from to items.now (length items.now) (entries_of nodes.now.slots))
         (entries_of nodes.now.slots)) }
     ensures makes { MakesTables targets.old.items targets.new.items }
 {
-    let mut wants = 0;
+    let mut slots = 0;
+    let mut changes = false;
     for item in 0..items.len() {
         let of = pages_of(from, to, &items[item]);
         let found = wants_item(nodes, sources, targets, &of)?;
         let Some(more) = found else {
             return Ok(None);
         };
-        wants += more;
+        slots += more.slots;
+        changes |= more.changes;
     }
-    Ok(Some(wants))
+    Ok(Some(Wants { slots, changes }))
 }
 
 /// Allocates room for so many slots, if there are any.
@@ -321,7 +322,10 @@ pub(crate) fn bring_all(
     let Some(wants) = found else {
         return Ok(false);
     };
-    let Ok(()) = make_room(nodes, wants) else {
+    if !wants.changes {
+        return Ok(true);
+    }
+    let Ok(()) = make_room(nodes, wants.slots) else {
         return Err(NoMemory);
     };
     for item in 0..items.len() {

@@ -6,13 +6,13 @@ ghost use Rattle.l4_spaces.specs.Rows.{entry, AreWhole};
 ghost use Rattle.l4_nodes.specs.Slots.{node_at};
 ghost use Rattle.l4_links.specs.Inside.Nodes.{IsForest};
 ghost use Rattle.l4_links.specs.Inside.Moving.{MakesTables};
-ghost use Rattle.l4_links.specs.Inside.Growing.{IsSpareNode, IsHindered, WantsOne, WantsRow, WantsPages, IsHinderedPage, LacksPage};
+ghost use Rattle.l4_links.specs.Inside.Growing.{IsSpareNode, IsChildOf, IsHindered, WantsOne, WantsRow, WantsPages, IsHinderedPage, LacksPage};
 
 use crate::blocks::{Pages, place_from};
 use crate::children::{Run, run_at, sharing};
 use crate::walks::is_leaf;
 use l4_fpage::Rights;
-use l4_nodes::{Slots, node_of};
+use l4_nodes::{Node, Slots, node_of};
 use l4_spaces::tables::{TABLE_PAGES, make_all, next_page};
 use l4_spaces::{NoMemory, Row};
 
@@ -31,36 +31,72 @@ fn can_go(nodes: &Slots, key: usize) -> bool
     is_leaf(nodes, key)
 }
 
-/// Returns how many slots a child of a page with this key, or with none, needs at a place with that key: one if there is no key. Returns
-/// None if the child can't take the place. A page that shares no right gets no child.
+/// Returns whether the second node is a child of the first one, with those of these rights that its parent has.
+#[inline(always)]
+fn is_child(nodes: &Slots, parent: usize, above: &Node, key: usize, rights: Rights) -> bool
+    requires stands { node_at nodes.now.slots parent ≡ Some above.now }
+    ensures { result ≡ true → IsChildOf parent key rights nodes.now.slots }
+{
+    let Some(node) = node_of(nodes, key) else {
+        return false;
+    };
+    let Some(own) = node.parent.key() else {
+        return false;
+    };
+    if own != parent {
+        return false;
+    }
+    node.rights == above.rights.intersection(rights)
+}
+
+/// What the children of pages need.
+#[derive(Clone, Copy)]
+pub(crate) struct Wants {
+    /// How many slots there must be room for.
+    pub slots: usize,
+    /// Whether a page has not just this child already.
+    pub changes: bool,
+}
+
+/// Returns what a child of a page with this key, or with none, needs at a place with that key: one slot if there is no key. Returns None if
+/// the child can't take the place. A page that shares no right gets no child.
 #[inline(always)]
 fn wants_at(
     nodes: &Slots,
     key: Option<usize>,
     taken: Option<usize>,
     rights: Rights,
-) -> Option<usize>
+) -> Option<Wants>
     requires forest { (ks : List ℕ) × IsForest nodes.now.slots ks }
-    ensures { MatchOption result (IsHindered key taken rights nodes.now.slots) (WantsOne key taken rights nodes.now.slots) }
+    ensures { MatchOption result (IsHindered key taken rights nodes.now.slots)
+        (λ wants. WantsOne key taken rights nodes.now.slots wants.slots wants.changes) }
 {
-    let Some(key) = key else {
-        return Some(0);
+    let nothing = Wants {
+        slots: 0,
+        changes: false,
     };
-    let Some(_) = sharing(nodes, key, rights) else {
-        return Some(0);
+    let Some(key) = key else {
+        return Some(nothing);
+    };
+    let Some(above) = sharing(nodes, key, rights) else {
+        return Some(nothing);
     };
     let Some(taken) = taken else {
-        return Some(1);
+        return Some(Wants {
+            slots: 1,
+            changes: true,
+        });
     };
     if !can_go(nodes, taken) {
         return None;
     }
-    Some(0)
+    let changes = !is_child(nodes, key, &above, taken, rights);
+    Some(Wants { slots: 0, changes })
 }
 
-/// Returns how many slots the children of the run need, or None if one of them can't take its place.
+/// Returns what the children of the run need, or None if one of them can't take its place.
 #[inline(never)]
-fn wants_run(nodes: &Slots, source: &Row, target: &Row, run: &Run, rights: Rights) -> Option<usize>
+fn wants_run(nodes: &Slots, source: &Row, target: &Row, run: &Run, rights: Rights) -> Option<Wants>
     requires forest { (ks : List ℕ) × IsForest nodes.now.slots ks }
     requires source { length source.now ≡ table_pages }
     requires target { length target.now ≡ table_pages }
@@ -68,20 +104,21 @@ fn wants_run(nodes: &Slots, source: &Row, target: &Row, run: &Run, rights: Right
     requires to { run.now.to + run.now.entries ≤ table_pages }
     ensures { MatchOption result ((step : ℕ) × (step < run.now.entries)
         × IsHindered (slice_index_or source.now (run.now.from + step) None) (slice_index_or target.now (run.now.to + step) None) rights nodes.now.slots)
-        (λ wants. WantsRow run.now.from run.now.to run.now.entries rights source.now target.now wants nodes.now.slots) }
+        (λ wants. WantsRow run.now.from run.now.to run.now.entries rights source.now target.now wants.slots wants.changes nodes.now.slots) }
 {
     let from = run.from;
     let to = run.to;
-    let mut wants = 0;
+    let mut slots = 0;
+    let mut changes = false;
     for step in 0..run.entries {
         let one = wants_at(nodes, source.at(from + step), target.at(to + step), rights)?;
-        wants += one;
+        slots += one.slots;
+        changes |= one.changes;
     }
-    Some(wants)
+    Some(Wants { slots, changes })
 }
 
-/// Returns the page after the run that begins with this page, and for how many slots there must be room then. Allocates the table of the
-/// run's places. Returns None if a child can't take its place.
+/// Returns the page after the run that begins with this page, and what the children of the run need. Allocates the table of the run's places. Returns None if a child can't take its place.
 fn wants_from(
     nodes: &Slots,
     sources: &Vec<Row>,
@@ -89,7 +126,7 @@ fn wants_from(
     of: &Pages,
     page: u32,
     key: usize,
-) -> Result<Option<(u32, usize)>, NoMemory>
+) -> Result<Option<(u32, Wants)>, NoMemory>
     requires forest { (ks : List ℕ) × IsForest nodes.now.slots ks }
     requires sources { AreWhole sources.now.items }
     requires whole { AreWhole targets.old.items }
@@ -102,13 +139,17 @@ fn wants_from(
         (IsHinderedPage of.now.source.page page of.now.end of.now.target.page of.now.rights sources.now.items
         targets.old.items nodes.now.slots)
         (λ found. (page < found.0) × (found.0 ≤ of.now.end) × WantsPages of.now.source.page page found.0 of.now.target.page
-        of.now.rights sources.now.items targets.new.items found.1 nodes.now.slots)) }
+        of.now.rights sources.now.items targets.new.items found.1.slots found.1.changes nodes.now.slots)) }
     ensures lacks { OnErr result (LacksPage of.now.source.page page of.now.end of.now.target.page
         of.now.rights sources.now.items targets.old.items nodes.now.slots) }
     ensures makes { MakesTables targets.old.items targets.new.items }
 {
     let Some(_) = sharing(nodes, key, of.rights) else {
-        return Ok(Some((page + 1, 0)));
+        let nothing = Wants {
+            slots: 0,
+            changes: false,
+        };
+        return Ok(Some((page + 1, nothing)));
     };
     let place = place_from(of.source, of.target, page);
     let run = run_at(of, page);
@@ -116,7 +157,11 @@ fn wants_from(
     let Some(_) = next_page(targets, place.page, place.page + run.entries as u32) else {
         let alloc = *targets.allocator();
         make_all(targets, alloc, &[place.page])?;
-        return Ok(Some((after, run.entries)));
+        let all = Wants {
+            slots: run.entries,
+            changes: true,
+        };
+        return Ok(Some((after, all)));
     };
     let source = &sources[(page / TABLE_PAGES) as usize];
     let target = &targets[(place.page / TABLE_PAGES) as usize];
@@ -126,14 +171,13 @@ fn wants_from(
     Ok(Some((after, wants)))
 }
 
-/// Returns for how many slots there must be room for the children of all pages, or None if one of them can't take its place. Allocates
-/// the tables of their places.
+/// Returns what the children of all pages need, or None if one of them can't take its place. Allocates the tables of their places.
 pub(crate) fn wants_item(
     nodes: &Slots,
     sources: &Vec<Row>,
     targets: &mut Vec<Row>,
     of: &Pages,
-) -> Result<Option<usize>, NoMemory>
+) -> Result<Option<Wants>, NoMemory>
     requires forest { (ks : List ℕ) × IsForest nodes.now.slots ks }
     requires sources { AreWhole sources.now.items }
     requires short { length sources.now.items ≤ space_tables }
@@ -145,22 +189,24 @@ pub(crate) fn wants_item(
         (IsHinderedPage of.now.source.page of.now.source.page of.now.end of.now.target.page of.now.rights
         sources.now.items targets.old.items nodes.now.slots)
         (λ wants. WantsPages of.now.source.page of.now.source.page of.now.end of.now.target.page of.now.rights
-        sources.now.items targets.new.items wants nodes.now.slots)) }
+        sources.now.items targets.new.items wants.slots wants.changes nodes.now.slots)) }
     ensures lacks { OnErr result (LacksPage of.now.source.page of.now.source.page of.now.end
         of.now.target.page of.now.rights sources.now.items targets.old.items nodes.now.slots) }
     ensures makes { MakesTables targets.old.items targets.new.items }
 {
     let mut page = of.source.page;
-    let mut wants = 0;
+    let mut slots = 0;
+    let mut changes = false;
     loop {
         let Some((next, key)) = next_page(sources, page, of.end) else {
-            return Ok(Some(wants));
+            return Ok(Some(Wants { slots, changes }));
         };
         let found = wants_from(nodes, sources, targets, of, next, key)?;
         let Some((after, more)) = found else {
             return Ok(None);
         };
-        wants += more;
+        slots += more.slots;
+        changes |= more.changes;
         page = after;
     }
 }

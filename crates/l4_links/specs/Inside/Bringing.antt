@@ -7,7 +7,7 @@ use Rattle.l4_msg.specs.declared.items.ItemMove.{ItemMove}
 use Rattle.l4_nodes.specs.declared.Place.{Place}
 use Rattle.l4_links.specs.declared.Standing.{Standing}
 use Rattle.l4_links.specs.declared.Entry.{Entry}
-use Rattle.l4_links.specs.Entries.{Entries, entry_at, standing_at, parent_of, IsAt, Stands, IsBrought, IsDue, LacksKey, IsPlain, source_of, target_of, end_of}
+use Rattle.l4_links.specs.Entries.{Entries, entry_at, standing_at, parent_of, IsAt, Stands, IsBrought, IsDue, Brings, LacksKey, IsPlain, source_of, target_of, end_of}
 
 -- a child of the parent is under the key now, with the parent's frame and those of these rights that the parent has
 pub record Replaces (parent key : ℕ) (rights : RightsSet) (old new : Entries) : Type 0 where
@@ -58,11 +58,12 @@ pub record WantsItems (from to : ℕ) (items : List ItemMove) (end : ℕ) (s : E
       → AtMost (IsLacking (source_of from by) (end_of by) (target_of to by) by.rights s) by.mv.source.first (end_of by) (counts item)
   pub total : sum_to counts end ≤ wants
 
--- what the items before this number bring can come: it fits, its tables are there, and so many slots are enough, none if nothing lacks a key
-abbrev pub CanBring : (from to : ℕ) (items : List ItemMove) (end : ℕ) (s : Entries) (targets : Rows) (wants : ℕ) → Type 0
-CanBring from to items end s targets wants =
+-- What the items before this number bring can come: it fits, its tables are there, and so many slots are enough, none if nothing lacks a
+-- key. Unless something changes all is there already.
+abbrev pub CanBring : (from to : ℕ) (items : List ItemMove) (end : ℕ) (s : Entries) (targets : Rows) (wants : ℕ) (changes : Bool) → Type 0
+CanBring from to items end s targets wants changes =
     Fits (IsDue from to items end s) s × HaveTables (IsDue from to items end s) targets × WantsItems from to items end s wants
-    × (1 ≤ wants → LacksKey (IsDue from to items end s) s)
+    × (1 ≤ wants → LacksKey (IsDue from to items end s) s) × (changes ≡ false → Brings (IsDue from to items end s) s s)
 
 -- the three ends of an attempt: it was done, it was not, or memory was refused
 abbrev pub Ends : {E : Type 0} → Result Bool E → (done left refused : Type 0) → Type 0

@@ -1,5 +1,5 @@
 -- Children of the pages of one table, at places of another one, and whether they can take these. (this profile's own)
-use Rattle.std.specs.Prelude.{◌≡◌, ◌≢◌, ◌⊎◌, ◌<◌, ◌≤◌, ◌+◌, ◌-◌, ◌*◌, ◌/◌, ℕ, List, Option, Some, None, IsTrue, false, true, slice_index_or, slice_set}
+use Rattle.std.specs.Prelude.{◌≡◌, ◌≢◌, ◌⊎◌, ◌<◌, ◌≤◌, ◌+◌, ◌-◌, ◌*◌, ◌/◌, ℕ, List, Option, Some, None, IsTrue, Bool, false, true, slice_index_or, slice_set}
 use Rattle.std.specs.FinSet as set
 use Rattle.l4_fpage.specs.Rights.{RightsSet, common, no_rights}
 use Rattle.l4_spaces.specs.Tables.{Tables, key_of, table_pages}
@@ -199,29 +199,46 @@ pub record CanEnter (key taken : Option ℕ) (rights : RightsSet) (store : Store
 abbrev pub IsHindered : Option ℕ → Option ℕ → RightsSet → Slots → Type 0
 IsHindered key taken rights slots = (k : ℕ) × (key ≡ Some k) × SharesSome k rights slots × (taken ≢ None)
 
--- it finds its place, and so many slots are what it needs
-abbrev pub WantsOne : (key taken : Option ℕ) → RightsSet → Slots → (wants : ℕ) → Type 0
-WantsOne key taken rights slots wants = Takes key taken rights slots × (1 ≤ wants → Lacks key taken rights slots) × (Lacks key taken rights slots → 1 ≤ wants) × (wants ≤ 1)
+-- what is under the second key is a child of what is under the first one, with those of these rights that this has
+pub record IsChildOf (parent child : ℕ) (rights : RightsSet) (slots : Slots) : Type 0 where
+  pub node : Node
+  pub stands : node_at slots child ≡ Some node
+  pub parent_is : node.parent ≡ Some parent
+  pub above : Node
+  pub at_parent : node_at slots parent ≡ Some above
+  pub rights_are : node.rights ≡ common above.rights rights
 
--- from the first of these numbers on and below the second, this holds; at most so many lack something
-pub record Wants (Takes Lacks : ℕ → Type 0) (from end wants : ℕ) : Type 0 where
+-- what is due is there
+abbrev pub Holds : Option ℕ → Option ℕ → RightsSet → Slots → Type 0
+Holds key taken rights slots = (k : ℕ) → key ≡ Some k → SharesSome k rights slots → (t : ℕ) × (taken ≡ Some t) × IsChildOf k t rights slots
+
+-- it finds its place, and so many slots are what it needs
+abbrev pub WantsOne : (key taken : Option ℕ) → RightsSet → Slots → (wants : ℕ) (changes : Bool) → Type 0
+WantsOne key taken rights slots wants changes =
+    Takes key taken rights slots × (1 ≤ wants → Lacks key taken rights slots) × (Lacks key taken rights slots → 1 ≤ wants) × (wants ≤ 1) × (changes ≡ false → Holds key taken rights slots)
+
+-- from the first of these numbers on and below the second, this holds; at most so many lack something, and unless something changes all is there
+pub record AreWanted (Takes Lacks Holds : ℕ → Type 0) (from end wants : ℕ) (changes : Bool) : Type 0 where
   pub takes : (n : ℕ) → from ≤ n → n < end → Takes n
   pub most : AtMost Lacks from end wants
   pub some : 1 ≤ wants → (n : ℕ) × (from ≤ n) × (n < end) × Lacks n
   pub few : from + wants ≤ end
+  pub holds : changes ≡ false → (n : ℕ) → from ≤ n → n < end → Holds n
 
 -- so it is for each of these entries
-abbrev pub WantsRow : (f t n : ℕ) → RightsSet → (source target : List (Option ℕ)) → (wants : ℕ) → Slots → Type 0
-WantsRow f t n rights source target wants slots =
-    Wants (λ step. Takes (slice_index_or source (f + step) None) (slice_index_or target (t + step) None) rights slots)
-    (λ step. Lacks (slice_index_or source (f + step) None) (slice_index_or target (t + step) None) rights slots) 0 n wants
+abbrev pub WantsRow : (f t n : ℕ) → RightsSet → (source target : List (Option ℕ)) → (wants : ℕ) (changes : Bool) → Slots → Type 0
+WantsRow f t n rights source target wants changes slots =
+    AreWanted (λ step. Takes (slice_index_or source (f + step) None) (slice_index_or target (t + step) None) rights slots)
+    (λ step. Lacks (slice_index_or source (f + step) None) (slice_index_or target (t + step) None) rights slots)
+    (λ step. Holds (slice_index_or source (f + step) None) (slice_index_or target (t + step) None) rights slots) 0 n wants changes
 
 -- the same for pages, by the tables; those of the places that lack a key are there
-abbrev pub WantsPages : (source from end target : ℕ) → RightsSet → (sources targets : Rows) → (wants : ℕ) → Slots → Type 0
-WantsPages source from end target rights sources targets wants slots =
-    Wants (λ page. Takes (entry sources page) (entry targets (page - source + target)) rights slots
+abbrev pub WantsPages : (source from end target : ℕ) → RightsSet → (sources targets : Rows) → (wants : ℕ) (changes : Bool) → Slots → Type 0
+WantsPages source from end target rights sources targets wants changes slots =
+    AreWanted (λ page. Takes (entry sources page) (entry targets (page - source + target)) rights slots
     × (Lacks (entry sources page) (entry targets (page - source + target)) rights slots → is_made targets ((page - source + target) / table_pages) ≡ true))
-    (λ page. Lacks (entry sources page) (entry targets (page - source + target)) rights slots) from end wants
+    (λ page. Lacks (entry sources page) (entry targets (page - source + target)) rights slots)
+    (λ page. Holds (entry sources page) (entry targets (page - source + target)) rights slots) from end wants changes
 
 abbrev pub IsHinderedPage : (source from end target : ℕ) → RightsSet → (sources targets : Rows) → Slots → Type 0
 IsHinderedPage source from end target rights sources targets slots = (page : ℕ) × (from ≤ page) × (page < end) × IsHindered (entry sources page) (entry targets (page - source + target)) rights slots

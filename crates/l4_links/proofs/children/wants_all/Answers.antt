@@ -2,6 +2,7 @@ use Rattle.std.proofs.Common.{◌≡◌, ◌≤◌, ◌+◌, ◌^◌, ℕ, lengt
 use Rattle.std.proofs.lemmas.Option.{slice_get-get_or}
 use Rattle.std.specs.List.{slice_get}
 use Rattle.l4_links.specs.declared.blocks.Pages.{Pages}
+use Rattle.l4_links.specs.declared.wants.Wants.{Wants}
 use Rattle.l4_links.specs.Entries.{source_of, target_of, end_of}
 use Rattle.l4_links.specs.Inside.Bringing.{CanBring}
 use Rattle.l4_links.specs.Inside.Growing.{IsHinderedPage, WantsPages}
@@ -9,7 +10,7 @@ use Rattle.l4_links.specs.Inside.Keeping.{entries_of}
 use Rattle.l4_links.specs.Inside.Moving.{AreNamed}
 use Rattle.l4_links.proofs.Moving.{makes_more}
 use Rattle.l4_links.proofs.Results.{on_some, on_none, on_err}
-use Rattle.l4_links.proofs.Wanting.{named_aside, can_first, can_more, item_lacks, item_hindered, ends_before}
+use Rattle.l4_links.proofs.WantedItems.{named_aside, can_first, can_more, item_lacks, item_hindered, ends_before}
 use Rattle.l4_links.proofs.children.wants_all.Goals.{After-wants_item, In-Some}
 use Rattle.l4_links.proofs.children.wants_all.Goals as goal
 
@@ -43,20 +44,20 @@ pub returns-in_default-clause-wants : goal.returns-in_default-clause-wants
 returns-in_default-clause-wants c =
     let at = goal.at.returns-in_default-clause-wants c in
     item_hindered c.args.from c.args.to c.args.items.now c.loop-item.item c.index-items-item.result (by_is at.After-wants_item) c.args.nodes.now.slots c.requires.growing.4 c.args.sources.now.items c.loop-item.targets.items (named at.After-wants_item) c.pages_of-of.result (of_is at.After-wants_item)
-    (length c.args.items.now) c.loop-item-test.true (on_none (IsHinderedPage c.pages_of-of.result.source.page c.pages_of-of.result.source.page c.pages_of-of.result.end c.pages_of-of.result.target.page c.pages_of-of.result.rights c.args.sources.now.items c.loop-item.targets.items c.args.nodes.now.slots) (λ n. WantsPages c.pages_of-of.result.source.page c.pages_of-of.result.source.page c.pages_of-of.result.end c.pages_of-of.result.target.page c.pages_of-of.result.rights c.args.sources.now.items c.wants_item.new.targets.items n c.args.nodes.now.slots)
+    (length c.args.items.now) c.loop-item-test.true (on_none (IsHinderedPage c.pages_of-of.result.source.page c.pages_of-of.result.source.page c.pages_of-of.result.end c.pages_of-of.result.target.page c.pages_of-of.result.rights c.args.sources.now.items c.loop-item.targets.items c.args.nodes.now.slots) (λ (n : Wants). WantsPages c.pages_of-of.result.source.page c.pages_of-of.result.source.page c.pages_of-of.result.end c.pages_of-of.result.target.page c.pages_of-of.result.rights c.args.sources.now.items c.wants_item.new.targets.items n.slots n.changes c.args.nodes.now.slots)
     c.in_ok-found.found c.in_default.is c.in_ok-found.ensures.wants)
 
 pub returns-in_default-clause-makes : goal.returns-in_default-clause-makes
 returns-in_default-clause-makes c = makes_more c.args.targets.now.items c.loop-item.targets.items c.wants_item.new.targets.items c.loop-item.invariant.makes c.wants_item.ensures.makes
 
-wants : (c : In-Some) → WantsPages c.pages_of-of.result.source.page c.pages_of-of.result.source.page c.pages_of-of.result.end c.pages_of-of.result.target.page c.pages_of-of.result.rights c.args.sources.now.items c.wants_item.new.targets.items c.in-Some.more c.args.nodes.now.slots
-wants c = on_some (IsHinderedPage c.pages_of-of.result.source.page c.pages_of-of.result.source.page c.pages_of-of.result.end c.pages_of-of.result.target.page c.pages_of-of.result.rights c.args.sources.now.items c.loop-item.targets.items c.args.nodes.now.slots) (λ n. WantsPages c.pages_of-of.result.source.page c.pages_of-of.result.source.page c.pages_of-of.result.end c.pages_of-of.result.target.page c.pages_of-of.result.rights c.args.sources.now.items c.wants_item.new.targets.items n c.args.nodes.now.slots)
+wants : (c : In-Some) → WantsPages c.pages_of-of.result.source.page c.pages_of-of.result.source.page c.pages_of-of.result.end c.pages_of-of.result.target.page c.pages_of-of.result.rights c.args.sources.now.items c.wants_item.new.targets.items c.in-Some.more.slots c.in-Some.more.changes c.args.nodes.now.slots
+wants c = on_some (IsHinderedPage c.pages_of-of.result.source.page c.pages_of-of.result.source.page c.pages_of-of.result.end c.pages_of-of.result.target.page c.pages_of-of.result.rights c.args.sources.now.items c.loop-item.targets.items c.args.nodes.now.slots) (λ (n : Wants). WantsPages c.pages_of-of.result.source.page c.pages_of-of.result.source.page c.pages_of-of.result.end c.pages_of-of.result.target.page c.pages_of-of.result.rights c.args.sources.now.items c.wants_item.new.targets.items n.slots n.changes c.args.nodes.now.slots)
     c.in_ok-found.found c.in-Some.more c.in-Some.is c.in_ok-found.ensures.wants
 
-pub overflow_add-wants : goal.overflow_add-wants
-overflow_add-wants c =
-    let at = goal.at.overflow_add-wants c in
-    let le = ends_before c.args.from c.args.to c.index-items-item.result c.pages_of-of.result (of_is at.After-wants_item) c.args.nodes.now.slots c.args.sources.now.items c.wants_item.new.targets.items c.loop-item.wants c.in-Some.more (wants at.In-Some)
+pub overflow_add-slots : goal.overflow_add-slots
+overflow_add-slots c =
+    let at = goal.at.overflow_add-slots c in
+    let le = ends_before c.args.from c.args.to c.index-items-item.result c.pages_of-of.result (of_is at.After-wants_item) c.args.nodes.now.slots c.args.sources.now.items c.wants_item.new.targets.items c.loop-item.slots c.in-Some.more.slots c.in-Some.more.changes (wants at.In-Some)
     (c.loop-item.invariant.few c.loop-item.item c.index-items-item.result (omega arith) (by_is at.After-wants_item)) in
     let inside = c.index-items-item.result.mv.target.block.inside in
     omega (arith, le, inside)
@@ -64,12 +65,12 @@ overflow_add-wants c =
 pub loop-item-preserved : goal.loop-item-preserved
 loop-item-preserved c =
     let at = goal.at.loop-item-preserved c in
-    let le = ends_before c.args.from c.args.to c.index-items-item.result c.pages_of-of.result (of_is at.After-wants_item) c.args.nodes.now.slots c.args.sources.now.items c.wants_item.new.targets.items c.loop-item.wants c.in-Some.more (wants at.In-Some)
+    let le = ends_before c.args.from c.args.to c.index-items-item.result c.pages_of-of.result (of_is at.After-wants_item) c.args.nodes.now.slots c.args.sources.now.items c.wants_item.new.targets.items c.loop-item.slots c.in-Some.more.slots c.in-Some.more.changes (wants at.In-Some)
     (c.loop-item.invariant.few c.loop-item.item c.index-items-item.result (omega arith) (by_is at.After-wants_item)) in
     let lt = c.loop-item-test.true in
     record {
       can = can_more c.args.from c.args.to c.args.items.now c.loop-item.item c.index-items-item.result (by_is at.After-wants_item) c.args.nodes.now.slots c.requires.growing.4 c.args.sources.now.items c.loop-item.targets.items (named at.After-wants_item) c.pages_of-of.result (of_is at.After-wants_item)
-          c.wants_item.new.targets.items c.wants_item.ensures.makes c.loop-item.wants c.in-Some.more (wants at.In-Some) c.requires.plain c.loop-item.invariant.can;
+          c.wants_item.new.targets.items c.wants_item.ensures.makes c.loop-item.slots c.in-Some.more.slots c.loop-item.changes c.in-Some.more.changes (wants at.In-Some) c.requires.plain c.requires.growing.6.live.within c.loop-item.invariant.can;
       few = λ high next gt is. (let apart = c.requires.apart c.loop-item.item high c.index-items-item.result next (omega (arith, gt)) (by_is at.After-wants_item) is in omega (arith, le, apart));
       within = omega (arith, lt);
       makes = makes_more c.args.targets.now.items c.loop-item.targets.items c.wants_item.new.targets.items c.loop-item.invariant.makes c.wants_item.ensures.makes;
@@ -79,4 +80,4 @@ pub returns-clause-wants : goal.returns-clause-wants
 returns-clause-wants c =
     let end = c.loop-item-test.false in
     let within = c.loop-item.invariant.within in
-    subst (λ (n : ℕ). CanBring c.args.from c.args.to c.args.items.now n (entries_of c.args.nodes.now.slots) c.loop-item.targets.items c.loop-item.wants) (let e : c.loop-item.item ≡ length c.args.items.now = omega (arith, end, within) in e) c.loop-item.invariant.can
+    subst (λ (n : ℕ). CanBring c.args.from c.args.to c.args.items.now n (entries_of c.args.nodes.now.slots) c.loop-item.targets.items c.loop-item.slots c.loop-item.changes) (let e : c.loop-item.item ≡ length c.args.items.now = omega (arith, end, within) in e) c.loop-item.invariant.can

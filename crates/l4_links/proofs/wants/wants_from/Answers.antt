@@ -56,5 +56,5 @@ returns-clause-wants c =
       omega (arith, some),
       c.run_at-run.ensures.before,
       run_wants c.args.of.now.source.page c.args.of.now.target.page c.args.of.now.rights c.args.sources.now.items c.args.targets.now.items c.args.nodes.now.slots c.args.page c.place_from-place.result.page c.run_at-run.result.from c.run_at-run.result.to c.run_at-run.result.entries c.requires.from (ap (λ (p : Place). p.page) c.place_from-place.ensures) c.run_at-run.ensures.source c.run_at-run.ensures.target c.run_at-run.ensures.in_source c.run_at-run.ensures.in_target
-          c.index-source.result.now c.index-target.result.now (line at.After-wants_run) (target_line at.After-wants_run) c.in-Some-wants_run.wants (made at.After-wants_run) c.in-Some-wants_run.ensures,
+          c.index-source.result.now c.index-target.result.now (line at.After-wants_run) (target_line at.After-wants_run) c.in-Some-wants_run.wants.slots c.in-Some-wants_run.wants.changes (made at.After-wants_run) c.in-Some-wants_run.ensures,
     )

@@ -6,8 +6,8 @@ use Rattle.l4_links.proofs.wants.wants_item.Given as goal
 -- what the pages before this one need
 abbrev pub invariant-loop-next : goal.invariant-loop-next
 invariant-loop-next l = record {
-  pages : WantsPages l.of.source.page l.of.source.page l.page l.of.target.page l.of.rights l.sources.items l.targets.items l.wants l.nodes.slots;
-  few : l.of.source.page + l.wants ≤ l.page;
+  pages : WantsPages l.of.source.page l.of.source.page l.page l.of.target.page l.of.rights l.sources.items l.targets.items l.slots l.changes l.nodes.slots;
+  few : l.of.source.page + l.slots ≤ l.page;
   before : l.page ≤ l.of.end;
   makes : MakesTables l.fn.targets.items l.targets.items;
 }
