@@ -319,13 +319,13 @@ pub(crate) fn bring_all(
     let Ok(found) = wants_all(nodes, sources, targets, from, to, items) else {
         return Err(NoMemory);
     };
-    let Some(wants) = found else {
+    let Some(Wants { slots, changes }) = found else {
         return Ok(false);
     };
-    if !wants.changes {
+    if !changes {
         return Ok(true);
     }
-    let Ok(()) = make_room(nodes, wants.slots) else {
+    let Ok(()) = make_room(nodes, slots) else {
         return Err(NoMemory);
     };
     for item in 0..items.len() {

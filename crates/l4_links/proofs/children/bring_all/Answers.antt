@@ -33,7 +33,7 @@ returns-then-not-changes-clause-growing c =
 -- all is there already
 pub returns-then-not-changes-clause-maps : goal.returns-then-not-changes-clause-maps
 returns-then-not-changes-clause-maps c =
-    let can = on_some _ _ c.in-Ok.found c.in-Some-found.wants c.in-Some-found.is c.in-Ok.ensures.wants in
+    let can = on_some _ _ c.in-Ok.found c.in-Some-found.field-0 c.in-Some-found.is c.in-Ok.ensures.wants in
     (can.4 c.if-not-changes.true, fits_leaves (IsDue c.args.from c.args.to c.args.items.now (length c.args.items.now) (entries_of c.args.nodes.now.slots)) (entries_of c.args.nodes.now.slots) can.0)
 
 pub returns-in_default-make_room-clause-growing : goal.returns-in_default-make_room-clause-growing
@@ -42,8 +42,8 @@ returns-in_default-make_room-clause-growing c =
 
 pub loop-item-init : goal.loop-item-init
 loop-item-init c =
-    let can = on_some _ _ c.in-Ok.found c.in-Some-found.wants c.in-Some-found.is c.in-Ok.ensures.wants in
-    brought_first c.args.from c.args.to c.requires.differ c.args.items.now c.requires.apart c.in-Some-found.wants.slots c.args.pages.now c.args.targets.now.items c.args.nodes.now c.wants_all.new.targets.items c.make_room.new.nodes
+    let can = on_some _ _ c.in-Ok.found c.in-Some-found.field-0 c.in-Some-found.is c.in-Ok.ensures.wants in
+    brought_first c.args.from c.args.to c.requires.differ c.args.items.now c.requires.apart c.in-Some-found.field-0.slots c.args.pages.now c.args.targets.now.items c.args.nodes.now c.wants_all.new.targets.items c.make_room.new.nodes
     c.wants_all.ensures.makes c.make_room.ensures.same c.in-Ok-make_room.ensures.room can.0 can.1 can.2
 
 -- the item and its pages
@@ -64,7 +64,7 @@ bring_item-requires-clause-takes c =
     let at = (goal.at.bring_item-requires-clause-takes c).After-pages_of-of in
     let g = c.requires.growing in
     subst (λ (p : Pages). Fits (IsBrought p.source p.end p.target p.rights (entries_of c.loop-item.nodes.slots)) (entries_of c.loop-item.nodes.slots)) (sym (of_is at))
-    (item_fits c.args.from c.args.to c.requires.differ c.args.items.now c.requires.apart c.in-Some-found.wants.slots c.args.pages.now c.args.targets.now.items c.args.nodes.now c.loop-item.item c.loop-item.targets.items c.loop-item.nodes
+    (item_fits c.args.from c.args.to c.requires.differ c.args.items.now c.requires.apart c.in-Some-found.field-0.slots c.args.pages.now c.args.targets.now.items c.args.nodes.now c.loop-item.item c.loop-item.targets.items c.loop-item.nodes
     c.loop-item.invariant c.index-items-item.result (item at) (omega (arith, c.loop-item-test.true)) g.0 g.1 g.2 g.3 g.4)
 
 pub bring_item-requires-clause-made : goal.bring_item-requires-clause-made
@@ -72,7 +72,7 @@ bring_item-requires-clause-made c =
     let at = (goal.at.bring_item-requires-clause-made c).After-pages_of-of in
     let g = c.requires.growing in
     subst (λ (p : Pages). HaveTables (IsBrought p.source p.end p.target p.rights (entries_of c.loop-item.nodes.slots)) c.loop-item.targets.items) (sym (of_is at))
-    (item_tables c.args.from c.args.to c.requires.differ c.args.items.now c.requires.apart c.in-Some-found.wants.slots c.args.pages.now c.args.targets.now.items c.args.nodes.now c.loop-item.item c.loop-item.targets.items c.loop-item.nodes
+    (item_tables c.args.from c.args.to c.requires.differ c.args.items.now c.requires.apart c.in-Some-found.field-0.slots c.args.pages.now c.args.targets.now.items c.args.nodes.now c.loop-item.item c.loop-item.targets.items c.loop-item.nodes
     c.loop-item.invariant c.index-items-item.result (item at) (omega (arith, c.loop-item-test.true)) g.0 g.1 g.2 g.3 g.4)
 
 pub bring_item-requires-clause-room : goal.bring_item-requires-clause-room
@@ -80,14 +80,14 @@ bring_item-requires-clause-room c =
     let at = (goal.at.bring_item-requires-clause-room c).After-pages_of-of in
     let g = c.requires.growing in
     subst (λ (p : Pages). HaveRoom p.source p.end p.target p.rights p.source.page 0 c.loop-item.nodes) (sym (of_is at))
-    (item_asks c.args.from c.args.to c.requires.differ c.args.items.now c.requires.apart c.in-Some-found.wants.slots c.args.pages.now c.args.targets.now.items c.args.nodes.now c.loop-item.item c.loop-item.targets.items c.loop-item.nodes
+    (item_asks c.args.from c.args.to c.requires.differ c.args.items.now c.requires.apart c.in-Some-found.field-0.slots c.args.pages.now c.args.targets.now.items c.args.nodes.now c.loop-item.item c.loop-item.targets.items c.loop-item.nodes
     c.loop-item.invariant c.index-items-item.result (item at) (omega (arith, c.loop-item-test.true)) g.0 g.1 g.2 g.3 g.4)
 
 pub loop-item-preserved : goal.loop-item-preserved
 loop-item-preserved c =
     let at = (goal.at.loop-item-preserved c).After-pages_of-of in
     let g = c.requires.growing in
-    brought_next c.args.from c.args.to c.requires.differ c.args.items.now c.requires.apart c.in-Some-found.wants.slots c.args.pages.now c.args.targets.now.items c.args.nodes.now c.loop-item.item c.loop-item.targets.items c.loop-item.nodes
+    brought_next c.args.from c.args.to c.requires.differ c.args.items.now c.requires.apart c.in-Some-found.field-0.slots c.args.pages.now c.args.targets.now.items c.args.nodes.now c.loop-item.item c.loop-item.targets.items c.loop-item.nodes
     c.loop-item.invariant c.index-items-item.result (item at) (omega (arith, c.loop-item-test.true)) g.0 g.1 g.2 g.3 g.4 c.bring_item.new.targets.items c.bring_item.new.nodes
     (subst (λ (p : Pages). BringsAll p.target.space (IsBrought p.source p.end p.target p.rights (entries_of c.loop-item.nodes.slots)) c.args.pages.now c.loop-item.targets.items c.bring_item.new.targets.items c.loop-item.nodes.slots c.bring_item.new.nodes.slots)
     (of_is at) (c.bring_item.ensures.brings c.args.pages.now (rw c.pages_of-of.ensures.source c.in-Some.ensures)))
