@@ -18,13 +18,13 @@ use Rattle.l4_mapdb.specs.Inside.Placing.{IsStart, Used, IsTarget}
 use Rattle.l4_mapdb.proofs.EntriesLemmas.{decided}
 use Rattle.l4_mapdb.proofs.Filled.{BecomesBy}
 use Rattle.l4_mapdb.proofs.ForestKept.{decide}
-use Rattle.l4_mapdb.proofs.Moves.{stand_of, stand_is_at, stands_as, found_of}
+use Rattle.l4_mapdb.proofs.Moves.{stand_of, stand_is_at, stand_place, stands_as, found_of}
 use Rattle.l4_mapdb.proofs.Nothing.{cuts_none}
 use Rattle.l4_mapdb.proofs.Placed.{same_link}
 use Rattle.l4_mapdb.proofs.Single.{KnownMoves, one_target, one_grant, moved_by}
 use Rattle.l4_mapdb.proofs.Unique.{same_value}
 use Rattle.l4_mapdb.proofs.UsedMoves.{known_moves}
-use Rattle.l4_mapdb.proofs.View.{key_shows, shown_by_key, stands_at, key_place}
+use Rattle.l4_mapdb.proofs.View.{key_shows, shown_by_key, stands_at}
 
 -- the child of what is under the key, as the move makes it
 abbrev pub child_of : PageMove → ℕ → Standing
@@ -90,7 +90,7 @@ module _ (start now : Linked) (from to : ℕ) (items : List ItemMove) (ready : I
       (key, ap (λ (x : LinkPlace × Standing). x.1) (same_value (sym at_j ∙ ap (stand_at now.entries) key ∙ at_k)))
 
   place_now : (key : ℕ) (p : LinkPlace) (t : Standing) → stand_at now.entries key ≡ Some (p, t) → place_at now.entries key ≡ Some (map_place p)
-  place_now key p t at = key_place now.entries (map_place p) key (stand_is_at now.entries key p t at)
+  place_now = stand_place now.entries
 
   -- a child stands there, or what was granted, or what stood there
   record IsChildAt (p : LinkPlace) (t : Standing) : Type 0 where

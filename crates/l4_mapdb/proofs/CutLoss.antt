@@ -6,7 +6,7 @@ use Rattle.l4_nodes.specs.declared.Place.{Place as LinkPlace}
 use Rattle.l4_links.specs.declared.Standing.{Standing}
 use Rattle.l4_links.specs.declared.Entry.{Entry}
 use Rattle.l4_links.specs.Leads.{step, steps}
-use Rattle.l4_links.specs.Entries.{Entries, Linked, entry_at, standing_at, IsAt, Descends, HavePlaces, AreTrees, Buries}
+use Rattle.l4_links.specs.Entries.{parent_of as links_parent, Entries, Linked, entry_at, standing_at, IsAt, Descends, HavePlaces, AreTrees, Buries}
 use Rattle.l4_mapdb.specs.declared.Place.{Place}
 use Rattle.l4_mapdb.specs.declared.Mapping.{Mapping}
 use Rattle.l4_msg.specs.declared.items.ItemMove.{ItemMove}
@@ -19,12 +19,13 @@ use Rattle.l4_mapdb.specs.View.{link_place, map_place, place_at, mapping_of, map
 use Rattle.l4_mapdb.specs.Inside.Cutting.{IsGrantedAt, IsOrBelow, Capped, IsGrantBelow}
 use Rattle.l4_mapdb.specs.Inside.Placing.{IsStart, Used, Placed}
 use Rattle.l4_mapdb.specs.Inside.Settling.{left_by, settled_standing, settled_entry, settled}
-use Rattle.l4_mapdb.proofs.View.{shown_by_key, key_shows, some_standing, descends_by_key, parent_is}
+use Rattle.l4_mapdb.proofs.Leading.{leads_along}
+use Rattle.l4_mapdb.proofs.View.{some_standing, descends_by_parents, parents_stand, parent_is}
 use Rattle.l4_mapdb.proofs.Deciding.{none_or}
 use Rattle.l4_mapdb.proofs.Caps.{has_common, IsSameBare, bare_stands, turned}
 use Rattle.l4_mapdb.proofs.EntriesLemmas.{decided}
 use Rattle.l4_mapdb.proofs.Lost.{HasLost, KeysLose, view_loses}
-use Rattle.l4_mapdb.proofs.Moved.{at_settled, was_settled, places_settled, place_at_settled, source_of, granted_to, IsGrantedHere, stands_here}
+use Rattle.l4_mapdb.proofs.Moved.{at_settled, is_at_settled, was_settled, places_settled, place_at_settled, source_of, granted_to, IsGrantedHere, stands_here}
 
 -- a right of what stands below is a right of what stands above
 pub right_up : (s : Entries) → AreTrees s → (low high : ℕ) → Descends s low high → (t u : Standing) → standing_at s low ≡ Some t → standing_at s high ≡ Some u → (k : Right) → IsTrue (has t.rights k) → IsTrue (has u.rights k)
@@ -37,43 +38,28 @@ right_up s trees low high (steps {middle = middle} is rest) t u at_t at_u k h =
     let p = trees.parents low t middle at_t (sym (parent_is s low t at_t) ∙ is) in
     right_up s trees middle high rest p.above u p.at at_u k ((has_common t.rights p.above.rights k).0 (subst (λ (r : RightsSet). IsTrue (has r k)) (sym p.within) h)).1
 
--- the parents of places, with the rights of grants settled or not
-parents_settled : (s : Linked) → HavePlaces s → (place : Place) → parent_of (mappings_of (settled s)) place ≡ parent_of (mappings_of s) place
-parents_settled s have place = by_shown (shown (mappings_of s) place) refl
+-- the parents of keys, with the rights of grants settled or not
+parent_settled : (s : Linked) (key : ℕ) → links_parent (settled s).entries key ≡ links_parent s.entries key
+parent_settled s key = ap (λ (o : Option Entry). option_and_then (λ (t : Standing). t.parent) (option_and_then (λ (e : Entry). e.stands) o)) (at_settled s key) ∙ over (entry_at s.entries key)
   where
-    ups : (o : Option ℕ) → option_and_then (place_at (settled s).entries) o ≡ option_and_then (place_at s.entries) o
-    ups None = refl
-    ups (Some p) = place_at_settled s p
+    over : (o : Option Entry) → option_and_then (λ (t : Standing). t.parent) (option_and_then (λ (e : Entry). e.stands) (settled_entry o)) ≡ option_and_then (λ (t : Standing). t.parent) (option_and_then (λ (e : Entry). e.stands) o)
+    over None = refl
+    over (Some e) = elim e.stands as (λ (o : Option Standing). option_and_then (λ (t : Standing). t.parent) (option_map settled_standing o) ≡ option_and_then (λ (t : Standing). t.parent) o) [ None ↦ refl | Some t ↦ refl ]
 
-    by_shown : (o : Option Mapping) → shown (mappings_of s) place ≡ o → parent_of (mappings_of (settled s)) place ≡ parent_of (mappings_of s) place
-    by_shown (Some m) h =
-        let u = (shown_by_key s have place m).0 h in
-        let there : shown (mappings_of (settled s)) place ≡ Some (mapping_of (settled s).entries (settled_standing u.standing)) =
-        (shown_by_key (settled s) (places_settled s have) place (mapping_of (settled s).entries (settled_standing u.standing))).1 (record {
-          key = u.key;
-          entry = record u.entry { stands = option_map settled_standing u.entry.stands };
-          standing = settled_standing u.standing;
-          at = at_settled s u.key ∙ ap settled_entry u.at;
-          place_is = u.place_is;
-          stands = ap (option_map settled_standing) u.stands;
-          mapping = refl;
-        }) in
-        ap (option_and_then (λ (x : Mapping). x.parent)) there ∙ ups u.standing.parent ∙ sym (ap (option_and_then (λ (x : Mapping). x.parent)) h ∙ ap (λ (x : Mapping). x.parent) (sym u.mapping))
-    by_shown None h = none_there (shown (mappings_of (settled s)) place) refl
-      where
-        none_there : (o : Option Mapping) → shown (mappings_of (settled s)) place ≡ o → parent_of (mappings_of (settled s)) place ≡ parent_of (mappings_of s) place
-        none_there None g = ap (option_and_then (λ (x : Mapping). x.parent)) (g ∙ sym h)
-        none_there (Some m) g =
-            let u = (shown_by_key (settled s) (places_settled s have) place m).0 g in
-            let w = was_settled (entry_at s.entries u.key) u.entry (sym (at_settled s u.key) ∙ u.at) in
-            let stands : option_map settled_standing w.entry.stands ≡ Some u.standing = ap (λ (x : Entry). x.stands) (sym w.is) ∙ u.stands in
-            absurd (standing_there w.entry.stands u.standing w.entry u.key stands refl w.was (ap (λ (x : Entry). x.place) (sym w.is) ∙ u.place_is))
-          where
-            standing_there : (o : Option Standing) (v : Standing) (e : Entry) (key : ℕ) → option_map settled_standing o ≡ Some v → e.stands ≡ o → entry_at s.entries key ≡ Some e → e.place ≡ link_place place → ⊥
-            standing_there None v e key is stands at here = let z : ◌≡◌ {A = Option Standing} None (Some v) = is in cc
-            standing_there (Some t) v e key is stands at here =
-                let z : ◌≡◌ {A = Option Mapping} None (Some (mapping_of s.entries t)) = sym h ∙ ap (shown (mappings_of s)) (ap map_place (sym here)) ∙ key_shows s have key e t at stands in
-                cc
+settled_stand : (s : Linked) (key : ℕ) (t : Standing) → standing_at s.entries key ≡ Some t → standing_at (settled s).entries key ≡ Some (settled_standing t)
+settled_stand s key t at =
+    let e = some_standing s.entries key t at in
+    ap (option_and_then (λ (x : Entry). x.stands)) (at_settled s key ∙ ap settled_entry e.1) ∙ ap (option_map settled_standing) e.2
+
+-- so a place descends from another where its key descends from that one's
+settled_descends : (s : Linked) → HavePlaces s → AreTrees s.entries → (low high : ℕ) (p q : Place) → IsAt s.entries (link_place p) low → IsAt s.entries (link_place q) high → map.Descends (mappings_of (settled s)) p q ↔ Descends s.entries low high
+settled_descends s have trees low high p q at_low at_high =
+    let both = descends_by_parents (settled s) (places_settled s have)
+        (λ k up is. let t = parents_stand s.entries trees k up (sym (parent_settled s k) ∙ is) in (settled_standing t.0, settled_stand s up t.0 t.1))
+        low high p q ((is_at_settled s (link_place p) low).1 at_low) ((is_at_settled s (link_place q) high).1 at_high) in (
+      λ d. leads_along (links_parent (settled s).entries) (links_parent s.entries) (parent_settled s) (both.0 d),
+      λ d. both.1 (leads_along (links_parent s.entries) (links_parent (settled s).entries) (λ k. sym (parent_settled s k)) d),
+    )
 
 module _ (start now : Linked) (from to : ℕ) (items : List ItemMove) (ready : IsStart start from to items) (Done : PageMove → Type 0) (placed : Placed start from to items Done now) (have : HavePlaces now)
     (trees : AreTrees now.entries) (all : (move : PageMove) → Used start from to items move → Done move) where
@@ -140,12 +126,6 @@ module _ (start now : Linked) (from to : ℕ) (items : List ItemMove) (ready : I
     abbrev middle : Mappings
     middle = mappings_of (settled now)
 
-    chains_same : (p q : Place) → map.Descends (mappings_of now) p q → map.Descends middle p q
-    chains_same p q d = subst (λ (f : Place → Option Place). Chain f p q) (λ i x. sym (parents_settled now have x) i) d
-
-    chains_back : (p q : Place) → map.Descends middle p q → map.Descends (mappings_of now) p q
-    chains_back p q d = subst (λ (f : Place → Option Place). Chain f p q) (λ i x. parents_settled now have x i) d
-
     at_its_place : IsAt now.entries (link_place (map_place e.place)) key
     at_its_place = ap (option_map {T = Entry} (λ x. x.place)) at_key
 
@@ -162,7 +142,7 @@ module _ (start now : Linked) (from to : ℕ) (items : List ItemMove) (ready : I
           grant = g.grant;
           had = subst (λ (r : RightsSet). IsTrue (has r right)) above_is l.had;
           lacks = λ h. l.lacks (subst (λ (r : RightsSet). IsTrue (has r right)) here.1 ((has_common g.move.shows.rights g.used.by.rights right).0 (subst (λ (r : RightsSet). IsTrue (has r right)) g.used.rights h)).1);
-          below = chains_same (map_place e.place) g.move.target ((descends_by_key now have trees key l.top (map_place e.place) g.move.target at_its_place (ap (option_map {T = Entry} (λ x. x.place)) s.1 ∙ ap (λ (x : Entry). Some x.place) g.is)).1 l.below);
+          below = (settled_descends now have trees key l.top (map_place e.place) g.move.target at_its_place (ap (option_map {T = Entry} (λ x. x.place)) s.1 ∙ ap (λ (x : Entry). Some x.place) g.is)).1 l.below;
         }
 
     lost_of : IsCut Moves middle (map_place e.place) right → LostKey key right
@@ -177,7 +157,7 @@ module _ (start now : Linked) (from to : ℕ) (items : List ItemMove) (ready : I
           granted = refl;
           had = subst (λ (m : Mapping). IsTrue (has m.rights right)) (sym s.mapping) c.had;
           lacks = λ h. c.lacks (subst (λ (r : RightsSet). IsTrue (has r right)) (sym c.used.rights) ((has_common c.move.shows.rights c.used.by.rights right).1 (c.had, h)));
-          below = (descends_by_key now have trees key s.key (map_place e.place) c.move.target at_its_place (ap (option_map {T = Entry} (λ x. x.place)) at)).0 (chains_back (map_place e.place) c.move.target c.below);
+          below = (settled_descends now have trees key s.key (map_place e.place) c.move.target at_its_place (ap (option_map {T = Entry} (λ x. x.place)) at)).0 c.below;
         }
 
     pub lost_is_cut : LostKey key right ↔ IsCut Moves middle (map_place e.place) right

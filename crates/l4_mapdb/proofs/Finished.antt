@@ -16,10 +16,13 @@ use Rattle.l4_mapdb.specs.View.{link_place, map_place, place_at, mapping_of, map
 use Rattle.l4_mapdb.specs.Inside.View.{IsShown}
 use Rattle.l4_mapdb.specs.Delivering.{IsClean, RootsKnown}
 use Rattle.l4_mapdb.specs.Inside.Cutting.{bare, Capped, IsGrantBelow}
-use Rattle.l4_mapdb.specs.Inside.Messages.{plain, tidied, Tidies, OfItems}
+use Rattle.l4_mapdb.specs.Inside.Messages.{plain, stand_at, tidied, Tidies, OfItems}
 use Rattle.l4_mapdb.specs.Inside.Placing.{IsStart, Used, Placed}
 use Rattle.l4_mapdb.specs.Inside.Settling.{settled_standing, settled_entry, settled}
-use Rattle.l4_mapdb.proofs.View.{some_standing, stands_at, same_view}
+use Rattle.l4_mapdb.proofs.Marking.{stand_in}
+use Rattle.l4_mapdb.proofs.Moves.{found_of, stands_as, stand_place}
+use Rattle.l4_mapdb.proofs.Unchanged.{alike_view}
+use Rattle.l4_mapdb.proofs.View.{some_standing}
 use Rattle.l4_mapdb.proofs.Arrived.{Arrived, arrived_moved, arrived_roots}
 use Rattle.l4_mapdb.proofs.Moved.{at_settled, places_settled, IsGrantedHere, IsChildHere, IsLeftHere, stands_here, arrived_settled}
 use Rattle.l4_mapdb.proofs.CutLoss.{cut_loses, before_burial, not_buried}
@@ -48,62 +51,28 @@ was_tidied (Some x) e h = inside x.stands refl
       is = sym (same_value (sym (ap (option_map (λ (t : Standing). record x { wanted = false; stands = Some (plain t) })) s) ∙ h));
     }
 
+-- what stands stays when marks go
+stand_tidied : (o : Option Entry) → stand_in (tidied o) ≡ stand_in o
+stand_tidied None = refl
+stand_tidied (Some e) = elim e.stands as (λ (o : Option Standing). stand_in (option_map (λ (t : Standing). record e { wanted = false; stands = Some (plain t) }) o) ≡ stand_in (Some (record e { stands = o }))) [ None ↦ refl | Some t ↦ refl ]
+
 -- taking marks away changes no mapping
 module _ (old new : Linked) (have_old : HavePlaces old) (have_new : HavePlaces new) (trees : AreTrees old.entries) (spaces : new.spaces ≡ old.spaces)
     (Touched : LinkPlace → Type 0) (tidies : Tidies Touched old.entries new.entries) where
-  -- what stands keeps its page
-  place_kept : (key : ℕ) (t : Standing) → standing_at old.entries key ≡ Some t → place_at new.entries key ≡ place_at old.entries key
-  place_kept key t at = elim (tidies.each key) [
-    | inl same ↦ ap (option_map {T = Entry} (λ e. map_place e.place)) same
-    | inr tidy ↦
-        let s = some_standing old.entries key t at in
-        let is : entry_at new.entries key ≡ Some (record s.0 { wanted = false; stands = Some (plain t) }) = tidy ∙ ap tidied s.1 ∙ ap (option_map (λ (t : Standing). record s.0 { wanted = false; stands = Some (plain t) })) s.2 in
-        ap (option_map {T = Entry} (λ e. map_place e.place)) is ∙ sym (ap (option_map {T = Entry} (λ e. map_place e.place)) s.1)
-  ]
+  alike : (key : ℕ) → stand_at new.entries key ≡ stand_at old.entries key
+  alike key = elim (tidies.each key) [ inl same ↦ ap stand_in same | inr tidy ↦ ap stand_in tidy ∙ stand_tidied (entry_at old.entries key) ]
 
+  -- what stands has its parent at the same page
   ups_kept : (key : ℕ) (t : Standing) → standing_at old.entries key ≡ Some t → (o : Option ℕ) → t.parent ≡ o → option_and_then (place_at new.entries) o ≡ option_and_then (place_at old.entries) o
   ups_kept key t at None up = refl
-  ups_kept key t at (Some p) up = let above = trees.parents key t p at up in place_kept p above.above above.at
-
-  shows_old : (place : Place) (m : Mapping) → IsShown new.entries place m → IsShown old.entries place m
-  shows_old place m u = elim (tidies.each u.key) [
-    | inl same ↦
-        let at : entry_at old.entries u.key ≡ Some u.entry = sym same ∙ u.at in
-        let ups = ups_kept u.key u.standing (stands_at old.entries u.key u.entry u.standing at u.stands) u.standing.parent refl in
-        record { key = u.key; entry = u.entry; standing = u.standing; at = at; place_is = u.place_is; stands = u.stands; mapping = (λ i. record { frame = u.standing.frame; rights = u.standing.rights; parent = sym ups i }) ∙ u.mapping }
-    | inr tidy ↦
-        let w = was_tidied (entry_at old.entries u.key) u.entry (sym tidy ∙ u.at) in
-        let ups = ups_kept u.key w.standing (stands_at old.entries u.key w.entry w.standing w.was w.stood) w.standing.parent refl in
-        let stands_is : u.standing ≡ plain w.standing = same_value (sym u.stands ∙ ap (λ (x : Entry). x.stands) w.is) in
-        record {
-          key = u.key;
-          entry = w.entry;
-          standing = w.standing;
-          at = w.was;
-          place_is = ap (λ (x : Entry). x.place) (sym w.is) ∙ u.place_is;
-          stands = w.stood;
-          mapping = (λ i. record { frame = w.standing.frame; rights = w.standing.rights; parent = sym ups i }) ∙ ap (mapping_of new.entries) (sym stands_is) ∙ u.mapping;
-        }
-  ]
-
-  shows_new : (place : Place) (m : Mapping) → IsShown old.entries place m → IsShown new.entries place m
-  shows_new place m u =
-      let ups = ups_kept u.key u.standing (stands_at old.entries u.key u.entry u.standing u.at u.stands) u.standing.parent refl in
-      elim (tidies.each u.key) [
-        | inl same ↦ record { key = u.key; entry = u.entry; standing = u.standing; at = same ∙ u.at; place_is = u.place_is; stands = u.stands; mapping = (λ i. record { frame = u.standing.frame; rights = u.standing.rights; parent = ups i }) ∙ u.mapping }
-        | inr tidy ↦ record {
-          key = u.key;
-          entry = record u.entry { wanted = false; stands = Some (plain u.standing) };
-          standing = plain u.standing;
-          at = tidy ∙ ap tidied u.at ∙ ap (option_map (λ (t : Standing). record u.entry { wanted = false; stands = Some (plain t) })) u.stands;
-          place_is = u.place_is;
-          stands = refl;
-          mapping = (λ i. record { frame = u.standing.frame; rights = u.standing.rights; parent = ups i }) ∙ u.mapping;
-        }
-      ]
+  ups_kept key t at (Some p) up =
+      let above = trees.parents key t p at up in
+      let f = found_of old.entries p above.above above.at in
+      let here = stands_as old.entries p f.entry above.above f.at f.stands in
+      stand_place new.entries p f.entry.place (plain above.above) (alike p ∙ here) ∙ sym (stand_place old.entries p f.entry.place (plain above.above) here)
 
   pub tidied_view : mappings_of new ≡ mappings_of old
-  tidied_view = same_view new old have_new have_old spaces (λ place m. (shows_old place m, shows_new place m))
+  tidied_view = alike_view old new have_old have_new spaces alike (λ key t at. ups_kept key t at t.parent refl)
 
 module _ (start now : Linked) (from to : ℕ) (items : List ItemMove) (ready : IsStart start from to items) (Done : PageMove → Type 0) (placed : Placed start from to items Done now) (have : HavePlaces now)
     (trees : AreTrees now.entries) (all : (move : PageMove) → Used start from to items move → Done move)

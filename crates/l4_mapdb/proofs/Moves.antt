@@ -11,6 +11,7 @@ use Rattle.l4_msg.specs.declared.items.ItemMove.{ItemMove}
 use Rattle.l4_mapdb.proofs.RightsLeft.{none_is}
 use Rattle.l4_mapdb.proofs.Unique.{same_value}
 use Rattle.l4_mapdb.specs.declared.sources.UsedMove.{UsedMove}
+use Rattle.l4_mapdb.specs.View.{map_place, place_at}
 use Rattle.l4_mapdb.specs.Inside.Messages.{plain, stand_at, IsMoved, turn, turn_of, IsNextMove, IsNextOfItem}
 use Rattle.l4_fpage.specs.Pages.{most_pages}
 
@@ -61,6 +62,9 @@ is_at s key e p at place = ap (option_map {T = Entry} (λ x. x.place)) at ∙ ap
 
 pub stand_is_at : (s : Entries) (key : ℕ) (p : LinkPlace) (t : Standing) → stand_at s key ≡ Some (p, t) → IsAt s p key
 stand_is_at s key p t h = let o = stand_of s key p t h in is_at s key o.entry p o.at o.place_is
+
+pub stand_place : (s : Entries) (key : ℕ) (p : LinkPlace) (t : Standing) → stand_at s key ≡ Some (p, t) → place_at s key ≡ Some (map_place p)
+stand_place s key p t h = let o = stand_of s key p t h in ap (option_map {T = Entry} (λ x. map_place x.place)) o.at ∙ ap (λ (x : LinkPlace). Some (map_place x)) o.place_is
 
 pub entry_of : (s : Entries) (key : ℕ) (p : LinkPlace) → IsAt s p key → (e : Entry) × (entry_at s key ≡ Some e) × (e.place ≡ p)
 entry_of s key p h =

@@ -173,10 +173,20 @@ some_key s (Some k) q h =
       | Some e ↦ λ is h. (k, refl, at_place s k e is ∙ ap (λ (p : LinkPlace). Some p) (same_places e.place (link_place q) (same_value h)))
     ] refl h
 
-pub key_place : (s : Entries) (q : Place) (key : ℕ) → IsAt s (link_place q) key → place_at s key ≡ Some q
+key_place : (s : Entries) (q : Place) (key : ℕ) → IsAt s (link_place q) key → place_at s key ≡ Some q
 key_place s q key at =
     let e = some_entry s (link_place q) key at in
     ap (option_map {T = Entry} (λ e. map_place e.place)) e.1 ∙ ap (λ (p : LinkPlace). Some (map_place p)) e.2
+
+-- what is a parent stands
+abbrev pub ParentsStand : Entries → Type 0
+ParentsStand s = (low high : ℕ) → links.parent_of s low ≡ Some high → (t : Standing) × (standing_at s high ≡ Some t)
+
+pub parents_stand : (s : Entries) → AreTrees s → ParentsStand s
+parents_stand s trees low high up =
+    let t = some_parent s low high up in
+    let above = trees.parents low t.0 high t.1 t.2 in
+    (above.above, above.at)
 
 module _ (s : Linked) (have : HavePlaces s) where
   -- one step of places is one of keys
@@ -215,14 +225,13 @@ module _ (s : Linked) (have : HavePlaces s) where
       let one = step_down low p c at_low up in
       steps one.1 (down_by_key rest one.0 high one.2 at_high)
 
-  up_by_key : AreTrees s.entries → {low high : ℕ} → links.Descends s.entries low high → (p q : Place) → IsAt s.entries (link_place p) low → IsAt s.entries (link_place q) high → Descends (mappings_of s) p q
-  up_by_key trees {low} {high} (step up) p q at_low at_high = child (step_up low high p q at_low up at_high)
-  up_by_key trees {low} {high} (steps {middle = c} up rest) p q at_low at_high =
-      let t = some_parent s.entries low c up in
-      let above = trees.parents low t.0 c t.1 t.2 in
-      let e = some_standing s.entries c above.above above.at in
+  up_by_key : ParentsStand s.entries → {low high : ℕ} → links.Descends s.entries low high → (p q : Place) → IsAt s.entries (link_place p) low → IsAt s.entries (link_place q) high → Descends (mappings_of s) p q
+  up_by_key stand {low} {high} (step up) p q at_low at_high = child (step_up low high p q at_low up at_high)
+  up_by_key stand {low} {high} (steps {middle = c} up rest) p q at_low at_high =
+      let above = stand low c up in
+      let e = some_standing s.entries c above.0 above.1 in
       let at_c = at_place s.entries c e.0 e.1 in
-      further (step_up low c p (map_place e.0.place) at_low up at_c) (up_by_key trees rest (map_place e.0.place) q at_c at_high)
+      further (step_up low c p (map_place e.0.place) at_low up at_c) (up_by_key stand rest (map_place e.0.place) q at_c at_high)
 
   -- each place on a chain has a key
   pub key_above : {p q : Place} → Descends (mappings_of s) p q → (low : ℕ) → IsAt s.entries (link_place p) low → (high : ℕ) × IsAt s.entries (link_place q) high × links.Descends s.entries low high
@@ -235,12 +244,16 @@ module _ (s : Linked) (have : HavePlaces s) where
       (more.0, more.1, steps one.1 more.2)
 
 -- a place descends from another where its key descends from that one's
+pub descends_by_parents : (s : Linked) → HavePlaces s → ParentsStand s.entries → (low high : ℕ) (p q : Place) → IsAt s.entries (link_place p) low → IsAt s.entries (link_place q) high
+    → Descends (mappings_of s) p q ↔ links.Descends s.entries low high
+descends_by_parents s have stand low high p q at_low at_high = (
+  λ d. down_by_key s have d low high at_low at_high,
+  λ d. up_by_key s have stand d p q at_low at_high,
+)
+
 pub descends_by_key : (s : Linked) → HavePlaces s → AreTrees s.entries → (low high : ℕ) (p q : Place) → IsAt s.entries (link_place p) low → IsAt s.entries (link_place q) high
     → Descends (mappings_of s) p q ↔ links.Descends s.entries low high
-descends_by_key s have trees low high p q at_low at_high = (
-  λ d. down_by_key s have d low high at_low at_high,
-  λ d. up_by_key s have trees d p q at_low at_high,
-)
+descends_by_key s have trees = descends_by_parents s have (parents_stand s.entries trees)
 
 -- mappings are one where each place shows the same by its key
 pub same_view : (a b : Linked) → HavePlaces a → HavePlaces b → a.spaces ≡ b.spaces
