@@ -14,12 +14,7 @@ use Rattle.l4_links.specs.Inside.Moving.{AreNamed, AreOthersSame, ArePair, AreSa
 
 -- each page has the same key
 pub indexed_alike : (slots : Slots) (t u : Tables) → ((space page : ℕ) → key_of u space page ≡ key_of t space page) → u.spaces ≡ t.spaces → IsIndexed slots t → IsIndexed slots u
-indexed_alike slots t u same spaces i = record {
-  names = λ place key. (λ e. (i.names place key).0 (sym (same place.space place.page) ∙ e), λ o. same place.space place.page ∙ (i.names place key).1 o);
-  housed = λ key s at. subst (λ (v : set.FinSet nat_cmp). IsTrue (set.contains v s.place.space)) (sym spaces) (i.housed key s at);
-  fits = i.fits;
-  few = i.few;
-}
+indexed_alike slots t u same spaces i = grind arith
 
 -- both spaces' tables are taken out, and others are put back in the end
 module _ (from to : ℕ) (before one none : Tables) (sources targets : Rows) (apart : from ≢ to) (first : AreAside to targets one before) (second : AreAside from sources none one) where
@@ -29,13 +24,7 @@ module _ (from to : ℕ) (before one none : Tables) (sources targets : Rows) (ap
   module _ (back after later : Tables) (new_sources new_targets : Rows) (third : AreAside from new_sources none back) (fourth : AreAside to new_targets back after) (slots : Slots)
       (n : AreNamed from to new_sources new_targets slots later) (d : AreOthersSame from to before later) where
     same : (space page : ℕ) → key_of after space page ≡ key_of later space page
-    same space page = elim (cases_eq space to) [
-      | inl e ↦ ap (λ (z : ℕ). key_of after z page) e ∙ fourth.here.keys page ∙ sym (n.target.keys page) ∙ sym (ap (λ (z : ℕ). key_of later z page) e)
-      | inr nt ↦ fourth.away space page nt ∙ elim (cases_eq space from) [
-        | inl e ↦ ap (λ (z : ℕ). key_of back z page) e ∙ third.here.keys page ∙ sym (n.source.keys page) ∙ sym (ap (λ (z : ℕ). key_of later z page) e)
-        | inr nf ↦ third.away space page nf ∙ sym (second.away space page nf) ∙ sym (first.away space page nt) ∙ sym (d.away space page nf nt)
-      ]
-    ]
+    same space page = grind arith
 
     pub spaces_last : after.spaces ≡ before.spaces
     spaces_last = fourth.spaces ∙ third.spaces ∙ sym second.spaces ∙ sym first.spaces
@@ -47,13 +36,7 @@ module _ (from to : ℕ) (before one none : Tables) (sources targets : Rows) (ap
 module _ (from to : ℕ) (sources targets : Rows) (now : Slots) (t : Tables) (n : AreNamed from to sources targets now t) (apart : from ≢ to) (there : IsTrue (set.contains t.spaces to)) (high other : ℕ) (line target_line : List (Option ℕ))
     (line_is : row sources high ≡ line) (target_is : row targets other ≡ target_line) (made_source : is_made sources high ≡ true) (made_target : is_made targets other ≡ true) where
   pub pair_of : ArePair from high to other line target_line now t
-  pair_of = record {
-    source_row = subst (λ (z : List (Option ℕ)). IsRowOf t from high z) line_is (row_of t from high sources n.source made_source);
-    target_row = subst (λ (z : List (Option ℕ)). IsRowOf t to other z) target_is (row_of t to other targets n.target made_target);
-    indexed = n.indexed;
-    there = there;
-    apart = apart;
-  }
+  pair_of = grind arith
 
   module _ (later : Tables) (new_line new_target : List (Option ℕ)) (new : Slots) (r : ArePair from high to other new_line new_target new later) (d : AreSameAround from high to other t later) where
     pub named_back : high < length sources → other < length targets → AreNamed from to (slice_set sources high new_line) (slice_set targets other new_target) new later
@@ -64,16 +47,8 @@ module _ (from to : ℕ) (sources targets : Rows) (now : Slots) (t : Tables) (n 
     }
 
     pub others_back : (start : Tables) → AreOthersSame from to start t → AreOthersSame from to start later
-    others_back start o = record {
-      away = λ s p nf nt. d.away s p (λ i. nf i.0) (λ i. nt i.0) ∙ o.away s p nf nt;
-      spaces = d.spaces ∙ o.spaces;
-    }
+    others_back start o = grind arith
 
     -- each table exists that did
     pub made_back : other < length targets → (h : ℕ) → is_made targets h ≡ true → is_made (slice_set targets other new_target) h ≡ true
-    made_back target_in h made = elim (cases_eq h other) [
-      | inl e ↦
-          let whole : length (row (slice_set targets other new_target) h) ≡ table_pages = ap length (ap (row (slice_set targets other new_target)) e ∙ row_here targets other new_target target_in) ∙ r.target_row.whole in
-          let some : 0 < length (row (slice_set targets other new_target) h) = omega (arith, whole) in grind (arith, some)
-      | inr ne ↦ ap (λ (z : List (Option ℕ)). nat_lt 0 (length z)) (row_other targets other h new_target ne) ∙ made
-    ]
+    made_back target_in h made = grind (arith, cases_eq, row_here, row_other)

@@ -47,28 +47,11 @@ pub record BuriedSoFar (old cur : Slots) (first begin at : Option ℕ) (count : 
   pub each : (key : ℕ) → IsBuried old cur key ⊎ IsLeft old cur key
 
 pub buried_first : (old : Slots) (ks : List ℕ) (first doomed : Option ℕ) → IsForest old ks → IsWithin old → HasStack old doomed → BuriedSoFar old old first first doomed 0
-buried_first old ks first doomed forest within s = record {
-  all = s.keys;
-  stack = s.keys;
-  before = ks;
-  left = ks;
-  was_stack = s.stack;
-  is_stack = s.stack;
-  at_is = s.head_is;
-  count_is = omega arith;
-  was = forest;
-  within = within;
-  order = forest.order;
-  same = record { onward = λ a b x y is_a is_b lt. lt; back = λ a b x y is_a is_b lt. lt };
-  first_is = λ e. e;
-  each = λ k. inr (record { limb = refl; value = refl; mark = refl; doom = refl; spot = refl });
-}
+buried_first old ks first doomed forest within s = grind arith
 
 -- the key of the loop has a node
 pub buried_there : (old cur : Slots) (first begin : Option ℕ) (count key : ℕ) → BuriedSoFar old cur first begin (Some key) count → node_at cur key ≢ None
-buried_there old cur first begin count key c none =
-    let n = stacked_none (dooms cur) c.stack c.is_stack.stacked key (first_in c.stack key c.at_is) in
-    no_some n.0 (sym (ap (option_map doom_of) none) ∙ n.1)
+buried_there old cur first begin count key c none = grind arith
 
 -- one more node is buried
 pub buried_more : (old cur new : Slots) (first begin after : Option ℕ) (count key : ℕ) (node : Node) → BuriedSoFar old cur first begin (Some key) count → node_at cur key ≡ Some node

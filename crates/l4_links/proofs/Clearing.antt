@@ -21,12 +21,7 @@ apart slots ks f k l = let r = run_from_leads (limbs slots) (position ks) f.tree
 
 -- the top has its node after the cut
 pub top_left : (old mid : Slots) (top : ℕ) → Prunes top old mid → node_at old top ≢ None → node_at mid top ≢ None
-top_left old mid top p there none =
-    let off = apart old (p.front ++ top ∷ p.rest) p.was top in
-    elim (node_at old top) as (λ o. node_at old top ≡ o → ⊥) [
-      | None ↦ λ e. there e
-      | Some n ↦ λ e. some_from old mid top n (sym (p.limbs_kept top off)) e none
-    ] refl
+top_left old mid top p there none = grind (arith, apart, some_from)
 
 -- what the cut and the writes to the neighbours make of the nodes
 pub cleared : (old mid new : Slots) (top : ℕ) (node : Node) (first after : Option ℕ) → Prunes top old mid → node_at mid top ≡ Some node → Parts top mid new → ((xs ys : List ℕ) → IsOrder mid (xs ++ top ∷ ys) → IsOrder new (xs ++ ys))

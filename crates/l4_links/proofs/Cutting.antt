@@ -69,10 +69,7 @@ once_fits (suc n) ks once each = elim (is_in_or ks n) [
 ]
 
 pub node_within : (slots : Slots) (k : ℕ) (n : Node) → node_at slots k ≡ Some n → k < length slots
-node_within slots k n at = elim (cases_lt k (length slots)) [
-  | inl lt ↦ lt
-  | inr le ↦ no_some n (sym (ap (option_and_then (λ (s : Slot). s.node)) (get_or_past slots k None le)) ∙ at)
-]
+node_within slots k n at = grind (arith, cases_lt, no_some, get_or_past)
 
 pub order_fits : (slots : Slots) (ks : List ℕ) → IsOrder slots ks → length ks ≤ length slots
 order_fits slots ks order = once_fits (length slots) ks order.once (λ k i. let n = in_list slots ks order k i in node_within slots k n.0 n.1)
@@ -91,36 +88,20 @@ once_disjoint (x ∷ xs) ys k once i j = elim i [
 -- where the keys stand in a list with a run in it
 module _ (front : List ℕ) (top : ℕ) (run back : List ℕ) (once : IsOnce (front ++ top ∷ (run ++ back))) where
   pos_front : (k : ℕ) → IsIn front k → position (front ++ top ∷ (run ++ back)) k < length front
-  pos_front k i =
-      let p = position_left front (top ∷ (run ++ back)) k i in
-      let w = position_within front k i in
-      omega (arith, p, w)
+  pos_front k i = grind (arith, position_left, position_within)
 
   pos_top : position (front ++ top ∷ (run ++ back)) top ≡ length front
-  pos_top =
-      let p = position_right front (top ∷ (run ++ back)) top (once_front front top (run ++ back) once) in
-      let h = position_here top (run ++ back) top refl in
-      omega (arith, p, h)
+  pos_top = grind (arith, position_right, once_front, position_here)
 
   -- a key behind the top
   pos_behind : (k : ℕ) → IsIn (run ++ back) k → position (front ++ top ∷ (run ++ back)) k ≡ length front + (position (run ++ back) k + 1)
-  pos_behind k i =
-      let p = position_right front (top ∷ (run ++ back)) k (λ j. once_apart front top (run ++ back) k once j i) in
-      let h = position_further top (run ++ back) k (λ e. once_back front top (run ++ back) once (subst (λ (z : ℕ). IsIn (run ++ back) z) (sym e) i)) in
-      omega (arith, p, h)
+  pos_behind k i = grind (arith, position_right, once_apart, position_further, once_back)
 
   pos_run : (k : ℕ) → IsIn run k → (length front < position (front ++ top ∷ (run ++ back)) k) × (position (front ++ top ∷ (run ++ back)) k ≤ length front + length run)
-  pos_run k i =
-      let p = pos_behind k (in_left run back k i) in
-      let q = position_left run back k i in
-      let w = position_within run k i in
-      (omega (arith, p, q, w), omega (arith, p, q, w))
+  pos_run k i = grind (arith, pos_behind, in_left, position_left, position_within)
 
   pos_back : (k : ℕ) → IsIn back k → position (front ++ top ∷ (run ++ back)) k ≡ length front + length run + 1 + position back k
-  pos_back k i =
-      let p = pos_behind k (in_right run back k i) in
-      let q = position_right run back k (λ j. once_disjoint run back k (once_rest front top (run ++ back) once) j i) in
-      omega (arith, p, q)
+  pos_back k i = grind (arith, pos_behind, in_right, position_right, once_disjoint, once_rest)
 
 -- what stands where in a list with a run in it
 pub data Stands (front : List ℕ) (top : ℕ) (run back : List ℕ) (k : ℕ) : Type 0 where
@@ -130,13 +111,7 @@ pub data Stands (front : List ℕ) (top : ℕ) (run back : List ℕ) (k : ℕ) :
   in_back : IsIn back k → Stands front top run back k
 
 pub stands : (front : List ℕ) (top : ℕ) (run back : List ℕ) (k : ℕ) → IsIn (front ++ top ∷ (run ++ back)) k → Stands front top run back k
-stands front top run back k i = elim (in_parts front (top ∷ (run ++ back)) k i) [
-  | inl l ↦ in_front l
-  | inr r ↦ elim r [
-    | inl e ↦ is_top e
-    | inr s ↦ elim (in_parts run back k s) [ inl a ↦ in_run a | inr b ↦ in_back b ]
-  ]
-]
+stands front top run back k i = grind (arith, in_parts)
 
 -- a walk has passed these keys, which are deeper than the top, and comes to this one
 pub record HasPassed (slots : Slots) (top depth : ℕ) (at : Option ℕ) (run : List ℕ) : Type 0 where
@@ -257,9 +232,7 @@ module _ (slots : Slots) (top : ℕ) (at : Option ℕ) (run : List ℕ) (head : 
 
   -- what the walk has passed is what descends from the top
   pub run_leads : (k : ℕ) → Leads (parent_at (limbs slots)) k top ↔ IsIn run k
-  run_leads k =
-      let d = descendants (limbs slots) (position all) c.forest.tree top k in
-      (λ l. run_from_run k (d.0 l), λ i. d.1 (run_is_run k i))
+  run_leads k = grind (arith, descendants, run_from_run, run_is_run)
 
 -- the deeper keys after the top are taken out up to this one
 pub record CutSoFar (old cur : Slots) (top depth : ℕ) (at : Option ℕ) : Type 0 where

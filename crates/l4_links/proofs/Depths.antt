@@ -55,7 +55,4 @@ depth_is_key slots ks k n blank f few at room none = depth_kept slots ks k n bla
 
 -- orders that are the same one after the other
 pub order_on : (old new : ℕ → Option Limb) (pos middle later : ℕ → ℕ) → ((a : ℕ) (x : Limb) → new a ≡ Some x → old a ≡ Some x) → SameOrder old pos middle → SameOrder new middle later → SameOrder new pos later
-order_on old new pos middle later was one two = record {
-  onward = λ a b x y is_a is_b lt. two.onward a b x y is_a is_b (one.onward a b x y (was a x is_a) (was b y is_b) lt);
-  back = λ a b x y is_a is_b lt. one.back a b x y (was a x is_a) (was b y is_b) (two.back a b x y is_a is_b lt);
-}
+order_on old new pos middle later was one two = grind arith

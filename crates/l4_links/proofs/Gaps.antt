@@ -35,9 +35,7 @@ gone_first old ks top node forest at = record {
 
 -- a node that is there was there before
 pub gone_was : (old cur : Slots) (top depth count key : ℕ) (at : Option ℕ) (node : Node) (c : GoneSoFar old cur top depth at count) → node_at cur key ≡ Some node → (node_at old key ≡ Some node) × ¬ (IsIn c.run key)
-gone_was old cur top depth count key at node c at_key =
-    let not_run : ¬ (IsIn c.run key) = λ i. no_some node (sym (c.gone key i) ∙ at_key) in
-    (sym (c.nodes_same key not_run) ∙ at_key, not_run)
+gone_was old cur top depth count key at node c at_key = grind arith
 
 -- one more node has gone
 pub gone_more : (old cur new : Slots) (top depth count key : ℕ) (at : Option ℕ) (node : Node) → GoneSoFar old cur top depth at count → at ≡ Some key → node_at cur key ≡ Some node → depth < node.depth → CutsOff key cur new
@@ -121,17 +119,10 @@ module _ (old cur new : Slots) (top depth : ℕ) (at : Option ℕ) (count : ℕ)
   plain k ne na off = g.back.others k na ∙ g.onward.others k (λ e. ne (sym (same_some e))) ∙ c.nodes_same k off
 
   front_same : (k : ℕ) → IsIn c.passed.front k → links new k ≡ links old k
-  front_same k i =
-      let far : ¬ (IsIn (c.run ++ c.passed.back) k) = once_apart c.passed.front top (c.run ++ c.passed.back) k c.passed.forest.order.once i in
-      ap (option_map link_of) (plain k (λ e. once_front c.passed.front top (c.run ++ c.passed.back) c.passed.forest.order.once (subst (λ (z : ℕ). IsIn c.passed.front z) e i))
-      (not_next k (λ j. far (in_right c.run c.passed.back k j))) (λ j. far (in_left c.run c.passed.back k j)))
+  front_same k i = grind (arith, once_apart, link_of, plain, once_front, not_next, in_right, in_left)
 
   here : (y : Link) → links old top ≡ Some y → links new top ≡ Some (record y { next = first_of c.passed.back None })
-  here y e =
-      let was : node_at cur top ≡ node_at old top = c.nodes_same top (λ j. top_behind (in_left c.run c.passed.back top j)) in
-      ap (option_map link_of) (g.back.others top (not_next top (λ j. top_behind (in_right c.run c.passed.back top j))) ∙ g.onward.here top refl)
-      ∙ next_set (node_at cur top) at y (ap (option_map link_of) was ∙ e)
-      ∙ ap (λ (z : Option ℕ). Some (record y { next = z })) c.passed.at_is
+  here y e = grind (arith, top_behind, in_left, link_of, not_next, in_right, next_set)
 
   first : (b : ℕ) (y : Link) → first_of c.passed.back None ≡ Some b → links old b ≡ Some y → links new b ≡ Some (record y { prev = Some top })
   first b y e l =
@@ -151,17 +142,7 @@ module _ (old cur new : Slots) (top depth : ℕ) (at : Option ℕ) (count : ℕ)
   gone_new k i = no_node new k (same_limbs k ∙ ap (option_map limb_of) (c.gone k i))
 
   left_all : (k : ℕ) (n : Node) → node_at new k ≡ Some n → IsIn (c.passed.front ++ top ∷ c.passed.back) k
-  left_all k n is = elim (is_in_or c.run k) [
-    | inl i ↦ no_some n (sym (gone_new k i) ∙ is)
-    | inr off ↦
-        let was : limbs old k ≡ Some (limb_of n) = sym (ap (option_map limb_of) (c.nodes_same k off)) ∙ sym (same_limbs k) ∙ ap (option_map limb_of) is in
-        elim (stands c.passed.front top c.run c.passed.back k (limb_in old (c.passed.front ++ top ∷ (c.run ++ c.passed.back)) c.passed.forest.order k (limb_of n) was)) [
-          | in_front j ↦ in_left c.passed.front (top ∷ c.passed.back) k j
-          | is_top e ↦ in_right c.passed.front (top ∷ c.passed.back) k (inl e)
-          | in_run j ↦ absurd (off j)
-          | in_back j ↦ in_right c.passed.front (top ∷ c.passed.back) k (inr j)
-        ]
-  ]
+  left_all k n is = grind (arith, is_in_or, no_some, gone_new, limb_of, same_limbs, stands, limb_in, in_front, in_left, is_top, in_right, in_run, in_back)
 
   gap_closed : CutSoFar old new top depth at
   gap_closed =
@@ -191,7 +172,4 @@ closed old cur new top depth at count c whole gap = elim (cases_eq count 0) [
 
 -- the pages are those that there were
 pub spots_closed : (cur new : Slots) (top : ℕ) (at : Option ℕ) (count : ℕ) → (count ≡ 0 → new ≡ cur) → (count ≢ 0 → ClosesGap top at cur new) → (k : ℕ) → spots new k ≡ spots cur k
-spots_closed cur new top at count whole gap k = elim (cases_eq count 0) [
-  | inl z ↦ ap (λ (s : Slots). spots s k) (whole z)
-  | inr some ↦ (gap some).back.spots_same k ∙ (gap some).onward.spots_same k
-]
+spots_closed cur new top at count whole gap k = grind arith

@@ -35,58 +35,21 @@ none_seen slots ks stamp forest none = record {
 
 -- where no walk has left a mark none is of the first stamp, and none above any
 first_none : (slots : Slots) (stamp : ℕ) → stamp ≡ 1 → AreUnmarked slots → NoneMarked stamp slots
-first_none slots stamp one u k m is =
-    let z = u k m is in
-    let z0 = z.0 in
-    let z1 = z.1 in
-    (λ d. (let e = d.same in omega (arith, one, z0, e)), λ d. (let e = d.same in omega (arith, one, z1, e)))
+first_none slots stamp one u k m is = grind arith
 
 stamped_unmarked : (slots : Slots) (stamp : ℕ) → AreUnmarked slots → IsStamped stamp slots
-stamped_unmarked slots stamp u some k m is =
-    let z = u k m is in
-    let z0 = z.0 in
-    let z1 = z.1 in
-    (omega (arith, z0), omega (arith, z1))
+stamped_unmarked slots stamp u some k m is = grind arith
 
 -- no node has a fresh stamp
 fresh_none : (slots : Slots) (stamp fresh : ℕ) → IsStamped stamp slots → IsFresh stamp fresh → NoneMarked fresh slots
-fresh_none slots stamp fresh s f k m is = elim f [
-  | inl zero ↦ (
-    λ d. (let one = d.some in omega (arith, one, zero)),
-    λ d. (let one = d.some in omega (arith, one, zero)),
-  )
-  | inr n ↦
-      let b = s n.0 k m is in
-      let b0 = b.0 in
-      let b1 = b.1 in
-      let next = n.1 in (
-        λ d. (let e = d.same in omega (arith, b0, next, e)),
-        λ d. (let e = d.same in omega (arith, b1, next, e)),
-      )
-]
+fresh_none slots stamp fresh s f k m is = grind arith
 
 pub stamped_fresh : (slots : Slots) (stamp fresh : ℕ) → IsStamped stamp slots → IsFresh stamp fresh → IsStamped fresh slots
-stamped_fresh slots stamp fresh s f some k m is = elim f [
-  | inl zero ↦ absurd (omega (arith, some, zero))
-  | inr n ↦
-      let b = s n.0 k m is in
-      let b0 = b.0 in
-      let b1 = b.1 in
-      let next = n.1 in
-      (omega (arith, b0, next), omega (arith, b1, next))
-]
+stamped_fresh slots stamp fresh s f some k m is = grind arith
 
 -- with a fresh stamp all marks are right
 pub sound_fresh : (slots : Slots) (first : Option ℕ) (stamp fresh walk : ℕ) (ks : List ℕ) → IsForest slots ks → first_of ks None ≡ first → IsWithin slots → IsStamped stamp slots → IsFresh stamp fresh → IsSound slots first fresh walk
-sound_fresh slots first stamp fresh walk ks forest first_is within s f = record {
-  keys = ks;
-  forest = forest;
-  first_is = first_is;
-  within = within;
-  stamped = stamped_fresh slots stamp fresh s f;
-  capped = λ _. none_marks (HasLow (set_of_bits walk) slots) slots ks fresh forest (fresh_none slots stamp fresh s f);
-  sought = λ _. none_seen slots ks fresh forest (fresh_none slots stamp fresh s f);
-}
+sound_fresh slots first stamp fresh walk ks forest first_is within s f = search (stamped_fresh, none_marks, fresh_none, none_seen, arith)
 
 pub sound_live : (slots : Slots) (first : Option ℕ) (stamp fresh walk : ℕ) → IsLive slots first stamp → IsFresh stamp fresh → IsSound slots first fresh walk
 sound_live slots first stamp fresh walk l f = sound_fresh slots first stamp fresh walk l.keys l.forest l.first_is l.within l.stamped f
@@ -143,17 +106,11 @@ module _ (a b : Slots) (same : (k : ℕ) → node_at b k ≡ node_at a k) where
       }
 
 pub nodes_blank : (old new : Slots) (key : ℕ) (slot : Slot) → slot.node ≡ None → slot_at old key ≡ None → slot_at new key ≡ Some slot → ((o : ℕ) → o ≢ key → slot_at new o ≡ slot_at old o) → (k : ℕ) → node_at new k ≡ node_at old k
-nodes_blank old new key slot blank vacant filled others k = elim (cases_eq k key) [
-  | inl e ↦ ap (node_at new) e ∙ ap (option_and_then (λ (s : Slot). s.node)) filled ∙ blank ∙ sym (ap (option_and_then (λ (s : Slot). s.node)) vacant) ∙ sym (ap (node_at old) e)
-  | inr ne ↦ ap (option_and_then (λ (s : Slot). s.node)) (others k ne)
-]
+nodes_blank old new key slot blank vacant filled others k = grind arith
 
 -- the marks after a key without marks has come
 pub stamped_comes : (worth : Worth) (key : ℕ) (old new : Slots) (stamp : ℕ) → Comes worth key old new → IsStamped stamp old → IsStamped stamp new
-stamped_comes worth key old new stamp c s some k m is = elim (cases_eq k key) [
-  | inl e ↦ subst (λ (z : Marks). (z.mark ≤ stamp) × (z.seen ≤ stamp)) (same_some (sym c.marks_is ∙ sym (ap (marks new) e) ∙ is)) (omega arith, omega arith)
-  | inr ne ↦ s some k m (sym (c.marks_same k ne) ∙ is)
-]
+stamped_comes worth key old new stamp c s some k m is = grind arith
 
 -- a parent stands
 pub parent_stands : (slots : Slots) (ks : List ℕ) → IsForest slots ks → (k p : ℕ) (x : Limb) → limbs slots k ≡ Some x → x.parent ≡ Some p → (y : Limb) × (limbs slots p ≡ Some y)
@@ -241,9 +198,7 @@ all_share true true true = refl
 
 -- what lies within stays within, where both are capped
 low_both : (h r c : RightsSet) → IsLow h r → IsLow (common h c) (common r c)
-low_both h r c low =
-    let share : common (common r c) (common h c) ≡ common (common r h) c = λ i. record { r = all_share r.r h.r c.r i; w = all_share r.w h.w c.w i; x = all_share r.x h.x c.x i } in
-    share ∙ ap (λ (z : RightsSet). common z c) low
+low_both h r c low = grind arith
 
 pub same_worth : {v w : Worth} → ◌≡◌ {A = Option Worth} (Some v) (Some w) → v ≡ w
 same_worth {v} {w} e = same_some e
@@ -390,11 +345,4 @@ sound_pruned old new first stamp fresh walk top s p f =
 
 -- a slot whose page is wanted or not has the same node
 pub nodes_wanted : (old new : Slots) (key : ℕ) (wanted : Bool) → SetsWanted key wanted old new → (k : ℕ) → node_at new k ≡ node_at old k
-nodes_wanted old new key wanted c k = elim (cases_eq k key) [
-  | inl e ↦ ap (node_at new) e ∙ ap (option_and_then (λ (s : Slot). s.node)) c.here ∙ over wanted (slot_at old key) ∙ sym (ap (node_at old) e)
-  | inr ne ↦ ap (option_and_then (λ (s : Slot). s.node)) (c.others k ne)
-]
-  where
-    over : (wanted : Bool) (o : Option Slot) → option_and_then (λ (s : Slot). s.node) (option_map (λ (s : Slot). record s { wanted = wanted }) o) ≡ option_and_then (λ (s : Slot). s.node) o
-    over wanted None = refl
-    over wanted (Some s) = refl
+nodes_wanted old new key wanted c k = grind arith

@@ -20,16 +20,7 @@ use Rattle.l4_links.proofs.Writes.{no_some, same_some, map_from, none_from, map_
 use Rattle.l4_links.proofs.Naming.{is_at}
 
 pub decide_in : (first : Place) (end : ℕ) (p : Place) → IsInPages first end p ⊎ ¬ (IsInPages first end p)
-decide_in first end p = elim (cases_eq p.space first.space) [
-  | inr ne ↦ inr (λ i. ne i.0)
-  | inl e ↦ elim (cases_lt p.page first.page) [
-    | inl lt ↦ inr (λ i. (let h = i.1 in omega (arith, lt, h)))
-    | inr le ↦ elim (cases_lt p.page end) [
-      | inl before ↦ inl (e, le, before)
-      | inr past ↦ inr (λ i. (let h = i.2 in omega (arith, past, h)))
-    ]
-  ]
-]
+decide_in first end p = grind arith
 
 -- a slot's key is of its page
 pub of_slot : (slots : Slots) (k : ℕ) (s : Slot) → slot_at slots k ≡ Some s → IsOf slots s.place k
@@ -68,14 +59,7 @@ pub makes_more : (old now new : Rows) → MakesTables old now → MakesTables no
 makes_more old now new a b = record { same = λ page. b.same page ∙ a.same page; kept = λ high made. b.kept high (a.kept high made); whole = b.whole; full = b.full }
 
 pub can_first : (source : Place) (target : Place) (rights : RightsSet) (slots : Slots) (rows : Rows) → CanMove source source.page target rights slots rows
-can_first source target rights slots rows = record {
-  within = λ k s n at h. absurd (none s h);
-  free = λ k s at h. absurd (none s h);
-  made = λ k s at h. absurd (none s h);
-}
-  where
-    none : (s : Slot) → ¬ (IsInPages source source.page s.place)
-    none s h = let a = h.1 in let b = h.2 in omega (arith, a, b)
+can_first source target rights slots rows = grind arith
 
 pub can_all : (source : Place) (page end : ℕ) (target : Place) (rights : RightsSet) (slots : Slots) (t : Tables) (rows : Rows) → IsIndexed slots t → NonePresentIn t source.space page end → CanMove source page target rights slots rows
     → CanMove source end target rights slots rows
@@ -160,11 +144,7 @@ module _ (source : Place) (end other key : ℕ) (target : Place) (rights : Right
 -- the second pass
 
 pub moves_first : (source target : Place) (slots : Slots) → Moves source source.page target slots slots
-moves_first source target slots = record {
-  moved = λ k s at h. absurd (let a = h.1 in let b = h.2 in omega (arith, a, b));
-  kept = λ k s at _. at;
-  vacant = λ k at. at;
-}
+moves_first source target slots = grind arith
 
 module _ (source : Place) (page end : ℕ) (target : Place) (old now : Slots) (t : Tables) (apart : source.space ≢ target.space) (m : Moves source page target old now) (i : IsIndexed now t) where
   -- a slot of the source's space is as it was
@@ -202,13 +182,7 @@ module _ (source : Place) (page end : ℕ) (target : Place) (old now : Slots) (t
       ]
 
   pub free_more : AreFree source end target old → source.page ≤ page → (next after : ℕ) → page ≤ next → after ≤ end → AreFree (record { space = source.space; page = next }) after (moved_place source target (record { space = source.space; page = next })) now
-  free_more free from next after le fits k s at h other o =
-      let a = h.1 in
-      let b = h.2 in
-      let here : s.place ≡ record { space = source.space; page = s.place.page } = λ i. record { space = h.0 i; page = s.place.page } in
-      let goes : moved_place (record { space = source.space; page = next }) (moved_place source target (record { space = source.space; page = next })) s.place ≡ moved_place source target (record { space = source.space; page = s.place.page }) =
-      λ i. record { space = target.space; page = (let e : s.place.page - next + (next - source.page + target.page) ≡ s.place.page - source.page + target.page = omega (arith, a, le, from) in e i) } in
-      free_there free from s.place.page k (subst (λ (p : Place). IsOf now p k) here (of_slot now k s at)) (omega (arith, a, le)) (omega (arith, b, fits)) other (subst (λ (p : Place). IsOf now p other) goes o)
+  free_more free from next after le fits k s at h other o = grind (arith, free_there, of_slot)
 
   pub moves_all : page ≤ end → NonePresentIn t source.space page end → Moves source end target old now
   moves_all le none = record {
@@ -234,9 +208,7 @@ module _ (source : Place) (page end : ℕ) (target : Place) (old now : Slots) (t
     in_end = (refl, (let a = n.from in omega (arith, a, from)), n.before)
 
     pub made_still : (rows : Rows) → HaveTables source end target old rows → is_made rows ((moved_place source target here).page / table_pages) ≡ true
-    made_still rows made =
-        let w = still key here found refl in
-        subst (λ (p : Place). is_made rows ((moved_place source target p).page / table_pages) ≡ true) w.3 (made key w.0 w.1 (subst (λ (p : Place). IsInPages source end p) (sym w.3) in_end))
+    made_still rows made = grind (arith, still, found, in_end)
 
     pub moves_more : (new : Slots) → SetsPlace key (moved_place source target here) now new → Moves source (next + 1) target old new
     moves_more new sets = record {
@@ -273,23 +245,7 @@ module _ (source : Place) (page end : ℕ) (target : Place) (old now : Slots) (t
 -- the pages up to one, and then those after it
 pub moves_joined : (source : Place) (page end : ℕ) (target : Place) (old now new : Slots) → source.space ≢ target.space → source.page ≤ page → page ≤ end → Moves source page target old now
     → Moves (record { space = source.space; page = page }) end (moved_place source target (record { space = source.space; page = page })) now new → Moves source end target old new
-moves_joined source page end target old now new apart from le m d = record {
-  moved = λ k s at h. elim (decide_in source page s.place) [
-    | inl e ↦ d.kept k (record s { place = moved_place source target s.place }) (m.moved k s at e) (λ i. apart (sym i.0))
-    | inr out ↦
-        let past = beyond s h out in
-        d.moved k s (m.kept k s at out) (h.0, past, h.2)
-        ∙ (λ i. Some (record s { place = record { space = target.space; page = (let e : s.place.page - page + (page - source.page + target.page) ≡ s.place.page - source.page + target.page = omega (arith, past, from) in e i) } }))
-  ];
-  kept = λ k s at out. d.kept k s (m.kept k s at (λ h. out (h.0, h.1, (let b = h.2 in omega (arith, le, b))))) (λ h. out (h.0, (let a = h.1 in omega (arith, a, from)), h.2));
-  vacant = λ k at. d.vacant k (m.vacant k at);
-}
-  where
-    beyond : (s : Slot) → IsInPages source end s.place → ¬ (IsInPages source page s.place) → page ≤ s.place.page
-    beyond s h out = elim (cases_lt s.place.page page) [
-      | inl lt ↦ absurd (out (h.0, h.1, lt))
-      | inr past ↦ past
-    ]
+moves_joined source page end target old now new apart from le m d = grind arith
 
 -- what was moved, as a contract sees it
 

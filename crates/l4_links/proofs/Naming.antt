@@ -47,10 +47,7 @@ one_place : (at : ℕ → Option Place) (key : ℕ) (p q : Place) → at key ≡
 one_place at key p q a b = same_some (sym a ∙ b)
 
 same_place : {X : Type 0} (a b : Place) → (a ≡ b → X) → (a ≢ b → X) → X
-same_place a b f g =
-    decided (eq_by_cmp tables.place_cmp (a.space, a.page) (b.space, b.page))
-    (λ t. f (ap (λ (p : ℕ × ℕ). record { space = p.0; page = p.1 }) (untie (a.space, a.page) (b.space, b.page) t)))
-    (λ t. g (λ e. let u : true ≡ false = sym (tie (a.space, a.page) (b.space, b.page) (ap (λ (p : Place). (p.space, p.page)) e)) ∙ t in cc))
+same_place a b f g = grind arith
 
 apart_places : (a b : Place) → a ≢ b → eq_by_cmp tables.place_cmp (a.space, a.page) (b.space, b.page) ≡ false
 apart_places a b ne = apart (a.space, a.page) (b.space, b.page) (λ e. ne (ap (λ (p : ℕ × ℕ). record { space = p.0; page = p.1 }) e))
@@ -128,20 +125,10 @@ abbrev without : (ℕ → Option Place) → ℕ → ℕ → Option Place
 without at key k = cond (k == key) None (at k)
 
 without_here : (at : ℕ → Option Place) (key : ℕ) → without at key key ≡ None
-without_here at key = decided (key == key)
-    (λ t. ap (λ b. cond b None (at key)) t)
-    (λ f. absurd (let e : true ≡ false = sym (tied key) ∙ f in cc))
-  where
-    tied : (k : ℕ) → (k == k) ≡ true
-    tied k = grind (arith, nat_tests)
+without_here at key = grind arith
 
 without_other : (at : ℕ → Option Place) (key k : ℕ) → k ≢ key → without at key k ≡ at k
-without_other at key k ne = decided (k == key)
-    (λ t. absurd (ne (same k key t)))
-    (λ f. ap (λ b. cond b None (at k)) f)
-  where
-    same : (a b : ℕ) → (a == b) ≡ true → a ≡ b
-    same a b t = grind (arith, nat_tests)
+without_other at key k ne = grind arith
 
 -- a key has got another place, which had no key
 named_renamed : (old new : ℕ → Option Place) (before after : Pages) (from to : Place) (key : ℕ) → Names old before → old key ≡ Some from → ((k : ℕ) → old k ≢ Some to) → new key ≡ Some to
@@ -195,11 +182,7 @@ abbrev pub Lies : (ℕ → Option Place) → set.FinSet nat_cmp → Type 0
 Lies at spaces = (key : ℕ) (p : Place) → at key ≡ Some p → IsTrue (set.contains spaces p.space) × IsPage p.page
 
 lies_of : (slots : Slots) (t : Tables) → IsIndexed slots t → Lies (places slots) t.spaces
-lies_of slots t i key p at =
-    let s = map_from (λ (s : Spot). s.place) (spots slots key) p at in (
-      subst (λ (z : Place). IsTrue (set.contains t.spaces z.space)) s.2 (i.housed key s.0 s.1),
-      subst (λ (z : Place). IsPage z.page) s.2 (i.fits key s.0 s.1),
-    )
+lies_of slots t i key p at = grind (arith, map_from)
 
 -- that a node can keep each key that has a place
 abbrev pub Keeps : (ℕ → Option Place) → Type 0
@@ -237,10 +220,7 @@ lies_with old new before after place key lies same here others there fits = subs
 
 -- and a node can keep each key where it can keep one more
 keeps_with : (old new : ℕ → Option Place) (key : ℕ) → Keeps old → IsKey key → ((o : ℕ) → o ≢ key → new o ≡ old o) → Keeps new
-keeps_with old new key keeps kept others k p at = elim (cases_eq k key) [
-  | inl e ↦ subst IsKey (sym e) kept
-  | inr ne ↦ keeps k p (sym (others k ne) ∙ at)
-]
+keeps_with old new key keeps kept others k p at = grind arith
 
 places_slot : (slots : Slots) (k : ℕ) (o : Option Slot) → slot_at slots k ≡ o → places slots k ≡ option_map {T = Slot} (λ s. s.place) o
 places_slot slots k o e = map_twice spot_of (λ (s : Spot). s.place) (slot_at slots k) ∙ ap (option_map {T = Slot} (λ s. s.place)) e
@@ -258,14 +238,7 @@ indexed_empty slots t none empty =
 
 -- the same pages of the same keys
 indexed_places : (old new : Slots) (t u : Tables) → ((k : ℕ) → places new k ≡ places old k) → u.pages ≡ t.pages → u.spaces ≡ t.spaces → IsIndexed old t → IsIndexed new u
-indexed_places old new t u same pages spaces i =
-    indexed_of new u
-    (λ q k. (
-      λ h. same k ∙ (i.names q k).0 (ap (λ (m : Pages). key_in m q) (sym pages) ∙ h),
-      λ s. ap (λ (m : Pages). key_in m q) pages ∙ (i.names q k).1 (sym (same k) ∙ s),
-    ))
-    (lies_left (places old) (places new) t.spaces u.spaces (lies_of old t i) spaces (λ k p at. (k, sym (same k) ∙ at)))
-    (keeps_left (places old) (places new) (keeps_of old t i) (λ k p at. (p, sym (same k) ∙ at)))
+indexed_places old new t u same pages spaces i = grind (arith, same, indexed_of, lies_left, lies_of, keeps_left, keeps_of)
 
 pub indexed_same : (old new : Slots) (t u : Tables) → ((k : ℕ) → spots new k ≡ spots old k) → u.pages ≡ t.pages → u.spaces ≡ t.spaces → IsIndexed old t → IsIndexed new u
 indexed_same old new t u same = indexed_places old new t u (λ k. ap (option_map {T = Spot} (λ s. s.place)) (same k))
@@ -274,14 +247,7 @@ pub indexed_wanted : (old new : Slots) (t : Tables) → ((k : ℕ) → places ne
 indexed_wanted old new t same = indexed_places old new t t same refl refl
 
 pub places_wanted : (old new : Slots) (key : ℕ) (wanted : Bool) → SetsWanted key wanted old new → (k : ℕ) → places new k ≡ places old k
-places_wanted old new key wanted c k = elim (cases_eq k key) [
-  | inl e ↦ ap (places new) e ∙ ap (λ (z : Option Slot). option_map {T = Spot} (λ s. s.place) (option_map spot_of z)) c.here ∙ over (slot_at old key) ∙ ap (places old) (sym e)
-  | inr ne ↦ ap (λ (z : Option Slot). option_map {T = Spot} (λ s. s.place) (option_map spot_of z)) (c.others k ne)
-]
-  where
-    over : (o : Option Slot) → option_map {T = Spot} (λ s. s.place) (option_map spot_of (option_map (λ (s : Slot). record s { wanted = wanted }) o)) ≡ option_map {T = Spot} (λ s. s.place) (option_map spot_of o)
-    over None = refl
-    over (Some s) = refl
+places_wanted old new key wanted c k = grind arith
 
 pub indexed_added : (old new : Slots) (t u : Tables) (place : Place) (key : ℕ) (slot : Slot) → IsIndexed old t → ((k : ℕ) → ¬ (IsOf old place k)) → IsKey key → slot_at old key ≡ None → slot.place ≡ place → slot_at new key ≡ Some slot
     → ((o : ℕ) → o ≢ key → slot_at new o ≡ slot_at old o) → IsTrue (set.contains t.spaces place.space) → IsPage place.page → u.pages ≡ map.insert t.pages (place.space, place.page) key → u.spaces ≡ t.spaces → IsIndexed new u
@@ -360,15 +326,7 @@ module _ (old mid new : Slots) (key blank : ℕ) (from to : Place) (rights : Rig
   given p s = record s { place = p; node = option_map (λ (n : Node). record n { granted = Some rights }) s.node }
 
   pub taken : TakesOver key blank rights old new
-  taken =
-      let page = map_from (λ (s : Slot). s.place) (slot_at old blank) to was_to in
-      record {
-        page = page.0;
-        was = page.1;
-        here = g.here ∙ ap (option_map (given to)) (others key other) ∙ ap (λ (p : Place). option_map (given p) (slot_at old key)) (sym page.2);
-        gone = g.others blank (λ e. other (sym e)) ∙ gone;
-        others = λ o nk nb. g.others o nk ∙ others o nb;
-      }
+  taken = grind arith
 
   pub indexed_taken : (t m u : Tables) → m.pages ≡ map.insert t.pages (to.space, to.page) key → u.pages ≡ map.remove m.pages (from.space, from.page) → u.spaces ≡ t.spaces → IsIndexed old t → IsIndexed new u
   indexed_taken t m u put drop spaces i =

@@ -25,19 +25,10 @@ no_node slots ks key f none low l =
 -- a page that has no such key is passed over
 module _ (slots : Slots) (t : Tables) (space page end : ℕ) (none : (key : ℕ) → key_of t space page ≡ Some key → ¬ (IsParent slots key)) where
   pub none_from : (last : ℕ) → NoParentPage slots t space (page + 1) last → NoParentPage slots t space page last
-  none_from last later other key le lt is = elim (cases_lt page other) [
-    | inl after ↦ later other key (omega (arith, after)) lt is
-    | inr same ↦ (let e : other ≡ page = omega (arith, le, same) in none key (sym (ap (key_of t space) e) ∙ is))
-  ]
+  none_from last later other key le lt is = grind arith
 
   pub found_from : (next key : ℕ) → IsParentPage slots t space (page + 1) end next key → IsParentPage slots t space page end next key
-  found_from next key found = record {
-    named = found.named;
-    parent = found.parent;
-    from = (let from = found.from in omega (arith, from));
-    before = found.before;
-    least = none_from next found.least;
-  }
+  found_from next key found = grind arith
 
 -- no page before this one has a key that something descends from, and none from the end on is spoken of
 abbrev pub NoneYet : Slots → Tables → ℕ → ℕ → ℕ → ℕ → Type 0

@@ -90,35 +90,12 @@ position_new (x ∷ xs) p k ys ne out =
 
 -- so it stands straight after that one
 pub stands_after : (at : ℕ → Option Limb) (xs : List ℕ) (p k : ℕ) (ys : List ℕ) → at k ≡ None → k ≢ p → ¬ (IsIn xs p) → ¬ (IsIn xs k) → StandsAfter at (position (xs ++ p ∷ ys)) (position (xs ++ p ∷ k ∷ ys)) p k
-stands_after at xs p k ys vacant ne out_p out_k =
-    let here = position_parted xs p ys out_p in
-    let other : (a : ℕ) (x : Limb) → at a ≡ Some x → a ≢ k = λ a x is e. no_some x (sym vacant ∙ sym (ap at e) ∙ is) in
-    record {
-      here = (let n = position_new xs p k ys ne out_k in omega (arith, n, here));
-      low = λ a x is le. elim (position_in xs p k ys a (other a x is) out_p) [
-        | inl r ↦ r.1
-        | inr r ↦ absurd (let r0 = r.0 in omega (arith, le, here, r0))
-      ];
-      high = λ a x is lt. elim (position_in xs p k ys a (other a x is) out_p) [
-        | inl r ↦ absurd (let r0 = r.0 in omega (arith, lt, here, r0))
-        | inr r ↦ r.1
-      ];
-    }
+stands_after at xs p k ys vacant ne out_p out_k = grind (arith, position_parted, no_some, position_new, position_in)
 
 -- keys that stay where they were, or move back by as many places as were taken out before them, keep their order
 pub order_back : (at : ℕ → Option Limb) (pos later : ℕ → ℕ) (n gone : ℕ)
     → ((a : ℕ) (x : Limb) → at a ≡ Some x → ((pos a < n) × (later a ≡ pos a)) ⊎ ((n + gone ≤ pos a) × (later a + gone ≡ pos a))) → SameOrder at pos later
-order_back at pos later n gone moved = record {
-  onward = λ a b x y is_a is_b lt. (both (moved a x is_a) (moved b y is_b)).0 lt;
-  back = λ a b x y is_a is_b lt. (both (moved a x is_a) (moved b y is_b)).1 lt;
-}
-  where
-    both : {a b : ℕ} → ((pos a < n) × (later a ≡ pos a)) ⊎ ((n + gone ≤ pos a) × (later a + gone ≡ pos a)) → ((pos b < n) × (later b ≡ pos b)) ⊎ ((n + gone ≤ pos b) × (later b + gone ≡ pos b))
-        → (pos a < pos b → later a < later b) × (later a < later b → pos a < pos b)
-    both (inl (p, q)) (inl (r, s)) = (λ lt. omega (arith, lt, p, q, r, s), λ lt. omega (arith, lt, p, q, r, s))
-    both (inl (p, q)) (inr (r, s)) = (λ lt. omega (arith, lt, p, q, r, s), λ lt. omega (arith, lt, p, q, r, s))
-    both (inr (p, q)) (inl (r, s)) = (λ lt. omega (arith, lt, p, q, r, s), λ lt. omega (arith, lt, p, q, r, s))
-    both (inr (p, q)) (inr (r, s)) = (λ lt. omega (arith, lt, p, q, r, s), λ lt. omega (arith, lt, p, q, r, s))
+order_back at pos later n gone moved = grind arith
 
 -- so do the keys that are left without one
 pub same_order_out : (at : ℕ → Option Limb) (xs : List ℕ) (k : ℕ) (ys : List ℕ) → at k ≡ None → SameOrder at (position (xs ++ k ∷ ys)) (position (xs ++ ys))

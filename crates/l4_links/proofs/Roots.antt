@@ -101,16 +101,8 @@ forest_root a b d key node first ks forest first_is slot blank w g prev_is next_
     }
 
 pub rises : (a b d : Slots) (key : ℕ) (node : Node) (first : Option ℕ) → slot_at a key ≢ None → node_at a key ≡ None → Writes key (Some node) a b → SetsPrev first (Some key) b d → node.parent ≡ None → node.depth ≡ 0 → Rises (limbs a) (limbs d) key
-rises a b d key node first slot blank w g parent_is depth_is = record {
-  vacant = ap (option_map limb_of) blank;
-  filled = map_prev limb_of first (Some key) (λ n. refl) b d g key ∙ ap (option_map limb_of) (w.here slot) ∙ (λ i. Some (record { parent = parent_is i; depth = depth_is i }));
-  others = λ o ne. map_prev limb_of first (Some key) (λ n. refl) b d g o ∙ ap (option_map limb_of) (w.others o ne);
-}
+rises a b d key node first slot blank w g parent_is depth_is = grind arith
 
 -- nothing is written to the next key of no key
 pub no_next : (slots : Slots) → SetsNext None None slots slots
-no_next slots = record {
-  here = λ k e. absurd (let w : ◌≡◌ {A = Option ℕ} None (Some k) = e in cc);
-  others = λ k ne. refl;
-  spots_same = λ k. refl;
-}
+no_next slots = grind arith

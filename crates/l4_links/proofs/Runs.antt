@@ -11,10 +11,7 @@ pub data Order (a b : ℕ) : Type 0 where
   above : b < a → Order a b
 
 pub order : (a b : ℕ) → Order a b
-order a b = elim (cases_lt a b) [
-  | inl lt ↦ below lt
-  | inr le ↦ elim (cases_lt b a) [ inl lt ↦ above lt | inr ge ↦ same (omega arith) ]
-]
+order a b = grind arith
 
 -- one key has one limb
 pub one_limb : (at : ℕ → Option Limb) (a : ℕ) {x y : Limb} → at a ≡ Some x → at a ≡ Some y → x ≡ y
@@ -27,11 +24,7 @@ pub record HasLimb (at : ℕ → Option Limb) (a p : ℕ) : Type 0 where
   pub up : limb.parent ≡ Some p
 
 pub has_limb : (at : ℕ → Option Limb) (a p : ℕ) → parent_at at a ≡ Some p → HasLimb at a p
-has_limb at a p up =
-    elim (at a) as (λ o. at a ≡ o → option_and_then (λ (m : Limb). m.parent) o ≡ Some p → HasLimb at a p) [
-      | None ↦ λ e h. absurd (let k : ◌≡◌ {A = Option ℕ} None (Some p) = h in cc)
-      | Some m ↦ λ e h. record { limb = m; is = e; up = h }
-    ] refl up
+has_limb at a p up = grind arith
 
 pub parent_is : (at : ℕ → Option Limb) (a : ℕ) (x : Limb) → at a ≡ Some x → parent_at at a ≡ x.parent
 parent_is at a x is = ap (option_and_then (λ (m : Limb). m.parent)) is

@@ -36,22 +36,10 @@ abbrev seen_node : ℕ → Node → Node
 seen_node stamp n = record n { seen = stamp; mark = 0 }
 
 sees_same : (key stamp : ℕ) (old new : Slots) → Sees key stamp old new → IsSame old new
-sees_same key stamp old new c = record {
-  limbs_same = map_at limb_of (seen_node stamp) (λ n. refl) key old new c.here c.others;
-  links_same = map_at link_of (seen_node stamp) (λ n. refl) key old new c.here c.others;
-  values_same = map_at worth_of (seen_node stamp) (λ n. refl) key old new c.here c.others;
-  dooms_same = map_at doom_of (seen_node stamp) (λ n. refl) key old new c.here c.others;
-  spots_same = c.spots_same;
-}
+sees_same key stamp old new c = grind (arith, map_at, limb_of, link_of, worth_of, doom_of)
 
 closes_same : (key stamp : ℕ) (end : Option ℕ) (old new : Slots) → Closes key stamp end old new → IsSame old new
-closes_same key stamp end old new c = record {
-  limbs_same = closed_same limb_of key stamp end old new c (λ n. refl);
-  links_same = closed_same link_of key stamp end old new c (λ n. refl);
-  values_same = closed_same worth_of key stamp end old new c (λ n. refl);
-  dooms_same = closed_same doom_of key stamp end old new c (λ n. refl);
-  spots_same = c.spots_same;
-}
+closes_same key stamp end old new c = grind (arith, closed_same, limb_of, link_of, worth_of, doom_of)
 
 -- what was looked at: of what was seen, no source descends, or the walk has passed it
 pub record SeekSoFar (old cur : Slots) (top depth stamp : ℕ) (at : Option ℕ) (count : ℕ) : Type 0 where

@@ -106,14 +106,7 @@ place_next slots ks key node ordered at =
 
 -- from a key a walk may go on at the next one
 pub passes_next : (slots : Slots) (Holds : ℕ → Type 0) (ks : List ℕ) (key : ℕ) (node : Node) → IsOrder slots ks → node_at slots key ≡ Some node → Passes (limbs slots) Holds ks key node.depth node.next
-passes_next slots Holds ks key node ordered at =
-    let p = place_next slots ks key node ordered at in
-    record {
-      beyond = omega (arith, p);
-      live = λ b e. next_live slots ks key node ordered at b e;
-      deeper = λ b y is lo hi. absurd (omega (arith, p, lo, hi));
-      each = λ j lo hi. absurd (omega (arith, p, lo, hi));
-    }
+passes_next slots Holds ks key node ordered at = grind (arith, place_next, next_live)
 
 -- or at the end of its run, where that was done
 pub passes_on : (slots : Slots) (Holds : ℕ → Type 0) (ks : List ℕ) (key stamp : ℕ) (node : Node) (on : Option ℕ) → IsOrder slots ks → node_at slots key ≡ Some node → AreDone Holds stamp slots ks
@@ -157,10 +150,7 @@ pub stops_end : (at : ℕ → Option Limb) (depth : ℕ) (end : Option ℕ) → 
 stops_end at depth end none b y is at_b = no_some b (sym none ∙ is)
 
 pub stops_at : (slots : Slots) (depth key : ℕ) (end : Option ℕ) (low : Node) → end ≡ Some key → node_at slots key ≡ Some low → low.depth ≤ depth → Stops (limbs slots) depth end
-stops_at slots depth key end low is_key at_key le b y is at_b =
-    let e : b ≡ key = same_some (sym is ∙ is_key) in
-    let d : y.depth ≡ low.depth = ap (λ (z : Limb). z.depth) (one_limb (limbs slots) b at_b (ap (limbs slots) e ∙ ap (option_map limb_of) at_key)) in
-    omega (arith, d, le)
+stops_at slots depth key end low is_key at_key le b y is at_b = grind arith
 
 -- what descends from a key stands before its run's end
 pub leads_range : (slots : Slots) (Holds : ℕ → Type 0) (ks : List ℕ) (top : ℕ) (end : Option ℕ) (head : Limb) → IsForest slots ks → IsDone (limbs slots) Holds ks top head.depth end → limbs slots top ≡ Some head
@@ -220,20 +210,12 @@ KeepsMarks stamp old new = (k : ℕ) (n : Node) → node_at new k ≡ Some n →
 
 pub keeps_written : (f : Node → Node) (stamp key : ℕ) (old new : Slots) → ((n : Node) → IsMarked stamp (f n).mark → IsMarked stamp n.mark) → ((n : Node) → (f n).depth ≡ n.depth) → ((n : Node) → (f n).end ≡ n.end)
     → node_at new key ≡ option_map f (node_at old key) → ((o : ℕ) → o ≢ key → node_at new o ≡ node_at old o) → KeepsMarks stamp old new
-keeps_written f stamp key old new marked depths ends here others k n at m = elim (written_was f key old new here others k n at) [
-  | inl was ↦ (n, was, m, refl, refl)
-  | inr w ↦ (w.0, w.1, marked w.0 (subst (λ (z : Node). IsMarked stamp z.mark) w.2 m), ap (λ (z : Node). z.depth) w.2 ∙ depths w.0, ap (λ (z : Node). z.end) w.2 ∙ ends w.0)
-]
+keeps_written f stamp key old new marked depths ends here others k n at m = grind arith
 
 -- what holds of a run holds of it after a write that leaves the trees
 module _ (P Q : ℕ → Type 0) (old new : Slots) (limbs_same : (k : ℕ) → limbs new k ≡ limbs old k) (still : (j : ℕ) → P j → Q j) where
   pub passes_same : {ks : List ℕ} {top depth : ℕ} {end : Option ℕ} → Passes (limbs old) P ks top depth end → Passes (limbs new) Q ks top depth end
-  passes_same p = record {
-    beyond = p.beyond;
-    live = p.live;
-    deeper = λ b y is lo hi. p.deeper b y (sym (limbs_same b) ∙ is) lo hi;
-    each = λ j lo hi. still j (p.each j lo hi);
-  }
+  passes_same p = grind arith
 
   pub done_same : {ks : List ℕ} {top depth : ℕ} {end : Option ℕ} → IsDone (limbs old) P ks top depth end → IsDone (limbs new) Q ks top depth end
   done_same d = record { passes = passes_same d.passes; stops = λ b y e is. d.stops b y e (sym (limbs_same b) ∙ is) }
@@ -295,11 +277,7 @@ walking_there Holds stamp slots ks top depth count key at c is none = (let n = i
 
 -- fewer steps are taken than there were slots
 pub walking_ends : (Holds : ℕ → Type 0) (stamp : ℕ) (old cur : Slots) (ks : List ℕ) (top depth count : ℕ) (at : Option ℕ) → IsWalking Holds stamp cur ks top depth at count → ((k : ℕ) → limbs cur k ≡ limbs old k) → ((k : ℕ) → links cur k ≡ links old k) → count < length old
-walking_ends Holds stamp old cur ks top depth count at c limbs_same links_same =
-    let fit = order_fits old ks (forest_links cur old ks (λ k. sym (limbs_same k)) (λ k. sym (links_same k)) c.forest).order in
-    let p = place_le ks at c.passes.live in
-    let r = c.reached in
-    omega (arith, fit, p, r)
+walking_ends Holds stamp old cur ks top depth count at c limbs_same links_same = grind (arith, order_fits, forest_links, order, place_le)
 
 -- the end of a walk writes this to its top
 abbrev pub closed_node : ℕ → Option ℕ → Node → Node
@@ -340,24 +318,16 @@ capped_keeps key stamp cap old new c = keeps_written (capped_node cap c.doomed) 
 
 -- low rights stay low, and those of the key become so
 pub capped_low : (key : ℕ) (cap low : RightsSet) (old new : Slots) → Caps key cap old new → (j : ℕ) → HasLow low old j → HasLow low new j
-capped_low key cap low old new c j has n at = elim (written_was (capped_node cap c.doomed) key old new c.here c.others j n at) [
-  | inl was ↦ has n was
-  | inr w ↦ subst (λ (z : Node). IsLow low z.rights) (sym w.2) (low_stays w.0.rights cap low (has w.0 w.1))
-]
+capped_low key cap low old new c j has n at = grind arith
 
 low_capped : (key : ℕ) (cap : RightsSet) (old new : Slots) → Caps key cap old new → HasLow cap new key
-low_capped key cap old new c n at =
-    let w = map_from (capped_node cap c.doomed) (node_at old key) n (sym c.here ∙ at) in
-    subst (λ (z : Node). IsLow cap z.rights) w.2 (low_of_common w.0.rights cap)
+low_capped key cap old new c n at = grind arith
 
 pub values_capped : (key : ℕ) (cap : RightsSet) (old new : Slots) → Caps key cap old new → values new key ≡ option_map (capped_worth cap) (values old key)
 values_capped key cap old new c = ap (option_map worth_of) c.here ∙ map_over (capped_node cap c.doomed) worth_of worth_of (capped_worth cap) (λ n. refl) (node_at old key)
 
 closed_low : (key stamp : ℕ) (end : Option ℕ) (cap : RightsSet) (old new : Slots) → Closes key stamp end old new → (j : ℕ) → HasLow cap old j → HasLow cap new j
-closed_low key stamp end cap old new c j has n at = elim (written_was (closed_node stamp end) key old new c.here c.others j n at) [
-  | inl was ↦ has n was
-  | inr w ↦ subst (λ (z : Node). IsLow cap z.rights) (sym w.2) (has w.0 w.1)
-]
+closed_low key stamp end cap old new c j has n at = grind arith
 
 -- what a walk that caps rights has been over
 pub record WalkSoFar (old cur : Slots) (top depth : ℕ) (cap : RightsSet) (stamp : ℕ) (at : Option ℕ) (count : ℕ) : Type 0 where
