@@ -180,20 +180,7 @@ module _ (slots : Slots) (top : ℕ) (at : Option ℕ) (run : List ℕ) (head : 
       let r0 = r.0 in
       let r1 = r.1 in
       let is_k : limbs slots k ≡ Some (limb_of n.0) = ap (option_map limb_of) n.1 in
-      record {
-        top = head;
-        at_top = at_top;
-        limb = limb_of n.0;
-        at_limb = is_k;
-        after = omega (arith, t, r0);
-        deeper = c.deeper k (limb_of n.0) i is_k;
-        between = λ b y is lo hi. elim (stands c.front top run c.back b (limb_in slots all c.forest.order b y is)) [
-          | in_front j ↦ absurd (let q = pos_front c.front top run c.back once b j in omega (arith, q, lo, t))
-          | is_top e ↦ absurd (let q : position all top ≡ position all b = ap (position all) e in omega (arith, q, lo))
-          | in_run j ↦ c.deeper b y j is
-          | in_back j ↦ absurd (let q = pos_back c.front top run c.back once b j in omega (arith, q, hi, r1))
-        ];
-      }
+      grind (arith, in_list, in_right, in_left, pos_top, pos_run, limb_of, stands, limb_in, pos_front, pos_back)
 
   -- and the other way round
   run_from_run : (k : ℕ) → IsInRun (limbs slots) (position all) top k → IsIn run k

@@ -64,15 +64,7 @@ sound_empty walk =
       order = record { once = tt; linked = tt; all = λ k n at. no_some n at };
       tree = record { apart = λ a b x y is_a is_b e. no_some x is_a; top = λ a x is e. no_some x is; under = λ a p x is up. no_some x is };
     } in
-    record {
-      keys = [];
-      forest = forest;
-      first_is = refl;
-      within = λ k p x l h is up v w. no_some x is;
-      stamped = λ some k m is. no_some m is;
-      capped = λ _. none_marks (HasLow (set_of_bits walk) []) [] [] 1 forest (λ k m is. no_some m is);
-      sought = λ _. none_seen [] [] 1 forest (λ k m is. no_some m is);
-    }
+    grind arith
 
 -- the nodes are the same, whatever blanks came or went
 module _ (a b : Slots) (same : (k : ℕ) → node_at b k ≡ node_at a k) where

@@ -130,20 +130,7 @@ passes_more at Holds ks top depth key x on c is_key deep here a =
     let before = c.beyond in
     let behind = a.beyond in
     let one : (j : ℕ) → position ks j ≡ position ks key → j ≡ key = λ j e. position_one ks j key (c.live key refl) e in
-    record {
-      beyond = omega (arith, before, behind);
-      live = a.live;
-      deeper = λ b y is lo hi. elim (order (position ks b) (position ks key)) [
-        | below lt ↦ c.deeper b y is lo lt
-        | same eq ↦ (let d : y.depth ≡ x.depth = ap (λ (z : Limb). z.depth) (one_limb at b is (ap at (one b eq) ∙ is_key)) in omega (arith, d, deep))
-        | above gt ↦ (let d = a.deeper b y is gt hi in omega (arith, d, deep))
-      ];
-      each = λ j lo hi. elim (order (position ks j) (position ks key)) [
-        | below lt ↦ c.each j lo lt
-        | same eq ↦ subst Holds (sym (one j eq)) here
-        | above gt ↦ a.each j gt hi
-      ];
-    }
+    grind arith
 
 -- where a walk stops
 pub stops_end : (at : ℕ → Option Limb) (depth : ℕ) (end : Option ℕ) → end ≡ None → Stops at depth end
