@@ -42,10 +42,7 @@ depth_kept slots ks k n free f few at kept none =
     let is : limbs slots k ≡ Some x = ap (option_map (λ (m : Node). record { parent = m.parent; depth = m.depth })) at in
     let d = depth_within (limbs slots) (position ks) f.tree n.depth k x is (omega arith) in
     let p = position_within ks k (f.order.all k n at) in
-    let each : (j : ℕ) → IsIn (free ∷ ks) j → j < no_key = λ j i. elim i [
-      | inl e ↦ subst (λ (z : ℕ). z < no_key) e kept
-      | inr h ↦ (let b = in_list slots ks f.order j h in node_key slots j b.0 few b.1)
-    ] in
+    let each : (j : ℕ) → IsIn (free ∷ ks) j → j < no_key = λ j i. grind (arith, inl, subst, inr, in_list, node_key) in
     let l = once_fits no_key (free ∷ ks) (not_in_list slots ks f.order free none, f.order.once) each in
     let m : length (free ∷ ks) ≡ length ks + 1 = omega arith in
     omega (arith, d, p, l, m)

@@ -32,9 +32,7 @@ position_parted (x ∷ xs) k ys out =
 pub position_out : (xs : List ℕ) (k : ℕ) (ys : List ℕ) (a : ℕ) → a ≢ k
     → ((position (xs ++ k ∷ ys) a < length xs) × (position (xs ++ ys) a ≡ position (xs ++ k ∷ ys) a))
     ⊎ ((length xs < position (xs ++ k ∷ ys) a) × (position (xs ++ ys) a + 1 ≡ position (xs ++ k ∷ ys) a))
-position_out [] k ys a ne =
-    let h = position_further k ys a (λ e. ne (sym e)) in
-    inr (omega (arith, h), sym h)
+position_out [] k ys a ne = grind arith
 position_out (x ∷ xs) k ys a ne = elim (cases_eq x a) [
   | inl e ↦
       let p = position_here x (xs ++ k ∷ ys) a e in
@@ -53,17 +51,7 @@ position_out (x ∷ xs) k ys a ne = elim (cases_eq x a) [
 pub position_in : (xs : List ℕ) (p k : ℕ) (ys : List ℕ) (a : ℕ) → a ≢ k → ¬ (IsIn xs p)
     → ((position (xs ++ p ∷ ys) a ≤ length xs) × (position (xs ++ p ∷ k ∷ ys) a ≡ position (xs ++ p ∷ ys) a))
     ⊎ ((length xs < position (xs ++ p ∷ ys) a) × (position (xs ++ p ∷ k ∷ ys) a ≡ position (xs ++ p ∷ ys) a + 1))
-position_in [] p k ys a ne out = elim (cases_eq p a) [
-  | inl e ↦
-      let u = position_here p ys a e in
-      let v = position_here p (k ∷ ys) a e in
-      inl (omega (arith, u), v ∙ sym u)
-  | inr n ↦
-      let u = position_further p ys a n in
-      let v = position_further p (k ∷ ys) a n in
-      let w = position_further k ys a (λ e. ne (sym e)) in
-      inr (omega (arith, u), omega (arith, u, v, w))
-]
+position_in [] p k ys a ne out = grind arith
 position_in (x ∷ xs) p k ys a ne out = elim (cases_eq x a) [
   | inl e ↦
       let u = position_here x (xs ++ p ∷ ys) a e in
@@ -79,10 +67,7 @@ position_in (x ∷ xs) p k ys a ne out = elim (cases_eq x a) [
 ]
 
 pub position_new : (xs : List ℕ) (p k : ℕ) (ys : List ℕ) → k ≢ p → ¬ (IsIn xs k) → position (xs ++ p ∷ k ∷ ys) k ≡ length xs + 1
-position_new [] p k ys ne out =
-    let u = position_further p (k ∷ ys) k (λ e. ne (sym e)) in
-    let v = position_here k ys k refl in
-    omega (arith, u, v)
+position_new [] p k ys ne out = grind arith
 position_new (x ∷ xs) p k ys ne out =
     let u = position_further x (xs ++ p ∷ k ∷ ys) k (λ e. out (inl e)) in
     let r = position_new xs p k ys ne (λ i. out (inr i)) in

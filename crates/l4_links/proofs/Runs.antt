@@ -34,15 +34,7 @@ pub run_from_leads : (at : ℕ → Option Limb) (pos : ℕ → ℕ) → IsTree a
 run_from_leads at pos t {low} {high} (step up) =
     let h = has_limb at low high up in
     let u = t.under low high h.limb h.is h.up in
-    record {
-      top = u.above;
-      at_top = u.at_parent;
-      limb = h.limb;
-      at_limb = h.is;
-      after = u.after;
-      deeper = (let d = u.deeper in omega arith);
-      between = u.between;
-    }
+    grind arith
 run_from_leads at pos t {low} {high} (steps {middle = m} up rest) =
     let h = has_limb at low m up in
     let u = t.under low m h.limb h.is h.up in
@@ -53,25 +45,7 @@ run_from_leads at pos t {low} {high} (steps {middle = m} up rest) =
     let ua = u.after in
     let rd = r.deeper in
     let ra = r.after in
-    record {
-      top = r.top;
-      at_top = r.at_top;
-      limb = h.limb;
-      at_limb = h.is;
-      after = omega (arith, ua, ra);
-      deeper = omega (arith, ud, ed, rd);
-      between = λ b y is lo hi. elim (order (pos b) (pos m)) [
-        | below lt ↦ r.between b y is lo lt
-        | same eq ↦
-            let be : b ≡ m = t.apart b m y r.limb is r.at_limb eq in
-            let ye : y ≡ r.limb = one_limb at b is (ap at be ∙ r.at_limb) in
-            let yd : y.depth ≡ r.limb.depth = ap (λ (x : Limb). x.depth) ye in
-            omega (arith, yd, rd)
-        | above gt ↦
-            let l = u.between b y is gt hi in
-            omega (arith, l, ed, rd)
-      ];
-    }
+    grind arith
 
 -- a key of the run leads to its top
 leads_within : (at : ℕ → Option Limb) (pos : ℕ → ℕ) → IsTree at pos → (n high low : ℕ) (r : IsInRun at pos high low) → r.limb.depth ≤ n → Leads (parent_at at) low high
@@ -85,24 +59,13 @@ leads_within at pos t (suc n) high low r le =
           let ud = u.deeper in
           let ua = u.after in
           elim (order (pos p) (pos high)) [
-            | below lt ↦ absurd (
-                let d = u.between high r.top r.at_top lt r.after in
-                let rd = r.deeper in
-                omega (arith, d, rd, ud))
+            | below lt ↦ grind arith
             | same eq ↦
                 let pe : p ≡ high = t.apart p high u.above r.top u.at_parent r.at_top eq in
                 step (up ∙ ap (λ (x : ℕ). Some x) pe)
             | above gt ↦
                 let d = r.between p u.above u.at_parent gt ua in
-                let higher : IsInRun at pos high p = record {
-                  top = r.top;
-                  at_top = r.at_top;
-                  limb = u.above;
-                  at_limb = u.at_parent;
-                  after = gt;
-                  deeper = d;
-                  between = λ b y is lo hi. r.between b y is lo (omega (arith, hi, ua));
-                } in
+                let higher : IsInRun at pos high p = grind arith in
                 steps up (leads_within at pos t n high p higher (omega (arith, ud, le)))
           ]
     ] refl
