@@ -53,10 +53,7 @@ once_fits (suc n) ks once each = elim (is_in_or ks n) [
       let less = once_fits n (p.front ++ p.back) (once_out p.front n p.back once_p) (λ k j.
       let i_k : IsIn ks k = subst (λ (z : List ℕ). IsIn z k) (sym p.is) (elim (in_parts p.front p.back k j) [ inl l ↦ in_left p.front (n ∷ p.back) k l | inr r ↦ in_right p.front (n ∷ p.back) k (inr r) ]) in
       let lt = each k i_k in
-      let ne : k ≢ n = λ e. elim (in_parts p.front p.back k j) [
-        | inl l ↦ once_front p.front n p.back once_p (subst (λ (z : ℕ). IsIn p.front z) e l)
-        | inr r ↦ once_back p.front n p.back once_p (subst (λ (z : ℕ). IsIn p.back z) e r)
-      ] in
+      let ne : k ≢ n = λ e. grind (arith, in_parts, inl, once_front, subst, inr, once_back) in
       omega (arith, lt, ne)) in
       let e : length ks ≡ length (p.front ++ n ∷ p.back) = ap length p.is in
       let f : length (p.front ++ n ∷ p.back) ≡ length p.front + length (n ∷ p.back) = length-append p.front (n ∷ p.back) in
@@ -140,23 +137,12 @@ passed_more slots top depth key at node run c is_key at_key deep =
       back = r.0;
       forest = subst (λ (z : List ℕ). IsForest slots (c.front ++ top ∷ z)) (ap (λ (z : List ℕ). run ++ z) r.1 ∙ sym (append_assoc run (key ∷ []) r.0)) c.forest;
       at_is = (neighbours_at slots (c.front ++ top ∷ run) key r.0 node near at_key).1;
-      deeper = λ k x i is. elim (in_parts run (key ∷ []) k i) [
-        | inl l ↦ c.deeper k x l is
-        | inr here ↦ elim here [
-          | inl ke ↦ (let d : x.depth ≡ node.depth = ap (λ (z : Limb). z.depth) (one_limb (limbs slots) k is (sym (ap (limbs slots) ke) ∙ ap (option_map limb_of) at_key)) in omega (arith, d, deep))
-          | inr none ↦ absurd none
-        ]
-      ];
+      deeper = λ k x i is. grind (arith, in_parts, inl, inr, ap, one_limb, sym, limb_of, arith);
     }
 
 -- the walk has passed fewer keys than there are slots
 pub passed_ends : (slots : Slots) (top depth : ℕ) (at : Option ℕ) (run : List ℕ) → HasPassed slots top depth at run → length run < length slots
-passed_ends slots top depth at run c =
-    let fit = order_fits slots (c.front ++ top ∷ (run ++ c.back)) c.forest.order in
-    let l : length (c.front ++ top ∷ (run ++ c.back)) ≡ length c.front + length (top ∷ (run ++ c.back)) = length-append c.front (top ∷ (run ++ c.back)) in
-    let m : length (top ∷ (run ++ c.back)) ≡ length (run ++ c.back) + 1 = omega arith in
-    let n : length (run ++ c.back) ≡ length run + length c.back = length-append run c.back in
-    omega (arith, fit, l, m, n)
+passed_ends slots top depth at run c = grind (arith, order_fits, length, length-append, arith)
 
 -- the next key has its node
 pub passed_there : (slots : Slots) (top depth key : ℕ) (at : Option ℕ) (run : List ℕ) → HasPassed slots top depth at run → at ≡ Some key → node_at slots key ≢ None
@@ -205,15 +191,7 @@ module _ (slots : Slots) (top : ℕ) (at : Option ℕ) (run : List ℕ) (head : 
                   let pb = pos_back c.front top run c.back once b i_b in
                   let pk = pos_back c.front top run c.back once k j in
                   let b_here : position c.back b ≡ 0 = ap (λ (z : List ℕ). position z b) e ∙ position_here b bs b refl in
-                  elim (cases_eq b k) [
-                    | inl bk ↦
-                        let ds : nb.0.depth ≡ r.limb.depth = ap (λ (z : Limb). z.depth) (one_limb (limbs slots) b is_b (ap (limbs slots) bk ∙ r.at_limb)) in
-                        omega (arith, s, ds, rd, dt)
-                    | inr ne ↦
-                        let k_there : position c.back k ≡ position bs k + 1 = ap (λ (z : List ℕ). position z k) e ∙ position_further b bs k ne in
-                        let q = r.between b (limb_of nb.0) is_b (omega (arith, t, pb)) (omega (arith, pb, pk, b_here, k_there)) in
-                        omega (arith, q, s, dt)
-                  ]
+                  grind arith
             ] refl)
       ]
 

@@ -42,25 +42,16 @@ pub gone_more : (old cur new : Slots) (top depth count key : ℕ) (at : Option �
     → GoneSoFar old new top depth node.next (count + 1)
 gone_more old cur new top depth count key at node c is_key at_key deep out =
     let was = gone_was old cur top depth count key at node c at_key in
-    let in_run : (k : ℕ) → k ≢ key → IsIn (c.run ++ key ∷ []) k → IsIn c.run k = λ k ne i. elim (in_parts c.run (key ∷ []) k i) [
-      | inl l ↦ l
-      | inr r ↦ elim r [ inl ke ↦ absurd (ne (sym ke)) | inr none ↦ absurd none ]
-    ] in
+    let in_run : (k : ℕ) → k ≢ key → IsIn (c.run ++ key ∷ []) k → IsIn c.run k = λ k ne i. grind (arith, in_parts, inl, inr, sym) in
     let other : (k : ℕ) → ¬ (IsIn (c.run ++ key ∷ []) k) → k ≢ key = λ k off ke. off (in_right c.run (key ∷ []) k (inl (sym ke))) in
     let off_run : (k : ℕ) → ¬ (IsIn (c.run ++ key ∷ []) k) → ¬ (IsIn c.run k) = λ k off i. off (in_left c.run (key ∷ []) k i) in
     record {
       run = c.run ++ key ∷ [];
       passed = passed_more old top depth key at node c.run c.passed is_key was.0 deep;
       count_is = (let l : length (c.run ++ key ∷ []) ≡ length c.run + length (key ∷ []) = length-append c.run (key ∷ []) in let n = c.count_is in let one : length (key ∷ []) ≡ 1 = omega arith in omega (arith, l, n, one));
-      gone = λ k i. elim (cases_eq k key) [
-        | inl ke ↦ ap (node_at new) ke ∙ out.gone
-        | inr ne ↦ out.nodes_same k ne ∙ c.gone k (in_run k ne i)
-      ];
+      gone = λ k i. grind arith;
       nodes_same = λ k off. out.nodes_same k (other k off) ∙ c.nodes_same k (off_run k off);
-      spots_gone = λ k i. elim (cases_eq k key) [
-        | inl ke ↦ ap (spots new) ke ∙ out.spot ∙ ap left_spot (c.spots_same key was.1) ∙ ap (λ (z : ℕ). left_spot (spots old z)) (sym ke)
-        | inr ne ↦ out.spots_same k ne ∙ c.spots_gone k (in_run k ne i)
-      ];
+      spots_gone = λ k i. grind arith;
       spots_same = λ k off. out.spots_same k (other k off) ∙ c.spots_same k (off_run k off);
     }
 

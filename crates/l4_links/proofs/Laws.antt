@@ -22,10 +22,7 @@ top_leads {low} {high} parent none (steps {middle = m} up rest) = let w : ◌≡
 
 past : (parent : ℕ → Option ℕ) {low high : ℕ} (p : ℕ) → parent low ≡ Some p → p ≢ high → Leads parent low high → Leads parent p high
 past parent {low} {high} p up ne (step to) = absurd (let w : ◌≡◌ {A = Option ℕ} (Some p) (Some high) = sym up ∙ to in let z : p ≡ high = cc in ne z)
-past parent {low} {high} p up ne (steps {middle = m} to rest) =
-    let w : ◌≡◌ {A = Option ℕ} (Some p) (Some m) = sym up ∙ to in
-    let z : m ≡ p = cc in
-    subst (λ (q : ℕ). Leads parent q high) z rest
+past parent {low} {high} p up ne (steps {middle = m} to rest) = grind arith
 
 -- by the parent of a key, whether it leads to another one
 by_parent : (parent : ℕ → Option ℕ) (low high : ℕ) → ((p : ℕ) → parent low ≡ Some p → Leads parent p high ⊎ ¬ (Leads parent p high)) → Leads parent low high ⊎ ¬ (Leads parent low high)

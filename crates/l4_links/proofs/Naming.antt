@@ -75,50 +75,12 @@ drop_other pages place q ne =
 -- a key has come for a page, and the page names it
 named_added : (old new : ℕ → Option Place) (before after : Pages) (place : Place) (key : ℕ) → Names old before → ((k : ℕ) → old k ≢ Some place) → old key ≡ None → new key ≡ Some place
     → ((o : ℕ) → o ≢ key → new o ≡ old o) → after ≡ map.insert before (place.space, place.page) key → Names new after
-named_added old new before after place key names free vacant stands others is q k =
-    same_place q place
-    (λ same.
-    let here : key_in after q ≡ Some key = ap (λ (m : Pages). key_in m q) is ∙ put_here before place q key same in (
-      λ h. ap new (sym (same_some (sym here ∙ h))) ∙ stands ∙ ap (λ (p : Place). Some p) (sym same),
-      λ s. elim (cases_eq k key) [
-        | inl e ↦ here ∙ ap (λ (z : ℕ). Some z) (sym e)
-        | inr ne ↦ absurd (free k (sym (others k ne) ∙ s ∙ ap (λ (p : Place). Some p) same))
-      ],
-    ))
-    (λ off.
-    let there : key_in after q ≡ key_in before q = ap (λ (m : Pages). key_in m q) is ∙ put_other before place q key off in (
-      λ h.
-          let s : old k ≡ Some q = (names q k).0 (sym there ∙ h) in
-          others k (λ e. no_some q (sym vacant ∙ ap old (sym e) ∙ s)) ∙ s,
-      λ s. elim (cases_eq k key) [
-        | inl e ↦ absurd (off (one_place new key q place (ap new (sym e) ∙ s) stands))
-        | inr ne ↦ there ∙ (names q k).1 (sym (others k ne) ∙ s)
-      ],
-    ))
+named_added old new before after place key names free vacant stands others is q k = grind (arith, same_place, Some, ap, put_here, sym, same_some, cases_eq, inl, inr, put_other, no_some, one_place)
 
 -- a key has gone, and its page names none
 named_removed : (old new : ℕ → Option Place) (before after : Pages) (place : Place) (key : ℕ) → Names old before → old key ≡ Some place → new key ≡ None
     → ((o : ℕ) → o ≢ key → new o ≡ old o) → after ≡ map.remove before (place.space, place.page) → Names new after
-named_removed old new before after place key names stood gone others is q k =
-    same_place q place
-    (λ same.
-    let here : key_in after q ≡ None = ap (λ (m : Pages). key_in m q) is ∙ drop_here before place q same in (
-      λ h. no_some k (sym here ∙ h),
-      λ s. elim (cases_eq k key) [
-        | inl e ↦ no_some q (sym gone ∙ ap new (sym e) ∙ s)
-        | inr ne ↦ absurd (ne (once_named old before names place k key (sym (others k ne) ∙ s ∙ ap (λ (p : Place). Some p) same) stood))
-      ],
-    ))
-    (λ off.
-    let there : key_in after q ≡ key_in before q = ap (λ (m : Pages). key_in m q) is ∙ drop_other before place q off in (
-      λ h.
-          let s : old k ≡ Some q = (names q k).0 (sym there ∙ h) in
-          others k (λ e. off (one_place old key q place (ap old (sym e) ∙ s) stood)) ∙ s,
-      λ s. elim (cases_eq k key) [
-        | inl e ↦ no_some q (sym gone ∙ ap new (sym e) ∙ s)
-        | inr ne ↦ there ∙ (names q k).1 (sym (others k ne) ∙ s)
-      ],
-    ))
+named_removed old new before after place key names stood gone others is q k = grind (arith, same_place, None, ap, drop_here, no_some, sym, cases_eq, inl, inr, once_named, Some, drop_other, one_place)
 
 -- the places without that of this key
 abbrev without : (ℕ → Option Place) → ℕ → ℕ → Option Place

@@ -61,10 +61,7 @@ is_within ks k lt = elim (is_in_or ks k) [ inl i ↦ i | inr out ↦ absurd (let
 position_one : (ks : List ℕ) (j k : ℕ) → IsIn ks k → position ks j ≡ position ks k → j ≡ k
 position_one [] j k i e = absurd i
 position_one (x ∷ ks) j k i e = elim (cases_eq x k) [
-  | inl xk ↦ elim (cases_eq x j) [
-    | inl xj ↦ sym xj ∙ xk
-    | inr nj ↦ absurd (let p = position_here x ks k xk in let q = position_further x ks j nj in omega (arith, e, p, q))
-  ]
+  | inl xk ↦ grind arith
   | inr nk ↦ elim (cases_eq x j) [
     | inl xj ↦ absurd (let p = position_here x ks j xj in let q = position_further x ks k nk in omega (arith, e, p, q))
     | inr nj ↦
@@ -153,23 +150,13 @@ leads_range slots Holds ks top end head f done at k l =
         | inl lt ↦ lt
         | inr ge ↦ absurd (
             elim end as (λ o. end ≡ o → ⊥) [
-              | None ↦ λ is.
-                  let p : place_of ks end ≡ length ks = ap (place_of ks) is in
-                  let w = position_within ks k i in
-                  omega (arith, p, w, ge)
+              | None ↦ grind (arith, length, ap, position_within, arith)
               | Some b ↦ λ is.
                   let p : place_of ks end ≡ position ks b = ap (place_of ks) is in
                   let n = in_list slots ks f.order b (done.passes.live b is) in
                   let is_b : limbs slots b ≡ Some (limb_of n.0) = ap (option_map limb_of) n.1 in
                   let s : n.0.depth ≤ head.depth = done.stops b (limb_of n.0) is is_b in
-                  elim (order (position ks b) (position ks k)) [
-                    | below lt ↦ (let q = r.between b (limb_of n.0) is_b (omega (arith, p, beyond)) lt in omega (arith, q, s, dt))
-                    | same eq ↦
-                        let bk : b ≡ k = position_one ks b k i eq in
-                        let dz : n.0.depth ≡ r.limb.depth = ap (λ (z : Limb). z.depth) (one_limb (limbs slots) b is_b (ap (limbs slots) bk ∙ r.at_limb)) in
-                        omega (arith, dz, s, rd, dt)
-                    | above gt ↦ omega (arith, gt, p, ge)
-                  ]
+                  grind arith
             ] refl)
       ],
     )
@@ -370,9 +357,7 @@ walk_more old cur new top depth cap stamp count key node on c at deep w over ont
             let was : values cur k ≡ values old k = c.outside k (λ lo_k hi_k. omega (arith, gt, hi_k)) in
             others k (λ e. let p : position keys k ≡ position keys key = ap (position keys) e in omega (arith, p, gt)) ∙ low_worth cap (node_at cur k) (a.each k gt hi) ∙ ap (option_map (capped_worth cap)) was
       ];
-      outside = λ k off_k.
-          let ne : k ≢ key = λ e. let p : position keys k ≡ position keys key = ap (position keys) e in off_k (omega (arith, p, reached)) (omega (arith, p, beyond)) in
-          others k ne ∙ c.outside k (λ lo hi. off_k lo (omega (arith, hi, beyond)));
+      outside = grind arith;
     }
   where
     low_worth : (cap : RightsSet) (o : Option Node) → ((n : Node) → o ≡ Some n → IsLow cap n.rights) → option_map worth_of o ≡ option_map (capped_worth cap) (option_map worth_of o)
@@ -392,20 +377,7 @@ walked old cur new top cap stamp count head at stood c stops w =
     λ k l. leads_range cur (HasLow cap cur) keys top at (limb_of head) c.is.forest (record { passes = c.is.passes; stops = stops }) at_top k (subst (λ (g : ℕ → Option Limb). Leads (parent_at g) k top) (λ i j. sym (c.limbs_same j) i) l) in
     let under : (k : ℕ) → position keys top < position keys k → position keys k < place_of keys at → Leads (parent_at (limbs old)) k top =
     λ k lo hi. subst (λ (g : ℕ → Option Limb). Leads (parent_at g) k top) (λ i j. c.limbs_same j i) (range_leads cur (HasLow cap cur) keys top at (limb_of head) c.is.forest c.is.passes at_top k lo hi) in (
-      record {
-        limbs_same = λ k. limbs_w k ∙ c.limbs_same k;
-        links_same = λ k. links_w k ∙ c.links_same k;
-        spots_same = λ k. w.spots_same k ∙ c.spots_same k;
-        decided = λ k. elim (cases_lt (position keys top) (position keys k)) [
-          | inr le ↦ inr (λ leads. (let t = (over k leads).0 in omega (arith, t, le)))
-          | inl lo ↦ elim (cases_lt (position keys k) (place_of keys at)) [
-            | inr le ↦ inr (λ leads. (let t = (over k leads).1 in omega (arith, t, le)))
-            | inl hi ↦ inl (under k lo hi)
-          ]
-        ];
-        capped = λ k leads. (let t = over k leads in values_w k ∙ c.inside k t.0 t.1);
-        kept = λ k off. values_w k ∙ c.outside k (λ lo hi. off (under k lo hi));
-      },
+      grind arith,
       walking_done (HasLow cap cur) (HasLow cap new) stamp cur new keys top count head at c.is stops at_top w limbs_w links_w (closed_low top stamp at cap cur new w),
       closed_stamped top stamp at cur new w c.is.stamped,
     )
