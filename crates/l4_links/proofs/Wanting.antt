@@ -2,14 +2,14 @@
 use Rattle.std.proofs.Common.{◌≡◌, ℕ, zero, suc, ◌+◌, ◌-◌, ◌/◌, ◌%◌, ◌<◌, ◌≤◌, ◌||◌, Bool, List, Option, Some, None, slice_index_or, false, true, refl, sym, ap, ◌∙◌, subst, inl, inr, arith}
 use Rattle.std.proofs.lemmas.Bool.{cases_lt}
 use Rattle.l4_fpage.specs.Rights.{RightsSet}
-use Rattle.l4_spaces.specs.Tables.{table_pages}
-use Rattle.l4_spaces.specs.Rows.{Rows, row, entry, is_made, NoneIn, IsFirstIn}
+use Rattle.l4_spaces.specs.Tables.{table_pages, NoKeys}
+use Rattle.l4_spaces.specs.Rows.{Rows, row, entry, is_made, NoneIn}
 use Rattle.l4_nodes.specs.Slots.{Slots, node_at}
 use Rattle.l4_links.specs.Inside.Bringing.{AtMost, none, one, pass}
 use Rattle.l4_links.specs.Inside.Growing.{SharesNone, SharesSome, Takes, Lacks, Holds, IsHindered, AreWanted, WantsRow, WantsPages, IsHinderedPage, LacksPage}
 use Rattle.l4_links.specs.Inside.Moving.{MakesTables}
 use Rattle.l4_links.proofs.Bringing.{at_most_back, at_most_joined}
-use Rattle.l4_links.proofs.TableEntries.{shown_made, at_page, at_line}
+use Rattle.l4_links.proofs.TableEntries.{shown_made, target_entry, at_page, at_line}
 use Rattle.l4_links.proofs.Writes.{no_some, same_some}
 
 -- numbers, one after another
@@ -164,12 +164,15 @@ module _ (source target : ℕ) (rights : RightsSet) (sources targets : Rows) (sl
   there : is_made targets (place / table_pages) ≡ true → (other : ℕ) → page ≤ other → other < page + n → is_made targets ((other - source + target) / table_pages) ≡ true
   there ready other ge lt = subst (λ (h : ℕ). is_made targets h ≡ true) (let e : place / table_pages ≡ (other - source + target) / table_pages = omega (arith, ge, lt, from, t_in, t_is, place_is) in e) ready
 
-  -- a place has a key, so the table of all is there
-  pub run_made : (next key : ℕ) → IsFirstIn targets place (place + n) next key → is_made targets (place / table_pages) ≡ true
-  run_made next key first =
-      let ge = first.from in
-      let lt = first.before in
-      subst (λ (h : ℕ). is_made targets h ≡ true) (let e : next / table_pages ≡ place / table_pages = omega (arith, ge, lt, t_is, t_in, place_is) in e) (shown_made targets next key first.shows)
+  -- the table of the places isn't there
+  pub run_absent : is_made targets (place / table_pages) ≡ false → NoneIn targets place (place + n)
+  run_absent absent other ge lt = over (entry targets other) refl
+    where
+      over : (o : Option ℕ) → entry targets other ≡ o → o ≡ None
+      over None is = refl
+      over (Some k) is =
+          let high : place / table_pages ≡ other / table_pages = omega (arith, ge, lt, t_is, t_in, place_is) in
+          absurd (let e : false ≡ true = sym absent ∙ ap (is_made targets) high ∙ shown_made targets other k is in cc)
 
   -- no place has a key, and the first page has one that shares a right
   module _ (key : ℕ) (shows : entry sources page ≡ Some key) (shares : SharesSome key rights slots) (nothing : NoneIn targets place (place + n)) (le : 1 ≤ n) where
@@ -183,6 +186,13 @@ module _ (source target : ℕ) (rights : RightsSet) (sources targets : Rows) (sl
     run_free ready = wants_every page n (λ other ge lt. (takes_free rights slots (free other ge lt), λ _. there ready other ge lt)) le (key, shows, shares, free page (omega arith) (omega (arith, le)))
 
   module _ (line target_line : List (Option ℕ)) (line_is : row sources (page / table_pages) ≡ line) (target_is : row targets (place / table_pages) ≡ target_line) where
+    -- the table has no key there
+    pub run_clear : NoKeys target_line t (t + n) → NoneIn targets place (place + n)
+    run_clear nothing other ge lt =
+        ap (entry targets) (let e : other ≡ page + (other - place) - source + target = omega (arith, ge, from, place_is) in e)
+        ∙ target_entry source target sources targets page place f t n from place_is f_is t_is line target_line line_is target_is f_in t_in (other - place) (omega (arith, ge, lt))
+        ∙ nothing (t + (other - place)) (omega arith) (omega (arith, ge, lt))
+
     pub run_wants : (wants : ℕ) (changes : Bool) → is_made targets (place / table_pages) ≡ true → WantsRow f t n rights line target_line wants changes slots → WantsPages source page (page + n) target rights sources targets wants changes slots
     run_wants wants changes ready w = record {
       takes = λ other ge lt. (

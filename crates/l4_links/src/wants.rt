@@ -13,7 +13,7 @@ use crate::children::{Run, run_at, sharing};
 use crate::walks::is_leaf;
 use l4_fpage::Rights;
 use l4_nodes::{Node, Slots, node_of};
-use l4_spaces::tables::{TABLE_PAGES, make_all, next_page};
+use l4_spaces::tables::{TABLE_PAGES, is_ready, make_all, next_page};
 use l4_spaces::{NoMemory, Row};
 
 /// Returns whether a child can take the place of the node under the key: the node has a parent, and nothing descends from it.
@@ -154,17 +154,20 @@ fn wants_from(
     let place = place_from(of.source, of.target, page);
     let run = run_at(of, page);
     let after = page + run.entries as u32;
-    let Some(_) = next_page(targets, place.page, place.page + run.entries as u32) else {
+    let all = Wants {
+        slots: run.entries,
+        changes: true,
+    };
+    if !is_ready(targets, place.page) {
         let alloc = *targets.allocator();
         make_all(targets, alloc, &[place.page])?;
-        let all = Wants {
-            slots: run.entries,
-            changes: true,
-        };
         return Ok(Some((after, all)));
-    };
+    }
     let source = &sources[(page / TABLE_PAGES) as usize];
     let target = &targets[(place.page / TABLE_PAGES) as usize];
+    if target.is_free(run.to, run.to + run.entries) {
+        return Ok(Some((after, all)));
+    }
     let Some(wants) = wants_run(nodes, source, target, &run, of.rights) else {
         return Ok(None);
     };
