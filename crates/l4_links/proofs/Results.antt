@@ -1,5 +1,5 @@
 -- What is known of a result.
-use Rattle.std.proofs.Common.{◌≡◌, Option, Some, None, MatchOption, Result, Ok, Err, OnErr, subst}
+use Rattle.std.proofs.Common.{◌≡◌, Option, Some, None, MatchOption, Result, Ok, Err, IfOk, OnErr, subst}
 
 -- what is known of a result leads to more
 pub match_both : {A : Type 0} (r : Option A) (P Q : Type 0) (F G : A → Type 0) → (P → Q) → ((a : A) → F a → G a) → MatchOption r P F → MatchOption r Q G
@@ -19,3 +19,11 @@ on_none {A} P F r is m = subst (λ (o : Option A). MatchOption o P F) is m
 pub on_err : {T E P : Type 0} (r : Result T E) → P → OnErr r P
 on_err (Ok x) p = tt
 on_err (Err e) p = p
+
+pub ok_both : {T E : Type 0} (r : Result T E) (F G : T → Type 0) → ((t : T) → F t → G t) → IfOk r F → IfOk r G
+ok_both (Ok t) F G f m = f t m
+ok_both (Err e) F G f m = tt
+
+pub err_both : {T E P Q : Type 0} (r : Result T E) → (P → Q) → OnErr r P → OnErr r Q
+err_both (Ok t) f m = tt
+err_both (Err e) f m = f m

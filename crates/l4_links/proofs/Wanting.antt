@@ -6,7 +6,7 @@ use Rattle.l4_spaces.specs.Tables.{table_pages, NoKeys}
 use Rattle.l4_spaces.specs.Rows.{Rows, row, entry, is_made, NoneIn}
 use Rattle.l4_nodes.specs.Slots.{Slots, node_at}
 use Rattle.l4_links.specs.Inside.Bringing.{AtMost, none, one, pass}
-use Rattle.l4_links.specs.Inside.Growing.{SharesNone, SharesSome, Takes, Lacks, Holds, IsHindered, AreWanted, WantsRow, WantsPages, IsHinderedPage, LacksPage}
+use Rattle.l4_links.specs.Inside.Growing.{SharesNone, SharesSome, Takes, Lacks, Holds, IsHindered, WantsOne, AreWanted, WantsRow, WantsPages, IsHinderedPage, LacksPage}
 use Rattle.l4_links.specs.Inside.Moving.{MakesTables}
 use Rattle.l4_links.proofs.Bringing.{at_most_back, at_most_joined}
 use Rattle.l4_links.proofs.TableEntries.{shown_made, target_entry, at_page, at_line}
@@ -157,6 +157,17 @@ pub pages_more : (source from page next end target : ℕ) (rights : RightsSet) (
     → MakesTables targets made → WantsPages source next end target rights sources made b second slots → WantsPages source from end target rights sources made (a + b) (first || second) slots
 pages_more source from page next end target rights sources targets made a b first second slots w le nothing makes v =
     wants_joined from next end a b first second (pages_made source from next target rights sources targets made a first slots makes (pages_passed source from page next target rights sources targets a first slots w le nothing)) v
+
+-- one page alone
+pub one_page : (source target : ℕ) (rights : RightsSet) (sources targets made : Rows) (slots : Slots) → MakesTables targets made → (wants : ℕ) (changes : Bool) → WantsOne (entry sources source) (entry targets target) rights slots wants changes
+    → (1 ≤ wants → is_made made (target / table_pages) ≡ true) → WantsPages source source (source + 1) target rights sources made wants changes slots
+one_page source target rights sources targets made slots makes wants changes h ready = wants_one source wants changes
+    (subst (λ (q : ℕ). (Takes (entry sources source) (entry made q) rights slots × (Lacks (entry sources source) (entry made q) rights slots → is_made made (q / table_pages) ≡ true)) × (1 ≤ wants → Lacks (entry sources source) (entry made q) rights slots)
+    × (Lacks (entry sources source) (entry made q) rights slots → 1 ≤ wants) × (wants ≤ 1) × (changes ≡ false → Holds (entry sources source) (entry made q) rights slots)) (let e : target ≡ source - source + target = omega arith in e)
+    ((its.0, λ l. ready (its.2 l)), its.1, its.2, its.3, its.4))
+  where
+    its : WantsOne (entry sources source) (entry made target) rights slots wants changes
+    its = subst (λ (o : Option ℕ). WantsOne (entry sources source) o rights slots wants changes) (sym (makes.same target)) h
 
 -- a run, by its two tables
 module _ (source target : ℕ) (rights : RightsSet) (sources targets : Rows) (slots : Slots) (page place f t n : ℕ) (from : source ≤ page) (place_is : place ≡ page - source + target) (f_is : f ≡ page % table_pages) (t_is : t ≡ (page - source + target) % table_pages)

@@ -1,19 +1,19 @@
 //! Tests whether children of many pages can take their places, which takes no memory but for tables. Nothing else is written.
 
-ghost use Rattle.std.specs.Prelude.{◌≡◌, ◌≢◌, ◌≤◌, ◌<◌, ◌+◌, ◌-◌, ℕ, List, Option, length, slice_index_or, MatchOption, OnErr, IfOk, IfSome, Some, None, true, false};
-ghost use Rattle.l4_spaces.specs.Tables.{space_pages, space_tables, table_pages};
-ghost use Rattle.l4_spaces.specs.Rows.{entry, AreWhole};
+ghost use Rattle.std.specs.Prelude.{◌≡◌, ◌≢◌, ◌≤◌, ◌<◌, ◌+◌, ◌-◌, ◌/◌, ℕ, List, Option, length, slice_index_or, MatchOption, OnErr, IfOk, IfSome, Some, None, true, false};
+ghost use Rattle.l4_spaces.specs.Tables.{IsPage, space_pages, space_tables, table_pages};
+ghost use Rattle.l4_spaces.specs.Rows.{entry, is_made, AreWhole};
 ghost use Rattle.l4_nodes.specs.Slots.{node_at};
 ghost use Rattle.l4_links.specs.Inside.Nodes.{IsForest};
 ghost use Rattle.l4_links.specs.Inside.Moving.{MakesTables};
-ghost use Rattle.l4_links.specs.Inside.Growing.{IsSpareNode, IsChildOf, IsHindered, WantsOne, WantsRow, WantsPages, IsHinderedPage, LacksPage};
+ghost use Rattle.l4_links.specs.Inside.Growing.{IsSpareNode, IsChildOf, Lacks, IsHindered, WantsOne, WantsRow, WantsPages, IsHinderedPage, LacksPage};
 
 use crate::blocks::{Pages, place_from};
 use crate::children::{Run, run_at, sharing};
 use crate::walks::is_leaf;
 use l4_fpage::Rights;
 use l4_nodes::{Node, Slots, node_of};
-use l4_spaces::tables::{TABLE_PAGES, is_ready, make_all, next_page};
+use l4_spaces::tables::{TABLE_PAGES, is_ready, key_in, make_all, next_page};
 use l4_spaces::{NoMemory, Row};
 
 /// Returns whether a child can take the place of the node under the key: the node has a parent, and nothing descends from it.
@@ -174,6 +174,42 @@ fn wants_from(
     Ok(Some((after, wants)))
 }
 
+/// Returns what the child of the one page needs, or None if it can't take its place. Allocates the table of the place if the child needs a
+/// slot.
+fn wants_page(
+    nodes: &Slots,
+    sources: &Vec<Row>,
+    targets: &mut Vec<Row>,
+    of: &Pages,
+) -> Result<Option<Wants>, NoMemory>
+    requires forest { (ks : List ℕ) × IsForest nodes.now.slots ks }
+    requires whole { AreWhole targets.old.items }
+    requires full { length targets.old.items ≤ space_tables }
+    requires fits { IsPage of.now.target.page }
+    ensures wants { IfOk result (λ found. MatchOption found
+        (IsHindered (entry sources.now.items of.now.source.page) (entry targets.old.items of.now.target.page) of.now.rights nodes.now.slots)
+        (λ wants. WantsOne (entry sources.now.items of.now.source.page) (entry targets.old.items of.now.target.page) of.now.rights nodes.now.slots
+        wants.slots wants.changes × (1 ≤ wants.slots → is_made targets.new.items (of.now.target.page / table_pages) ≡ true))) }
+    ensures lacks { OnErr result (Lacks (entry sources.now.items of.now.source.page) (entry targets.old.items of.now.target.page) of.now.rights
+        nodes.now.slots) }
+    ensures makes { MakesTables targets.old.items targets.new.items }
+{
+    let page = of.target.page;
+    let key = key_in(sources, of.source.page);
+    let Some(wants) = wants_at(nodes, key, key_in(targets, page), of.rights) else {
+        return Ok(None);
+    };
+    if wants.slots == 0 {
+        return Ok(Some(wants));
+    }
+    if is_ready(targets, page) {
+        return Ok(Some(wants));
+    }
+    let alloc = *targets.allocator();
+    make_all(targets, alloc, &[page])?;
+    Ok(Some(wants))
+}
+
 /// Returns what the children of all pages need, or None if one of them can't take its place. Allocates the tables of their places.
 pub(crate) fn wants_item(
     nodes: &Slots,
@@ -197,6 +233,9 @@ pub(crate) fn wants_item(
         of.now.target.page of.now.rights sources.now.items targets.old.items nodes.now.slots) }
     ensures makes { MakesTables targets.old.items targets.new.items }
 {
+    if of.end - of.source.page == 1 {
+        return wants_page(nodes, sources, targets, of);
+    }
     let mut page = of.source.page;
     let mut slots = 0;
     let mut changes = false;
