@@ -1,28 +1,27 @@
 -- What a message brings, item by item, while the tables of the places' space are aside.
-use Rattle.std.proofs.Common.{◌≡◌, ◌≢◌, ◌⊎◌, ℕ, zero, suc, ◌+◌, ◌-◌, ◌^◌, ◌<◌, ◌≤◌, Bool, true, false, List, Option, Some, None, Result, Ok, Err, IfOk, OnErr, is_some, length, slice_get, get_or, refl, sym, ap, ◌∙◌, subst, inl, inr, arith}
+use Rattle.std.proofs.Common.{◌≡◌, ◌≢◌, ◌⊎◌, ℕ, zero, suc, ◌+◌, ◌-◌, ◌^◌, ◌<◌, ◌≤◌, Bool, true, false, List, Option, Some, None, Result, Ok, Err, IfOk, length, slice_get, get_or, refl, sym, ap, ◌∙◌, subst, inl, inr, arith}
 use Rattle.std.proofs.lemmas.Bool.{cases_eq, cases_lt}
 use Rattle.std.proofs.lemmas.Option.{slice_get-get_or}
 use Rattle.std.specs.Option.{option_map, option_and_then}
 use Rattle.l4_fpage.specs.Rights.{RightsSet, common, no_rights}
-use Rattle.l4_spaces.specs.Tables.{Tables, key_of, space_tables}
-use Rattle.l4_spaces.specs.Rows.{Rows, entry, is_made, AreWhole, AreAside}
+use Rattle.l4_spaces.specs.Tables.{Tables, key_of}
+use Rattle.l4_spaces.specs.Rows.{Rows, AreTablesOf, AreAside}
 use Rattle.l4_spaces.proofs.Aside.{made_aside}
 use Rattle.l4_msg.specs.declared.items.ItemMove.{ItemMove}
 use Rattle.l4_nodes.specs.declared.Place.{Place}
-use Rattle.l4_nodes.specs.declared.nodes.Node.{Node}
 use Rattle.l4_nodes.specs.Slots.{Slots, Store, HasRoomFor, node_at}
 use Rattle.l4_links.specs.Leads.{Leads, step, steps}
 use Rattle.l4_links.specs.declared.Standing.{Standing}
 use Rattle.l4_links.specs.declared.Entry.{Entry}
-use Rattle.l4_links.specs.declared.blocks.Pages.{Pages}
-use Rattle.l4_links.specs.Entries.{Entries, entry_at, standing_at, parent_of, IsAt, Descends, moved_place, child_entry, source_of, target_of, end_of, IsBrought, IsDue, Brings, AddsChild, AreOverLeaves, LacksKey, HasOther, AreApart}
-use Rattle.l4_links.specs.Inside.Bringing.{IsSpare, IsBroughtFrom, Fits, HaveTables, IsLacking, AtMost, sum_to, WantsItems, Ends}
-use Rattle.l4_links.specs.Inside.Growing.{SharesNone, HaveRoom, AreGrowing, StayGrowing, BringsAll}
+use Rattle.l4_links.specs.Entries.{Entries, entry_at, standing_at, parent_of, IsAt, moved_place, child_entry, source_of, target_of, end_of, IsBrought, IsDue, Brings, AddsChild, AreOverLeaves, LacksKey, AreApart}
+use Rattle.l4_links.specs.Inside.Bringing.{IsBroughtFrom, Fits, HaveTables, IsLacking, AtMost, sum_to, WantsItems, Ends}
+use Rattle.l4_links.specs.Inside.Growing.{SharesNone, HaveRoom, AreGrowing, StayGrowing, BringsAll, CanBringFrom, BringsPages}
 use Rattle.l4_links.specs.Inside.Moving.{MakesTables}
 use Rattle.l4_links.specs.Inside.Keeping.{IsIndexed, entries_of, standing_of}
 use Rattle.l4_links.proofs.Asides.{indexed_alike}
 use Rattle.l4_links.proofs.Bringing.{brings_joined, brings_as, brings_none, brings_added, parent_away, brought_on, brought_back, lacking_back, fits_on, at_most_back}
 use Rattle.l4_links.proofs.BroughtParts.{nothing_brought, one_on, one_back, room_less}
+use Rattle.l4_links.proofs.PageRuns.{whole_came, whole_room}
 use Rattle.l4_links.proofs.Seen.{standing_is}
 use Rattle.l4_links.proofs.Writes.{same_some, map_from}
 use Rattle.l4_links.proofs.TableEntries.{entry_of_page, entry_named}
@@ -210,12 +209,6 @@ module _ (from to : ℕ) (differ : from ≢ to) (items : List ItemMove) (apart :
     abbrev brings : Brings (IsDue from to items i (entries_of old.slots)) (entries_of old.slots) (entries_of now.slots)
     brings = (h.brings first head stamp all g).2
 
-    pub item_fits : Fits (IsBrought (source_of from by) (end_of by) (target_of to by) by.rights (entries_of now.slots)) (entries_of now.slots)
-    item_fits = next_fits from to differ items apart (entries_of old.slots) i by is (entries_of now.slots) brings (length items) in_items h.fits
-
-    pub item_tables : HaveTables (IsBrought (source_of from by) (end_of by) (target_of to by) by.rights (entries_of now.slots)) rows
-    item_tables = next_tables from to differ items apart (entries_of old.slots) i by is (entries_of now.slots) brings (length items) in_items rows h.made
-
     item_room : (more : ℕ) → sum_to h.asks.counts (i + 1) + more ≤ wants → HaveRoom (source_of from by) (end_of by) (target_of to by) by.rights by.mv.source.first more now
     item_room more le = (
       h.asks.counts i,
@@ -223,22 +216,34 @@ module _ (from to : ℕ) (differ : from ≢ to) (items : List ItemMove) (apart :
       λ some. h.room (h.asks.counts i + more) (let e = sum_more h.asks.counts i in omega (arith, le, e)) some,
     )
 
-    pub item_asks : HaveRoom (source_of from by) (end_of by) (target_of to by) by.rights by.mv.source.first 0 now
-    item_asks = item_room 0 (let up = sum_up h.asks.counts (i + 1) (length items) (omega (arith, in_items)) in let total = h.asks.total in omega (arith, up, total))
+    module _ (sources : Rows) (lent : AreTablesOf pages from sources) where
+      pub item_can : CanBringFrom (source_of from by) by.mv.source.first (end_of by) (target_of to by) by.rights sources rows now
+      item_can = record {
+        pages = pages;
+        first = first;
+        head = head;
+        stamp = stamp;
+        all = (h.brings first head stamp all g).0;
+        from = omega arith;
+        apart = differ;
+        lent = lent;
+        growing = (h.brings first head stamp all g).1;
+        fits = λ e b. next_fits from to differ items apart (entries_of old.slots) i by is (entries_of now.slots) brings (length items) in_items h.fits e b.0;
+        made = λ e b. next_tables from to differ items apart (entries_of old.slots) i by is (entries_of now.slots) brings (length items) in_items rows h.made e b.0;
+        room = item_room 0 (let up = sum_up h.asks.counts (i + 1) (length items) (omega (arith, in_items)) in let total = h.asks.total in omega (arith, up, total));
+      }
 
-    pub brought_next : (new_rows : Rows) (new : Store) → BringsAll to (IsBrought (source_of from by) (end_of by) (target_of to by) by.rights (entries_of now.slots)) pages rows new_rows now.slots new.slots
-        → ((high : ℕ) → is_made rows high ≡ true → is_made new_rows high ≡ true)
-        → ((more : ℕ) → HaveRoom (source_of from by) (end_of by) (target_of to by) by.rights by.mv.source.first more now → 1 ≤ more → HasRoomFor new more) → HaveBrought from to items (i + 1) wants pages old_rows new_rows old new
-    brought_next new_rows new b kept room = record {
-      brings = λ f k s t start.
-          (let v = h.brings f k s t start in
-          let u = b f k s v.0 v.1 in
-          (u.0, u.1, next_brings from to differ items apart (entries_of old.slots) i by is (entries_of now.slots) v.2 (entries_of new.slots) u.2));
-      fits = h.fits;
-      made = λ e due high low page_is lt. kept high (h.made e due high low page_is lt);
-      asks = h.asks;
-      room = λ rest le some. room rest (item_room rest le) some;
-    }
+      pub brought_next : (new_rows : Rows) (new : Store) → BringsPages (source_of from by) by.mv.source.first (end_of by) (target_of to by) by.rights sources rows new_rows now new → HaveBrought from to items (i + 1) wants pages old_rows new_rows old new
+      brought_next new_rows new b = record {
+        brings = λ f k s t start.
+            (let v = h.brings f k s t start in
+            let u = whole_came (source_of from by) (end_of by) (target_of to by) by.rights sources rows now new_rows new b pages lent f k s v.0 v.1 in
+            (u.0, u.1, next_brings from to differ items apart (entries_of old.slots) i by is (entries_of now.slots) v.2 (entries_of new.slots) u.2));
+        fits = h.fits;
+        made = λ e due high low page_is lt. b.made high (h.made e due high low page_is lt);
+        asks = h.asks;
+        room = λ rest le some. whole_room (source_of from by) (end_of by) (target_of to by) by.rights sources rows now new_rows new b rest (item_room rest le) some;
+      }
 
 -- A message of one page. What is due is the child of what is at the source, if that shares a right.
 module _ (from to : ℕ) (items : List ItemMove) (by : ItemMove) (one : length items ≡ 1) (is : slice_get items 0 ≡ Some by) (page : end_of by - by.mv.source.first ≡ 1) (s : Entries) where

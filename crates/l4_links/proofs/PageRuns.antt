@@ -11,7 +11,7 @@ use Rattle.l4_nodes.specs.declared.Place.{Place}
 use Rattle.l4_nodes.specs.Slots.{Store, HasRoomFor}
 use Rattle.l4_links.specs.declared.Entry.{Entry}
 use Rattle.l4_links.specs.Entries.{moved_place, child_entry, IsBrought, Brings}
-use Rattle.l4_links.specs.Inside.Bringing.{IsBroughtFrom, Fits, HaveTables}
+use Rattle.l4_links.specs.Inside.Bringing.{IsBroughtFrom}
 use Rattle.l4_links.specs.Inside.Keeping.{IsIndexed, entries_of, standing_of}
 use Rattle.l4_links.specs.Inside.Growing.{SharesNone, SharesSome, StartAt, CanRun, BringsRow, HaveRoom, AreGrowing, BringsAll, CanBringFrom, BringsPages}
 use Rattle.l4_links.proofs.Bringing.{brings_none, brings_as}
@@ -22,24 +22,6 @@ use Rattle.l4_links.proofs.TableEntries.{made_within, entry_named, entry_of_page
 
 -- the pages of the whole block
 module _ (source : Place) (end : ℕ) (target : Place) (rights : RightsSet) (sources rows : Rows) (old : Store) where
-  pub whole_can : source.space ≢ target.space → ((pages : Tables) × (first : Option ℕ) × (head : Option ℕ) × (stamp : ℕ) × (all : Tables) × AreTablesOf pages source.space sources × AreGrowing target.space pages rows old.slots first head stamp all)
-      → Fits (IsBrought source end target rights (entries_of old.slots)) (entries_of old.slots) → HaveTables (IsBrought source end target rights (entries_of old.slots)) rows → HaveRoom source end target rights source.page 0 old
-      → CanBringFrom source source.page end target rights sources rows old
-  whole_can apart g fits made room = record {
-    pages = g.0;
-    first = g.1;
-    head = g.2;
-    stamp = g.3;
-    all = g.4;
-    from = omega arith;
-    apart = apart;
-    lent = g.5;
-    growing = g.6;
-    fits = λ e b. fits e b.0;
-    made = λ e b. made e b.0;
-    room = room;
-  }
-
   pub whole_came : (new_rows : Rows) (new : Store) → BringsPages source source.page end target rights sources rows new_rows old new → (pages : Tables) → AreTablesOf pages source.space sources
       → BringsAll target.space (IsBrought source end target rights (entries_of old.slots)) pages rows new_rows old.slots new.slots
   whole_came new_rows new a pages lent first head stamp all g =

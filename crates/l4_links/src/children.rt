@@ -214,23 +214,12 @@ fn bring_page(nodes: &mut Slots, sources: &Vec<Row>, targets: &mut Vec<Row>, of:
 
 /// Gives all pages their children.
 fn bring_item(nodes: &mut Slots, sources: &Vec<Row>, targets: &mut Vec<Row>, of: &Pages)
-    requires apart { of.now.source.space ≢ of.now.target.space }
     requires rising { of.now.source.page ≤ of.now.end }
     requires fits { of.now.end - of.now.source.page + of.now.target.page ≤ space_pages }
-    requires growing { (pages : Tables) × (first head : Option ℕ) × (stamp : ℕ) × (all : Tables)
-        × AreTablesOf pages of.now.source.space sources.now.items
-        × AreGrowing of.now.target.space pages targets.old.items nodes.old.slots first head stamp all }
-    requires takes { Fits (IsBrought of.now.source of.now.end of.now.target of.now.rights (entries_of nodes.old.slots))
-        (entries_of nodes.old.slots) }
-    requires made { HaveTables (IsBrought of.now.source of.now.end of.now.target of.now.rights
-        (entries_of nodes.old.slots)) targets.old.items }
-    requires room { HaveRoom of.now.source of.now.end of.now.target of.now.rights of.now.source.page 0 nodes.old }
-    ensures brings { (pages : Tables) → AreTablesOf pages of.now.source.space sources.now.items
-        → BringsAll of.now.target.space (IsBrought of.now.source of.now.end of.now.target of.now.rights (entries_of nodes.old.slots)) pages
-        targets.old.items targets.new.items nodes.old.slots nodes.new.slots }
-    ensures made { (high : ℕ) → is_made targets.old.items high ≡ true → is_made targets.new.items high ≡ true }
-    ensures room { (more : ℕ) → HaveRoom of.now.source of.now.end of.now.target of.now.rights of.now.source.page more
-        nodes.old → 1 ≤ more → HasRoomFor nodes.new more }
+    requires can { CanBringFrom of.now.source of.now.source.page of.now.end of.now.target of.now.rights
+        sources.now.items targets.old.items nodes.old }
+    ensures { BringsPages of.now.source of.now.source.page of.now.end of.now.target of.now.rights sources.now.items
+        targets.old.items targets.new.items nodes.old nodes.new }
 {
     if of.end - of.source.page == 1 {
         return bring_page(nodes, sources, targets, of);

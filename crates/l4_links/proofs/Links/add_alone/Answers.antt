@@ -1,12 +1,10 @@
-use Rattle.std.proofs.Common.{◌≡◌, ◌≢◌, ◌+◌, ◌-◌, ◌^◌, ℕ, Option, Some, None, IsTrue, false, length, refl, sym, ap, ◌∙◌, subst, slice_get, option_map, arith}
+use Rattle.std.proofs.Common.{◌≡◌, ◌≢◌, ◌-◌, ◌^◌, ℕ, Some, None, IsTrue, false, length, refl, sym, ap, ◌∙◌, subst, slice_get, option_map, arith}
 use Rattle.std.specs.FinSet as set
 use Rattle.l4_fpage.specs.Rights.{RightsSet, common, no_rights}
 use Rattle.l4_spaces.specs.Tables.{key_of, IsPage}
-use Rattle.l4_msg.specs.declared.items.ItemMove.{ItemMove}
 use Rattle.l4_nodes.specs.declared.Place.{Place}
 use Rattle.l4_nodes.specs.Slots.{Slots, node_at}
-use Rattle.l4_links.specs.declared.Standing.{Standing}
-use Rattle.l4_links.specs.Entries.{Linked, Entries, standing_at, IsAt, AddsChild, LacksKey, IsDue, source_of, target_of, end_of}
+use Rattle.l4_links.specs.Entries.{Linked, standing_at, IsAt, AddsChild, IsDue, source_of, target_of, end_of}
 use Rattle.l4_links.specs.Inside.Keeping.{entries_of, standing_of}
 use Rattle.l4_links.specs.Inside.Nodes.{AddsUnder}
 use Rattle.l4_links.proofs.Adding.{blank_of}

@@ -1,6 +1,5 @@
-use Rattle.std.proofs.Common.{◌≡◌, ℕ, IsTrue, length, sym, ◌∙◌, subst}
+use Rattle.std.proofs.Common.{◌≡◌, IsTrue, length, sym, ◌∙◌, subst}
 use Rattle.std.specs.FinSet as set
-use Rattle.l4_spaces.specs.Tables.{Tables}
 use Rattle.l4_spaces.specs.declared.NoMemory.{NoMemory}
 use Rattle.l4_links.specs.Entries.{Linked, IsDue, AreOverLeaves}
 use Rattle.l4_links.specs.Inside.Growing.{AreGrowing}

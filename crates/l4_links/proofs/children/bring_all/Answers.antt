@@ -1,13 +1,9 @@
-use Rattle.std.proofs.Common.{◌≡◌, ◌≤◌, ◌<◌, ◌+◌, ℕ, Some, MatchOption, length, refl, sym, ap, ◌∙◌, subst, slice_get, arith}
-use Rattle.l4_spaces.specs.Rows.{is_made}
-use Rattle.l4_msg.specs.declared.items.ItemMove.{ItemMove}
-use Rattle.l4_nodes.specs.Slots.{HasRoomFor}
+use Rattle.std.proofs.Common.{◌≡◌, ℕ, Some, length, refl, sym, subst, slice_get, arith}
 use Rattle.l4_links.specs.declared.blocks.Pages.{Pages}
-use Rattle.l4_links.specs.Entries.{source_of, target_of, end_of, IsDue, IsBrought, Brings}
-use Rattle.l4_links.specs.Inside.Bringing.{Fits, HaveTables}
-use Rattle.l4_links.specs.Inside.Growing.{BringsAll, HaveRoom}
+use Rattle.l4_links.specs.Entries.{source_of, target_of, end_of, IsDue, Brings}
+use Rattle.l4_links.specs.Inside.Growing.{CanBringFrom, BringsPages}
 use Rattle.l4_links.specs.Inside.Keeping.{entries_of}
-use Rattle.l4_links.proofs.Items.{read_there, none_there, none_mapped, still_growing, brought_first, item_fits, item_tables, item_asks, brought_next, fits_leaves}
+use Rattle.l4_links.proofs.Items.{read_there, none_there, none_mapped, still_growing, brought_first, item_can, brought_next, fits_leaves}
 use Rattle.l4_links.proofs.Results.{on_some}
 use Rattle.l4_links.proofs.children.bring_all.Goals.{After-pages_of-of}
 use Rattle.l4_links.proofs.children.bring_all.Goals as goal
@@ -53,46 +49,21 @@ item c = read_there c.args.items.now c.loop-item.item c.index-items-item.result 
 of_is : (c : After-pages_of-of) → c.pages_of-of.result ≡ record { source = source_of c.args.from c.index-items-item.result; end = end_of c.index-items-item.result; target = target_of c.args.to c.index-items-item.result; rights = c.index-items-item.result.rights }
 of_is c = let e = c.pages_of-of.ensures in λ i. record { source = e.source i; end = e.end i; target = e.target i; rights = e.rights i }
 
-pub bring_item-requires-clause-growing : goal.bring_item-requires-clause-growing
-bring_item-requires-clause-growing c =
+pub bring_item-requires-clause-can : goal.bring_item-requires-clause-can
+bring_item-requires-clause-can c =
+    let at = (goal.at.bring_item-requires-clause-can c).After-pages_of-of in
     let g = c.requires.growing in
-    let v = c.loop-item.invariant.brings g.0 g.1 g.2 g.3 g.4 in
-    rw (c.pages_of-of.ensures.source, c.pages_of-of.ensures.target) (c.args.pages.now, g.0, g.1, g.2, v.0, c.in-Some.ensures, v.1)
-
-pub bring_item-requires-clause-takes : goal.bring_item-requires-clause-takes
-bring_item-requires-clause-takes c =
-    let at = (goal.at.bring_item-requires-clause-takes c).After-pages_of-of in
-    let g = c.requires.growing in
-    subst (λ (p : Pages). Fits (IsBrought p.source p.end p.target p.rights (entries_of c.loop-item.nodes.slots)) (entries_of c.loop-item.nodes.slots)) (sym (of_is at))
-    (item_fits c.args.from c.args.to c.requires.differ c.args.items.now c.requires.apart c.in-Some-found.field-0.slots c.args.pages.now c.args.targets.now.items c.args.nodes.now c.loop-item.item c.loop-item.targets.items c.loop-item.nodes
-    c.loop-item.invariant c.index-items-item.result (item at) (omega (arith, c.loop-item-test.true)) g.0 g.1 g.2 g.3 g.4)
-
-pub bring_item-requires-clause-made : goal.bring_item-requires-clause-made
-bring_item-requires-clause-made c =
-    let at = (goal.at.bring_item-requires-clause-made c).After-pages_of-of in
-    let g = c.requires.growing in
-    subst (λ (p : Pages). HaveTables (IsBrought p.source p.end p.target p.rights (entries_of c.loop-item.nodes.slots)) c.loop-item.targets.items) (sym (of_is at))
-    (item_tables c.args.from c.args.to c.requires.differ c.args.items.now c.requires.apart c.in-Some-found.field-0.slots c.args.pages.now c.args.targets.now.items c.args.nodes.now c.loop-item.item c.loop-item.targets.items c.loop-item.nodes
-    c.loop-item.invariant c.index-items-item.result (item at) (omega (arith, c.loop-item-test.true)) g.0 g.1 g.2 g.3 g.4)
-
-pub bring_item-requires-clause-room : goal.bring_item-requires-clause-room
-bring_item-requires-clause-room c =
-    let at = (goal.at.bring_item-requires-clause-room c).After-pages_of-of in
-    let g = c.requires.growing in
-    subst (λ (p : Pages). HaveRoom p.source p.end p.target p.rights p.source.page 0 c.loop-item.nodes) (sym (of_is at))
-    (item_asks c.args.from c.args.to c.requires.differ c.args.items.now c.requires.apart c.in-Some-found.field-0.slots c.args.pages.now c.args.targets.now.items c.args.nodes.now c.loop-item.item c.loop-item.targets.items c.loop-item.nodes
-    c.loop-item.invariant c.index-items-item.result (item at) (omega (arith, c.loop-item-test.true)) g.0 g.1 g.2 g.3 g.4)
+    subst (λ (p : Pages). CanBringFrom p.source p.source.page p.end p.target p.rights c.in-Some.sources.now.items c.loop-item.targets.items c.loop-item.nodes) (sym (of_is at))
+    (item_can c.args.from c.args.to c.requires.differ c.args.items.now c.requires.apart c.in-Some-found.field-0.slots c.args.pages.now c.args.targets.now.items c.args.nodes.now c.loop-item.item c.loop-item.targets.items c.loop-item.nodes
+    c.loop-item.invariant c.index-items-item.result (item at) (omega (arith, c.loop-item-test.true)) g.0 g.1 g.2 g.3 g.4 c.in-Some.sources.now.items c.in-Some.ensures)
 
 pub loop-item-preserved : goal.loop-item-preserved
 loop-item-preserved c =
     let at = (goal.at.loop-item-preserved c).After-pages_of-of in
     let g = c.requires.growing in
     brought_next c.args.from c.args.to c.requires.differ c.args.items.now c.requires.apart c.in-Some-found.field-0.slots c.args.pages.now c.args.targets.now.items c.args.nodes.now c.loop-item.item c.loop-item.targets.items c.loop-item.nodes
-    c.loop-item.invariant c.index-items-item.result (item at) (omega (arith, c.loop-item-test.true)) g.0 g.1 g.2 g.3 g.4 c.bring_item.new.targets.items c.bring_item.new.nodes
-    (subst (λ (p : Pages). BringsAll p.target.space (IsBrought p.source p.end p.target p.rights (entries_of c.loop-item.nodes.slots)) c.args.pages.now c.loop-item.targets.items c.bring_item.new.targets.items c.loop-item.nodes.slots c.bring_item.new.nodes.slots)
-    (of_is at) (c.bring_item.ensures.brings c.args.pages.now (rw c.pages_of-of.ensures.source c.in-Some.ensures)))
-    c.bring_item.ensures.made
-    (subst (λ (p : Pages). (more : ℕ) → HaveRoom p.source p.end p.target p.rights p.source.page more c.loop-item.nodes → 1 ≤ more → HasRoomFor c.bring_item.new.nodes more) (of_is at) c.bring_item.ensures.room)
+    c.loop-item.invariant c.index-items-item.result (item at) (omega (arith, c.loop-item-test.true)) g.0 g.1 g.2 g.3 g.4 c.in-Some.sources.now.items c.in-Some.ensures c.bring_item.new.targets.items c.bring_item.new.nodes
+    (subst (λ (p : Pages). BringsPages p.source p.source.page p.end p.target p.rights c.in-Some.sources.now.items c.loop-item.targets.items c.bring_item.new.targets.items c.loop-item.nodes c.bring_item.new.nodes) (of_is at) c.bring_item.ensures)
 
 pub returns-clause-growing : goal.returns-clause-growing
 returns-clause-growing c first head stamp all g = let v = c.loop-item.invariant.brings first head stamp all g in (v.0, v.1)

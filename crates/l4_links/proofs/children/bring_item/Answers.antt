@@ -1,52 +1,30 @@
 use Rattle.std.proofs.Common.{◌≤◌, ℕ, sym, ◌∙◌, arith}
 use Rattle.l4_spaces.specs.Rows.{NoneIn}
-use Rattle.l4_links.specs.Inside.Growing.{CanBringFrom, BringsPages}
-use Rattle.l4_links.proofs.PageRuns.{whole_can, whole_came, whole_room, none_shares, pages_left, pages_joined}
+use Rattle.l4_links.specs.Inside.Growing.{BringsPages}
+use Rattle.l4_links.proofs.PageRuns.{none_shares, pages_left, pages_joined}
 use Rattle.l4_links.proofs.Writes.{no_some}
 use Rattle.l4_links.proofs.children.bring_item.Goals.{After-next_page}
 use Rattle.l4_links.proofs.children.bring_item.Goals as goal
-
-pub bring_page-requires-clause-can : goal.bring_page-requires-clause-can
-bring_page-requires-clause-can c =
-    whole_can c.args.of.now.source c.args.of.now.end c.args.of.now.target c.args.of.now.rights c.args.sources.now.items c.args.targets.now.items c.args.nodes.now c.requires.apart c.requires.growing c.requires.takes c.requires.made c.requires.room
-
-pub returns-then-of-eq1-clause-brings : goal.returns-then-of-eq1-clause-brings
-returns-then-of-eq1-clause-brings c =
-    whole_came c.args.of.now.source c.args.of.now.end c.args.of.now.target c.args.of.now.rights c.args.sources.now.items c.args.targets.now.items c.args.nodes.now c.bring_page.new.targets.items c.bring_page.new.nodes c.bring_page.ensures
-
-pub returns-then-of-eq1-clause-room : goal.returns-then-of-eq1-clause-room
-returns-then-of-eq1-clause-room c =
-    whole_room c.args.of.now.source c.args.of.now.end c.args.of.now.target c.args.of.now.rights c.args.sources.now.items c.args.targets.now.items c.args.nodes.now c.bring_page.new.targets.items c.bring_page.new.nodes c.bring_page.ensures
 
 pub loop-next-init : goal.loop-next-init
 loop-next-init c = record {
   from = omega arith;
   before = c.requires.rising;
   brings = none_shares c.args.of.now.source c.args.of.now.source.page c.args.of.now.source.page c.args.of.now.target c.args.of.now.rights c.args.sources.now.items c.args.targets.now.items c.args.nodes.now
-      (λ k other ge lt. absurd (omega (arith, ge, lt))) c.requires.apart (omega arith);
+      (λ k other ge lt. absurd (omega (arith, ge, lt))) c.requires.can.apart (omega arith);
 }
 
-module _ (c : After-next_page) where
-  can : CanBringFrom c.args.of.now.source c.args.of.now.source.page c.args.of.now.end c.args.of.now.target c.args.of.now.rights c.args.sources.now.items c.args.targets.now.items c.args.nodes.now
-  can = whole_can c.args.of.now.source c.args.of.now.end c.args.of.now.target c.args.of.now.rights c.args.sources.now.items c.args.targets.now.items c.args.nodes.now c.requires.apart c.requires.growing c.requires.takes c.requires.made c.requires.room
+-- no page from the last one on and below this one has a key
+up_to : (c : After-next_page) (next : ℕ) → c.loop-next.page ≤ next → NoneIn c.args.sources.now.items c.loop-next.page next
+    → BringsPages c.args.of.now.source c.args.of.now.source.page next c.args.of.now.target c.args.of.now.rights c.args.sources.now.items c.args.targets.now.items c.loop-next.targets.items c.args.nodes.now c.loop-next.nodes
+up_to c next le none =
+    pages_joined c.args.of.now.source c.args.of.now.source.page c.args.of.now.end c.args.of.now.target c.args.of.now.rights c.args.sources.now.items c.args.targets.now.items c.args.nodes.now c.requires.can c.loop-next.page c.loop-next.invariant.from
+    c.loop-next.invariant.before c.loop-next.targets.items c.loop-next.nodes c.loop-next.invariant.brings next le c.loop-next.targets.items c.loop-next.nodes
+    (none_shares c.args.of.now.source c.loop-next.page next c.args.of.now.target c.args.of.now.rights c.args.sources.now.items c.loop-next.targets.items c.loop-next.nodes (λ k other ge lt shows. no_some k (sym (none other ge lt) ∙ shows))
+    c.requires.can.apart le)
 
-  -- no page from the last one on and below this one has a key
-  up_to : (next : ℕ) → c.loop-next.page ≤ next → NoneIn c.args.sources.now.items c.loop-next.page next
-      → BringsPages c.args.of.now.source c.args.of.now.source.page next c.args.of.now.target c.args.of.now.rights c.args.sources.now.items c.args.targets.now.items c.loop-next.targets.items c.args.nodes.now c.loop-next.nodes
-  up_to next le none =
-      pages_joined c.args.of.now.source c.args.of.now.source.page c.args.of.now.end c.args.of.now.target c.args.of.now.rights c.args.sources.now.items c.args.targets.now.items c.args.nodes.now can c.loop-next.page c.loop-next.invariant.from
-      c.loop-next.invariant.before c.loop-next.targets.items c.loop-next.nodes c.loop-next.invariant.brings next le c.loop-next.targets.items c.loop-next.nodes
-      (none_shares c.args.of.now.source c.loop-next.page next c.args.of.now.target c.args.of.now.rights c.args.sources.now.items c.loop-next.targets.items c.loop-next.nodes (λ k other ge lt shows. no_some k (sym (none other ge lt) ∙ shows)) c.requires.apart le)
-
-pub returns-in_default-clause-brings : goal.returns-in_default-clause-brings
-returns-in_default-clause-brings c =
-    whole_came c.args.of.now.source c.args.of.now.end c.args.of.now.target c.args.of.now.rights c.args.sources.now.items c.args.targets.now.items c.args.nodes.now c.loop-next.targets.items c.loop-next.nodes
-    (up_to (goal.at.returns-in_default-clause-brings c).After-next_page c.args.of.now.end c.loop-next.invariant.before c.in_default.ensures)
-
-pub returns-in_default-clause-room : goal.returns-in_default-clause-room
-returns-in_default-clause-room c =
-    whole_room c.args.of.now.source c.args.of.now.end c.args.of.now.target c.args.of.now.rights c.args.sources.now.items c.args.targets.now.items c.args.nodes.now c.loop-next.targets.items c.loop-next.nodes
-    (up_to (goal.at.returns-in_default-clause-room c).After-next_page c.args.of.now.end c.loop-next.invariant.before c.in_default.ensures)
+pub returns-in_default : goal.returns-in_default
+returns-in_default c = up_to (goal.at.returns-in_default c).After-next_page c.args.of.now.end c.loop-next.invariant.before c.in_default.ensures
 
 pub bring_from-page-requires-clause-can : goal.bring_from-page-requires-clause-can
 bring_from-page-requires-clause-can c =
@@ -55,7 +33,7 @@ bring_from-page-requires-clause-can c =
     let from = c.loop-next.invariant.from in
     let le = found.from in
     let lt = found.before in
-    pages_left c.args.of.now.source c.args.of.now.source.page c.args.of.now.end c.args.of.now.target c.args.of.now.rights c.args.sources.now.items c.args.targets.now.items c.args.nodes.now (can at) c.in-Some.next (omega (arith, from, le)) (omega (arith, lt))
+    pages_left c.args.of.now.source c.args.of.now.source.page c.args.of.now.end c.args.of.now.target c.args.of.now.rights c.args.sources.now.items c.args.targets.now.items c.args.nodes.now c.requires.can c.in-Some.next (omega (arith, from, le)) (omega (arith, lt))
     c.loop-next.targets.items c.loop-next.nodes (up_to at c.in-Some.next found.from found.least)
 
 pub loop-next-preserved : goal.loop-next-preserved
@@ -71,6 +49,6 @@ loop-next-preserved c =
       from = omega (arith, less, from, le);
       before = next.1;
       brings =
-          pages_joined c.args.of.now.source c.args.of.now.source.page c.args.of.now.end c.args.of.now.target c.args.of.now.rights c.args.sources.now.items c.args.targets.now.items c.args.nodes.now (can at) c.in-Some.next (omega (arith, from, le)) (omega (arith, lt))
+          pages_joined c.args.of.now.source c.args.of.now.source.page c.args.of.now.end c.args.of.now.target c.args.of.now.rights c.args.sources.now.items c.args.targets.now.items c.args.nodes.now c.requires.can c.in-Some.next (omega (arith, from, le)) (omega (arith, lt))
           c.loop-next.targets.items c.loop-next.nodes (up_to at c.in-Some.next found.from found.least) c.bring_from-page.result (omega (arith, less)) c.bring_from-page.new.targets.items c.bring_from-page.new.nodes c.bring_from-page.ensures.brings;
     }
