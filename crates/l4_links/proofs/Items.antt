@@ -1,29 +1,28 @@
 -- What a message brings, item by item, while the tables of the places' space are aside.
-use Rattle.std.proofs.Common.{◌≡◌, ◌≢◌, ◌⊎◌, ℕ, zero, suc, ◌+◌, ◌-◌, ◌^◌, ◌<◌, ◌≤◌, Bool, true, false, List, Option, Some, None, Result, Ok, Err, IfOk, length, slice_get, get_or, refl, sym, ap, ◌∙◌, subst, inl, inr, arith}
+use Rattle.std.proofs.Common.{◌≡◌, ◌≢◌, ◌⊎◌, ℕ, zero, suc, ◌+◌, ◌-◌, ◌^◌, ◌<◌, ◌≤◌, Bool, true, false, List, Option, Some, None, Result, Ok, Err, IfOk, length, slice_get, get_or, sym, ap, ◌∙◌, subst, inl, inr, arith}
 use Rattle.std.proofs.lemmas.Bool.{cases_eq, cases_lt}
 use Rattle.std.proofs.lemmas.Option.{slice_get-get_or}
 use Rattle.std.specs.Option.{option_map, option_and_then}
-use Rattle.l4_fpage.specs.Rights.{RightsSet, common, no_rights}
+use Rattle.l4_fpage.specs.Rights.{common, no_rights}
 use Rattle.l4_spaces.specs.Tables.{Tables, key_of}
 use Rattle.l4_spaces.specs.Rows.{Rows, AreTablesOf, AreAside}
 use Rattle.l4_spaces.proofs.Aside.{made_aside}
 use Rattle.l4_msg.specs.declared.items.ItemMove.{ItemMove}
 use Rattle.l4_nodes.specs.declared.Place.{Place}
-use Rattle.l4_nodes.specs.Slots.{Slots, Store, HasRoomFor, node_at}
-use Rattle.l4_links.specs.Leads.{Leads, step, steps}
+use Rattle.l4_nodes.specs.Slots.{Slots, Store, HasRoomFor}
 use Rattle.l4_links.specs.declared.Standing.{Standing}
 use Rattle.l4_links.specs.declared.Entry.{Entry}
-use Rattle.l4_links.specs.Entries.{Entries, entry_at, standing_at, parent_of, IsAt, moved_place, child_entry, source_of, target_of, end_of, IsBrought, IsDue, Brings, AddsChild, AreOverLeaves, LacksKey, AreApart}
+use Rattle.l4_links.specs.Entries.{Entries, entry_at, standing_at, IsAt, moved_place, child_entry, source_of, target_of, end_of, IsBrought, IsDue, Brings, AddsChild, AreOverLeaves, LacksKey, AreApart}
 use Rattle.l4_links.specs.Inside.Bringing.{IsBroughtFrom, Fits, HaveTables, IsLacking, AtMost, sum_to, WantsItems, Ends}
-use Rattle.l4_links.specs.Inside.Growing.{SharesNone, HaveRoom, AreGrowing, StayGrowing, BringsAll, CanBringFrom, BringsPages}
+use Rattle.l4_links.specs.Inside.Growing.{HaveRoom, AreGrowing, StayGrowing, BringsAll, CanBringFrom, BringsPages}
 use Rattle.l4_links.specs.Inside.Moving.{MakesTables}
-use Rattle.l4_links.specs.Inside.Keeping.{IsIndexed, entries_of, standing_of}
+use Rattle.l4_links.specs.Inside.Keeping.{IsIndexed, entries_of}
 use Rattle.l4_links.proofs.Asides.{indexed_alike}
 use Rattle.l4_links.proofs.Bringing.{brings_joined, brings_as, brings_none, brings_added, parent_away, brought_on, brought_back, lacking_back, fits_on, at_most_back}
 use Rattle.l4_links.proofs.BroughtParts.{nothing_brought, one_on, one_back, room_less}
 use Rattle.l4_links.proofs.PageRuns.{whole_came, whole_room}
-use Rattle.l4_links.proofs.Seen.{standing_is}
-use Rattle.l4_links.proofs.Writes.{same_some, map_from}
+use Rattle.l4_links.proofs.RowSteps.{last_step}
+use Rattle.l4_links.proofs.Writes.{same_some}
 use Rattle.l4_links.proofs.TableEntries.{entry_of_page, entry_named}
 
 -- the place of the page is the target
@@ -33,11 +32,6 @@ goes_there source target = λ i. record { space = target.space; page = (let e : 
 -- the element that is read stands there
 pub read_there : {A : Type 0} (xs : List A) (i : ℕ) (x : A) → i < length xs → x ≡ get_or xs i x → slice_get xs i ≡ Some x
 read_there {A = A} xs i x lt is = slice_get-get_or xs i x lt ∙ ap (λ (v : A). Some v) (sym is)
-
--- what is under the key shares no right, or one, as a contract sees it
-pub none_shared : (slots : Slots) (rights : RightsSet) (key : ℕ) → SharesNone key rights slots → (x : Standing) → standing_at (entries_of slots) key ≡ Some x → common x.rights rights ≡ no_rights
-none_shared slots rights key none x is =
-    let n = map_from standing_of (node_at slots key) x (sym (standing_is slots key) ∙ is) in sym (ap (λ (y : Standing). common y.rights rights) n.2) ∙ none n.0 n.1
 
 -- what is known of an attempt's end
 pub if_done : {E : Type 0} (r : Result Bool E) (D L R P : Type 0) → Ends r D L R → (D → P) → IfOk r (λ done. done ≡ true → P)
@@ -83,14 +77,9 @@ sum_up counts a (suc b) le = elim (cases_lt a (suc b)) [
   | inr ge ↦ (let e : a ≡ suc b = omega (arith, ge, le) in subst (λ (z : ℕ). sum_to counts z ≤ sum_to counts (suc b)) (sym e) (omega arith))
 ]
 
--- nothing leads to what nothing has as its parent
-no_descent : (s : Entries) (key : ℕ) → ((low : ℕ) → parent_of s low ≢ Some key) → (low high : ℕ) → Leads (parent_of s) low high → high ≡ key → ⊥
-no_descent s key leaf low high (step {low = l} is) e = leaf l (is ∙ ap (λ (k : ℕ). Some k) e)
-no_descent s key leaf low high (steps {middle = m} is rest) e = no_descent s key leaf m high rest e
-
 -- what fits is over leaves
 pub fits_leaves : (Due : Entry → Type 0) (s : Entries) → Fits Due s → AreOverLeaves Due s
-fits_leaves Due s fits e due key at low down = let was = entry_of_page s key e.place at in no_descent s key (fits e due key was.0 was.1 was.2).leaf low key down refl
+fits_leaves Due s fits e due key at low down = let was = entry_of_page s key e.place at in let up = last_step down in (fits e due key was.0 was.1 was.2).leaf up.0 up.1
 
 -- nothing is due
 pub none_mapped : (Due : Entry → Type 0) (s : Entries) → ((e : Entry) → ¬ (Due e)) → Brings Due s s × AreOverLeaves Due s

@@ -1,6 +1,7 @@
 -- Children of many pages, run by run, while the tables of the places' space are aside.
 use Rattle.std.proofs.Common.{◌≡◌, ◌≢◌, ℕ, nat_lt, ◌+◌, ◌-◌, ◌/◌, ◌%◌, ◌<◌, ◌≤◌, List, Option, Some, true, length, slice_set, refl, sym, ap, ◌∙◌, subst, inl, inr, arith}
 use Rattle.std.proofs.lemmas.Bool.{cases_eq}
+use Rattle.std.specs.Option.{option_and_then}
 use Rattle.l4_fpage.specs.Rights.{RightsSet}
 use Rattle.l4_spaces.specs.Tables.{Tables, key_of, table_pages}
 use Rattle.l4_spaces.specs.Rows.{Rows, row, entry, is_made, AreTablesOf, IsRowOf}
@@ -47,7 +48,8 @@ module _ (source : Place) (page end : ℕ) (target : Place) (rights : RightsSet)
   -- no page shares a right
   pub none_shares : ((k other : ℕ) → page ≤ other → other < end → entry sources other ≡ Some k → SharesNone k rights old.slots) → source.space ≢ target.space → page ≤ end → BringsPages source page end target rights sources rows rows old old
   none_shares none = pages_passed (λ pages all lent same indexed. nothing_brought source page end target rights (entries_of old.slots)
-      (λ k e x at in_space ge lt. shared_none old.slots rights k e x at (none k e.place.page ge lt (sym (lent.keys e.place.page) ∙ sym (same e.place.page) ∙ entry_named old.slots all indexed source.space k e at in_space))))
+      (λ k e x at in_space ge lt stands. shared_none old.slots rights k (none k e.place.page ge lt (sym (lent.keys e.place.page) ∙ sym (same e.place.page) ∙ entry_named old.slots all indexed source.space k e at in_space)) x
+      (ap (option_and_then (λ (z : Entry). z.stands)) at ∙ stands)))
 
   module _ (c : CanBringFrom source page end target rights sources rows old) where
     -- the place of a page that shares a right has its table

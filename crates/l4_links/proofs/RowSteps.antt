@@ -17,78 +17,38 @@ use Rattle.l4_links.specs.declared.Standing.{Standing}
 use Rattle.l4_links.specs.declared.Entry.{Entry}
 use Rattle.l4_links.specs.Entries.{Entries, entry_at, standing_at, IsAt, moved_place, child_entry, Brings}
 use Rattle.l4_links.specs.Inside.Bringing.{IsBroughtFrom, IsSpare, IsLacking}
-use Rattle.l4_links.specs.Inside.Nodes.{IsOf}
 use Rattle.l4_links.specs.Inside.Keeping.{entries_of, standing_of}
 use Rattle.l4_links.specs.Inside.Growing.{AddsAt, RenewsAt, AreRows, AreSameBeyond, SharesNone, SharesSome, Enters, Lacks, IsSpareNode, IsBareNode, HaveRoom, RunsUpTo, CanEnter, CanRun, BringsRow}
 use Rattle.l4_links.proofs.Adding.{blank_of}
 use Rattle.l4_links.proofs.Bringing.{brings_none, brings_as, brings_added, brings_renewed, at_most_back}
 use Rattle.l4_links.proofs.BroughtParts.{nothing_brought, one_on, one_back, parts_joined, fits_rest, lacking_rest, at_most_step, room_less}
 use Rattle.l4_links.proofs.Kept.{nodes_blank, live_nodes, live_child}
-use Rattle.l4_links.proofs.Moving.{unnamed}
-use Rattle.l4_links.proofs.Naming.{indexed_same, indexed_added, find_is}
+use Rattle.l4_links.proofs.Naming.{indexed_same, indexed_added, is_at, find_is}
 use Rattle.l4_links.proofs.Stacking.{stack_nodes, stack_comes}
 use Rattle.l4_links.proofs.TableEntries.{entry_of_page}
 use Rattle.l4_links.proofs.Views.{view_added}
-use Rattle.l4_links.proofs.Seen.{standing_is, parent_same}
-use Rattle.l4_links.proofs.Writes.{map_from, same_some, no_some}
+use Rattle.l4_links.proofs.Seen.{standing_is, standing_node, parent_same}
+use Rattle.l4_links.proofs.Writes.{same_some, no_some}
 
--- the tables once the page has this key
-abbrev pub with_key : (to other low key : ℕ) → Tables → Tables
-with_key to other low key all = record all { pages = map.insert all.pages (to, other * table_pages + low) key }
-
-pub same_beyond : (to other : ℕ) (all : Tables) → AreSameBeyond to other all all
+same_beyond : (to other : ℕ) (all : Tables) → AreSameBeyond to other all all
 same_beyond to other all = record { away = λ space page out. refl; spaces = refl }
 
-module _ (from high to other : ℕ) (source target row : List (Option ℕ)) (old new : Slots) (first head : Option ℕ) (stamp : ℕ) (all : Tables) (r : AreRows from high to other source target old first head stamp all)
-    (parent low : ℕ) (place : Place) (rights : RightsSet) (a : AddsAt parent place rights low old new target row) (to_is : place.space ≡ to) (page_is : place.page ≡ other * table_pages + low) (lt : low < table_pages) (fits : IsPage place.page) where
-  same : (k : ℕ) → node_at a.adds.middle k ≡ node_at old k
-  same = nodes_blank old a.adds.middle a.key (blank_of place) refl a.adds.blanks.vacant a.adds.blanks.filled a.adds.blanks.others
+-- what is under the key shares no right with these, or one, as a contract sees it
+pub shared_none : (slots : Slots) (rights : RightsSet) (k : ℕ) → SharesNone k rights slots → (x : Standing) → standing_at (entries_of slots) k ≡ Some x → common x.rights rights ≡ no_rights
+shared_none slots rights k none x is = let m = standing_node slots k x is in ap (λ (y : Standing). common y.rights rights) (sym m.2) ∙ none m.0 m.1
 
-  absent : key_of all place.space place.page ≡ None
-  absent = ap (λ (z : ℕ). key_of all z place.page) to_is ∙ ap (key_of all to) page_is ∙ r.target_row.keys_are low lt ∙ a.free
-
-  free_before : (k : ℕ) → ¬ (IsOf old place k)
-  free_before = unnamed old all r.indexed place absent
-
-  pub rows_added : AreRows from high to other source row new first head stamp (with_key to other low a.key all)
-  rows_added = record {
-    live = live_child a.adds.middle new first stamp parent a.key a.above rights (live_nodes old a.adds.middle same first stamp r.live) (same parent ∙ a.stands) a.adds.sprouts a.adds.comes a.adds.forest;
-    stack = stack_comes (record { frame = a.above.frame; rights = common a.above.rights rights; source = false; granted = None }) a.key a.adds.middle new head a.adds.comes a.shares (stack_nodes old a.adds.middle head same r.stack);
-    source_row = still_row all (with_key to other low a.key all) from high source (λ page. put_away all to from (other * table_pages + low) r.apart a.key page) r.source_row;
-    target_row = subst (λ (z : List (Option ℕ)). IsRowOf (with_key to other low a.key all) to other z) (sym a.named) (put_row all to other target r.target_row low lt a.key);
-    indexed =
-        indexed_same a.adds.middle new (with_key to other low a.key all) (with_key to other low a.key all) a.adds.comes.spots_same refl refl
-        (indexed_added old a.adds.middle all (with_key to other low a.key all) place a.key (blank_of place) r.indexed free_before a.few a.adds.blanks.vacant refl a.adds.blanks.filled a.adds.blanks.others
-        (subst (λ (z : ℕ). IsTrue (set.contains all.spaces z)) (sym to_is) r.there) fits (λ i. map.insert all.pages (sym to_is i, sym page_is i) a.key) refl);
-    there = r.there;
-    apart = r.apart;
-  }
-
-  pub beyond_more : AreSameBeyond to other all (with_key to other low a.key all)
-  beyond_more = record {
-    away = λ space page out. put_other all.pages (to, other * table_pages + low) (space, page) a.key
-        (λ e. (let p : page ≡ other * table_pages + low = ap (λ (q : ℕ × ℕ). q.1) e in out (ap (λ (q : ℕ × ℕ). q.0) e, (omega (arith, p), omega (arith, p, lt)))));
-    spaces = refl;
-  }
-
--- what is under the key shares no right with these, by the entries
-pub shared_none : (slots : Slots) (rights : RightsSet) (k : ℕ) (e : Entry) (x : Standing) → entry_at (entries_of slots) k ≡ Some e → SharesNone k rights slots → e.stands ≡ Some x → common x.rights rights ≡ no_rights
-shared_none slots rights k e x is none stands =
-    let m = map_from standing_of (node_at slots k) x (sym (standing_is slots k) ∙ ap (option_and_then (λ (z : Entry). z.stands)) is ∙ stands) in
-    ap (λ (y : Standing). common y.rights rights) (sym m.2) ∙ none m.0 m.1
-
--- what stands under the key, if it shares one
 pub shared_stands : (slots : Slots) (rights : RightsSet) (k : ℕ) (e : Entry) → entry_at (entries_of slots) k ≡ Some e → (x : SharesSome k rights slots) → e.stands ≡ Some (standing_of x.0)
 shared_stands slots rights k e at x = sym (ap (option_and_then (λ (z : Entry). z.stands)) at) ∙ standing_is slots k ∙ ap (option_map standing_of) x.1
 
-last_step : {f : ℕ → Option ℕ} {low high : ℕ} → Leads f low high → (x : ℕ) × (f x ≡ Some high)
+-- the last of the steps that lead to a key
+pub last_step : {f : ℕ → Option ℕ} {low high : ℕ} → Leads f low high → (x : ℕ) × (f x ≡ Some high)
 last_step {f} {low} {high} (step up) = (low, up)
 last_step (steps up more) = last_step more
 
 -- what can give its place to a child, by the slots
 module _ (slots : Slots) (key : ℕ) (was : Entry) (at : entry_at (entries_of slots) key ≡ Some was) (s : IsSpare (entries_of slots) key was) where
   its_node : (n : Node) × (node_at slots key ≡ Some n) × (standing_of n ≡ s.plain.standing)
-  its_node = map_from standing_of (node_at slots key) s.plain.standing (sym (standing_is slots key) ∙ ap (option_and_then (λ (z : Entry). z.stands)) at ∙ s.plain.stands)
+  its_node = standing_node slots key s.plain.standing (ap (option_and_then (λ (z : Entry). z.stands)) at ∙ s.plain.stands)
 
   pub spare_node : IsSpareNode key slots
   spare_node = record {
@@ -219,21 +179,50 @@ module _ (f t : ℕ) (place : Place) (rights : RightsSet) (line row : List (Opti
       same_beyond c.target.space c.other c.all,
       subst (λ (z : Slots). Brings (Due (c.page + 1)) s (entries_of z)) (sym slots_same)
           (brings_none (Due (c.page + 1)) s
-          (nothing_brought c.source c.page (c.page + 1) c.target rights s (λ k e x at in_space ge before stands. shared_none now.slots rights k e x at
-          (none k ((source_is k).1 (ap (option_map {T = Entry} (λ z. z.place)) at ∙ (λ i. Some (record { space = in_space i; page = (let same : e.place.page ≡ c.page = omega (arith, ge, before) in same i) }))))) stands))),
+          (nothing_brought c.source c.page (c.page + 1) c.target rights s (λ k e x at in_space ge before stands. shared_none now.slots rights k
+          (none k ((source_is k).1 (ap (option_map {T = Entry} (λ z. z.place)) at ∙ (λ i. Some (record { space = in_space i; page = (let same : e.place.page ≡ c.page = omega (arith, ge, before) in same i) }))))) x
+          (ap (option_and_then (λ (z : Entry). z.stands)) at ∙ stands)))),
     )
 
-    added : (k : ℕ) → key ≡ Some k → AddsAt k place rights t now.slots new.slots row new_row → Came
-    added k is a =
-        let to_is : place.space ≡ c.target.space = ap (λ (q : Place). q.space) c.start.place_is in
-        let v = view_added now.slots new.slots k place a.above rights a.key a.stands a.adds in (
-          with_key c.target.space c.other t a.key c.all,
-          rows_added c.source.space c.high c.target.space c.other line row new_row now.slots new.slots c.first c.head c.stamp c.all c.rows k t place rights a to_is c.start.there_is t_lt fits_page,
-          beyond_more c.source.space c.high c.target.space c.other line row new_row now.slots new.slots c.first c.head c.stamp c.all c.rows k t place rights a to_is c.start.there_is t_lt fits_page,
-          page_brings k is (a.above, a.stands, a.shares) place c.start.place_is v.above v.at_parent (entries_of new.slots)
-              (brings_added k place rights s (entries_of new.slots) a.key v
-              (λ o at. no_some o (sym a.free ∙ (target_is o).1 (subst (λ (p : Place). IsAt s p o) c.start.place_is at))) cases_eq),
-        )
+    module _ (k : ℕ) (is : key ≡ Some k) (a : AddsAt k place rights t now.slots new.slots row new_row) where
+      abbrev spot : ℕ
+      spot = c.other * table_pages + t
+
+      abbrev named : Tables
+      named = record c.all { pages = map.insert c.all.pages (c.target.space, spot) a.key }
+
+      same : (o : ℕ) → node_at a.adds.middle o ≡ node_at now.slots o
+      same = nodes_blank now.slots a.adds.middle a.key (blank_of place) refl a.adds.blanks.vacant a.adds.blanks.filled a.adds.blanks.others
+
+      free : (o : ℕ) → ¬ (IsAt s place o)
+      free o at = no_some o (sym a.free ∙ (target_is o).1 (subst (λ (p : Place). IsAt s p o) c.start.place_is at))
+
+      to_is : c.target.space ≡ place.space
+      to_is = sym (ap (λ (q : Place). q.space) c.start.place_is)
+
+      added : Came
+      added =
+          let v = view_added now.slots new.slots k place a.above rights a.key a.stands a.adds in (
+            named,
+            record {
+              live = live_child a.adds.middle new.slots c.first c.stamp k a.key a.above rights (live_nodes now.slots a.adds.middle same c.first c.stamp c.rows.live) (same k ∙ a.stands) a.adds.sprouts a.adds.comes a.adds.forest;
+              stack = stack_comes (record { frame = a.above.frame; rights = common a.above.rights rights; source = false; granted = None }) a.key a.adds.middle new.slots c.head a.adds.comes a.shares (stack_nodes now.slots a.adds.middle c.head same c.rows.stack);
+              source_row = still_row c.all named c.source.space c.high line (λ page. put_away c.all c.target.space c.source.space spot c.rows.apart a.key page) c.rows.source_row;
+              target_row = subst (λ (z : List (Option ℕ)). IsRowOf named c.target.space c.other z) (sym a.named) (put_row c.all c.target.space c.other row c.rows.target_row t t_lt a.key);
+              indexed =
+                  indexed_same a.adds.middle new.slots named named a.adds.comes.spots_same refl refl
+                  (indexed_added now.slots a.adds.middle c.all named place a.key (blank_of place) c.rows.indexed (λ o of. free o ((is_at now.slots place o).0 of)) a.few a.adds.blanks.vacant refl a.adds.blanks.filled a.adds.blanks.others
+                  (subst (λ (z : ℕ). IsTrue (set.contains c.all.spaces z)) to_is c.rows.there) fits_page (λ i. map.insert c.all.pages (to_is i, sym c.start.there_is i) a.key) refl);
+              there = c.rows.there;
+              apart = c.rows.apart;
+            },
+            record {
+              away = λ space page out. put_other c.all.pages (c.target.space, spot) (space, page) a.key
+                  (λ e. (let p : page ≡ spot = ap (λ (q : ℕ × ℕ). q.1) e in let lt = t_lt in out (ap (λ (q : ℕ × ℕ). q.0) e, (omega (arith, p), omega (arith, p, lt)))));
+              spaces = refl;
+            },
+            page_brings k is (a.above, a.stands, a.shares) place c.start.place_is v.above v.at_parent (entries_of new.slots) (brings_added k place rights s (entries_of new.slots) a.key v free cases_eq),
+          )
 
     renewed : (k : ℕ) → key ≡ Some k → RenewsAt k rights t now.slots new.slots row new_row → Came
     renewed k is w =

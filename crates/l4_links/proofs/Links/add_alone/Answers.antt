@@ -8,7 +8,7 @@ use Rattle.l4_links.specs.Entries.{Linked, standing_at, IsAt, AddsChild, IsDue, 
 use Rattle.l4_links.specs.Inside.Keeping.{entries_of, standing_of}
 use Rattle.l4_links.specs.Inside.Nodes.{AddsUnder}
 use Rattle.l4_links.proofs.Adding.{blank_of}
-use Rattle.l4_links.proofs.Items.{read_there, none_shared, none_mapped, one_none, one_lacks, one_mapped}
+use Rattle.l4_links.proofs.Items.{read_there, none_mapped, one_none, one_lacks, one_mapped}
 use Rattle.l4_links.proofs.Kept.{nodes_blank, sound_nodes, sound_child}
 use Rattle.l4_links.proofs.Moving.{unnamed}
 use Rattle.l4_links.proofs.Naming.{is_at, indexed_same, indexed_added}
@@ -16,6 +16,7 @@ use Rattle.l4_links.proofs.Seen.{standing_is}
 use Rattle.l4_links.proofs.Stacking.{stack_nodes, stack_comes}
 use Rattle.l4_links.proofs.Views.{view_added}
 use Rattle.l4_links.proofs.Writes.{same_some}
+use Rattle.l4_links.proofs.RowSteps.{shared_none}
 use Rattle.l4_links.proofs.Links.add_alone.Goals.{After-sharing, In-Some-sharing, After-make_key, After-add_under}
 use Rattle.l4_links.proofs.Links.add_alone.Goals as goal
 
@@ -45,7 +46,7 @@ returns-in_default-sharing-clause-maps c =
     (one_none c.args.from c.args.to c.args.items.now c.index-items-0.result (one at) (item at) (page at) c.args.self.now.entries
     (λ k x is stands. ap (common x.rights) (sym c.pages_of-of.ensures.rights) ∙
     subst (λ (s : Linked). standing_at s.entries c.in-Some.key ≡ Some x → common x.rights c.pages_of-of.result.rights ≡ no_rights) c.self.view_is
-    (none_shared c.self.inside.nodes.slots c.pages_of-of.result.rights c.in-Some.key c.in_default-sharing.ensures x) (sym (ap (standing_at c.args.self.now.entries) (alone at k is)) ∙ stands)))
+    (shared_none c.self.inside.nodes.slots c.pages_of-of.result.rights c.in-Some.key c.in_default-sharing.ensures x) (sym (ap (standing_at c.args.self.now.entries) (alone at k is)) ∙ stands)))
 
 -- what is under the key, as a contract sees it
 stands : (c : In-Some-sharing) → standing_at c.args.self.now.entries c.in-Some.key ≡ Some (standing_of c.in-Some-sharing.above)
