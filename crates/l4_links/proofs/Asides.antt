@@ -1,12 +1,11 @@
 -- The tables of two spaces that are aside while pages go from the one to the other.
-use Rattle.std.proofs.Common.{◌≡◌, ◌≢◌, ◌<◌, ℕ, nat_lt, true, List, Option, length, slice_set, IsTrue, sym, ap, ◌∙◌, subst, inl, inr, arith}
+use Rattle.std.proofs.Common.{◌≡◌, ◌≢◌, ◌<◌, ℕ, true, List, Option, length, slice_set, IsTrue, sym, ◌∙◌, arith}
 use Rattle.std.proofs.lemmas.Bool.{cases_eq}
-use Rattle.std.specs.Ordering.{nat_cmp}
 use Rattle.std.specs.FinSet as set
-use Rattle.l4_spaces.specs.Tables.{Tables, key_of, table_pages}
-use Rattle.l4_spaces.specs.Rows.{Rows, row, is_made, AreAside, IsRowOf}
+use Rattle.l4_spaces.specs.Tables.{Tables, key_of}
+use Rattle.l4_spaces.specs.Rows.{Rows, row, is_made, AreAside}
 use Rattle.l4_spaces.proofs.Aside.{still_aside}
-use Rattle.l4_spaces.proofs.RowAside.{row_of, tables_back}
+use Rattle.l4_spaces.proofs.RowAside.{tables_back}
 use Rattle.l4_spaces.proofs.Rows.{row_here, row_other}
 use Rattle.l4_nodes.specs.Slots.{Slots}
 use Rattle.l4_links.specs.Inside.Keeping.{IsIndexed}

@@ -1,20 +1,18 @@
 -- The burial of the nodes without rights.
 use Rattle.std.proofs.Common.{◌≡◌, ◌≢◌, ◌⊎◌, ℕ, ◌+◌, ◌≤◌, List, [], ◌∷◌, ◌++◌, length, Option, Some, None, refl, sym, ap, ◌∙◌, subst, arith, inl, inr}
-use Rattle.std.proofs.lemmas.Bool.{cases_eq}
 use Rattle.std.specs.Option.{option_map, option_and_then}
 use Rattle.l4_fpage.specs.Rights.{RightsSet, common, no_rights}
-use Rattle.l4_links.specs.declared.Standing.{Standing}
 use Rattle.l4_nodes.specs.declared.nodes.Node.{Node}
 use Rattle.l4_nodes.specs.declared.nodes.Slot.{Slot}
 use Rattle.l4_links.specs.Inside.Trees.{Limb, Sheds, SameOrder}
 use Rattle.l4_links.specs.Inside.Orders.{IsIn, first_of, position}
-use Rattle.l4_nodes.specs.Slots.{Slots, slot_at, node_at, spot_of}
+use Rattle.l4_nodes.specs.Slots.{Slots, slot_at, node_at}
 use Rattle.l4_links.specs.Inside.Nodes.{limbs, Doom, dooms, IsOrder, IsForest, TakesSlot}
 use Rattle.l4_links.specs.Inside.Stacks.{IsStack, HasStack, IsBuried, IsLeft, Buries}
 use Rattle.l4_links.specs.Inside.Keeping.{standing_of, entries_of, IsWithin, IsFresh, IsSound}
 use Rattle.l4_links.specs.Entries as entries
-use Rattle.l4_links.proofs.Writes.{no_some, same_some, map_from, no_slot, doom_of, limb_of, worth_of, marks_of}
-use Rattle.l4_links.proofs.Linking.{parted, first_in, begins_with, first_left}
+use Rattle.l4_links.proofs.Writes.{no_some, same_some, map_from, doom_of, limb_of, worth_of, marks_of}
+use Rattle.l4_links.proofs.Linking.{parted, begins_with, first_left}
 use Rattle.l4_links.proofs.Positions.{same_order_out}
 use Rattle.l4_links.proofs.Neighbours.{neighbours_at}
 use Rattle.l4_links.proofs.Growing.{tree_sheds}
@@ -66,10 +64,7 @@ buried_more old cur new first begin after count key node c is_key onto stay out 
     let here : IsOrder cur (p.front ++ key ∷ p.back) = subst (λ (z : List ℕ). IsOrder cur z) p.is c.order in
     let near = neighbours_at cur p.front key p.back node here is_key in
     let none_new : limbs new key ≡ None = piece_gone limb_of new key t.gone in
-    let was_limb : (a : ℕ) (x : Limb) → limbs new a ≡ Some x → limbs cur a ≡ Some x = λ a x is. elim (cases_eq a key) [
-      | inl ak ↦ no_some x (sym none_new ∙ sym (ap (limbs new) ak) ∙ is)
-      | inr ne ↦ sym (t.limbs_same a ne) ∙ is
-    ] in
+    let was_limb : (a : ℕ) (x : Limb) → limbs new a ≡ Some x → limbs cur a ≡ Some x = λ a x is. grind arith in
     record {
       all = c.all;
       stack = rest;
@@ -86,22 +81,7 @@ buried_more old cur new first begin after count key node c is_key onto stay out 
           order_on (limbs cur) (limbs new) (position c.before) (position (p.front ++ key ∷ p.back)) (position (p.front ++ p.back)) was_limb
           (subst (λ (z : List ℕ). SameOrder (limbs cur) (position c.before) (position z)) p.is c.same) (same_order_out (limbs new) p.front key p.back none_new);
       first_is = λ f. first_left p.front p.back p.back key node.prev node.next begin after near.0 near.1 onto stay (sym (ap (λ (z : List ℕ). first_of z None) p.is) ∙ c.first_is f);
-      each = λ k. elim (cases_eq k key) [
-        | inl ke ↦ inl (subst (λ (z : ℕ). IsBuried old new z) (sym ke) (elim (c.each key) [
-          | inl b ↦ no_some node (sym (ap (option_and_then (λ (z : Slot). z.node)) b.gone) ∙ is_key)
-          | inr l ↦ record { doom = record { rights = no_rights; next = first_of rest None }; was = sym l.doom ∙ st.stacked.0; none = refl; gone = t.gone }
-        ]))
-        | inr ne ↦ elim (c.each k) [
-          | inl b ↦ inl (record { doom = b.doom; was = b.was; none = b.none; gone = no_slot new k (t.spots_same k ne ∙ ap (option_map spot_of) b.gone) })
-          | inr l ↦ inr (record {
-            limb = t.limbs_same k ne ∙ l.limb;
-            value = t.values_same k ne ∙ l.value;
-            mark = t.marks_same k ne ∙ l.mark;
-            doom = t.dooms_same k ne ∙ l.doom;
-            spot = t.spots_same k ne ∙ l.spot;
-          })
-        ]
-      ];
+      each = λ k. grind arith;
     }
 
 -- what lies within no rights has none
@@ -128,15 +108,7 @@ buried_done old cur first begin count c =
         ])
       ];
     } in
-    record {
-      each = c.each;
-      empty = empty;
-      before = c.before;
-      left = c.left;
-      was = c.was;
-      forest = record { order = c.order; tree = tree_sheds (limbs old) (limbs cur) (position c.before) (position c.left) c.was.tree sheds c.same };
-      first_is = c.first_is;
-    }
+    grind (arith, tree_sheds)
   where
     none_in : (ks : List ℕ) (k : ℕ) → IsIn ks k → first_of ks None ≡ None → ⊥
     none_in [] k i e = i
@@ -166,10 +138,7 @@ sound_buried old new first after stamp fresh walk s b f =
 -- what a contract sees of the burial
 pub view_buries : (old new : Slots) (first after : Option ℕ) → Buries first after old new → entries.Buries (entries_of old) (entries_of new)
 view_buries old new first after b = record {
-  gone = λ k t at none. elim (b.each k) [
-    | inl g ↦ view_gone new k g.gone
-    | inr l ↦ absurd (let n = standing_node old k t at in b.empty k (doom_of n.0) (l.doom ∙ doom_at old k n.0 n.1) (ap (λ (z : Standing). z.rights) n.2 ∙ none))
-  ];
+  gone = λ k t at none. grind (arith, view_gone, standing_node, doom_of, doom_at);
   kept = λ k some. elim (b.each k) [
     | inl g ↦ absurd (let n = map_from doom_of (node_at old k) g.doom g.was in some (standing_of n.0) (standing_is old k ∙ ap (option_map standing_of) n.1) (ap (λ (z : Doom). z.rights) n.2 ∙ g.none))
     | inr l ↦ entry_same old new k l.spot l.limb l.value

@@ -1,5 +1,5 @@
 -- A node that leaves its list after all that descends from it.
-use Rattle.std.proofs.Common.{◌≡◌, ◌≢◌, ℕ, List, ◌∷◌, ◌++◌, Option, Some, None, refl, sym, ap, ◌∙◌, arith, inl, inr}
+use Rattle.std.proofs.Common.{◌≡◌, ◌≢◌, ℕ, List, ◌∷◌, ◌++◌, Option, Some, None, sym, ap, ◌∙◌, arith, inl, inr}
 use Rattle.std.proofs.lemmas.Bool.{cases_eq}
 use Rattle.std.specs.Option.{option_map}
 use Rattle.l4_nodes.specs.declared.nodes.Node.{Node}
@@ -54,9 +54,6 @@ cleared old mid new top node first after p at q order onto keep =
       rest = p.rest;
       left = p.left;
       was = p.was;
-      forest = record {
-        order = order p.front p.left p.forest.order;
-        tree = tree_sheds (limbs mid) (limbs new) (position (p.front ++ top ∷ p.left)) (position (p.front ++ p.left)) p.forest.tree sheds (same_order_out (limbs new) p.front top p.left none_top);
-      };
+      forest = search (tree_sheds, same_order_out, arith);
       first_is = first_left p.front p.rest p.left top node.prev node.next first after near.0 near.1 onto keep;
     }

@@ -2,9 +2,8 @@
 use Rattle.std.proofs.Common.{◌≡◌, ◌≢◌, ◌↔◌, ℕ, suc, zero, ◌+◌, ◌<◌, ◌≤◌, List, [], ◌∷◌, ◌++◌, length, Option, Some, None, refl, sym, ap, ◌∙◌, subst, arith, inl, inr, ◌⊎◌, append_assoc, length-append}
 use Rattle.std.proofs.lemmas.Bool.{cases_eq, cases_lt}
 use Rattle.std.proofs.lemmas.List.{get_or_past}
-use Rattle.std.specs.Option.{option_map, option_and_then}
+use Rattle.std.specs.Option.{option_map}
 use Rattle.l4_nodes.specs.declared.nodes.Node.{Node}
-use Rattle.l4_nodes.specs.declared.nodes.Slot.{Slot}
 use Rattle.l4_links.specs.Leads.{Leads, steps}
 use Rattle.l4_links.specs.Inside.Trees.{Limb, IsInRun, parent_at, Sheds}
 use Rattle.l4_links.specs.Inside.Orders.{IsIn, IsOnce, first_of, position}
@@ -53,7 +52,7 @@ once_fits (suc n) ks once each = elim (is_in_or ks n) [
       let less = once_fits n (p.front ++ p.back) (once_out p.front n p.back once_p) (λ k j.
       let i_k : IsIn ks k = subst (λ (z : List ℕ). IsIn z k) (sym p.is) (elim (in_parts p.front p.back k j) [ inl l ↦ in_left p.front (n ∷ p.back) k l | inr r ↦ in_right p.front (n ∷ p.back) k (inr r) ]) in
       let lt = each k i_k in
-      let ne : k ≢ n = λ e. grind (arith, in_parts, inl, once_front, subst, inr, once_back) in
+      let ne : k ≢ n = λ e. grind (arith, in_parts, once_front, once_back) in
       omega (arith, lt, ne)) in
       let e : length ks ≡ length (p.front ++ n ∷ p.back) = ap length p.is in
       let f : length (p.front ++ n ∷ p.back) ≡ length p.front + length (n ∷ p.back) = length-append p.front (n ∷ p.back) in
@@ -137,12 +136,12 @@ passed_more slots top depth key at node run c is_key at_key deep =
       back = r.0;
       forest = subst (λ (z : List ℕ). IsForest slots (c.front ++ top ∷ z)) (ap (λ (z : List ℕ). run ++ z) r.1 ∙ sym (append_assoc run (key ∷ []) r.0)) c.forest;
       at_is = (neighbours_at slots (c.front ++ top ∷ run) key r.0 node near at_key).1;
-      deeper = λ k x i is. grind (arith, in_parts, inl, inr, ap, one_limb, sym, limb_of, arith);
+      deeper = λ k x i is. grind (arith, in_parts, one_limb, limb_of);
     }
 
 -- the walk has passed fewer keys than there are slots
 pub passed_ends : (slots : Slots) (top depth : ℕ) (at : Option ℕ) (run : List ℕ) → HasPassed slots top depth at run → length run < length slots
-passed_ends slots top depth at run c = grind (arith, order_fits, length, length-append, arith)
+passed_ends slots top depth at run c = grind (arith, order_fits, length-append)
 
 -- the next key has its node
 pub passed_there : (slots : Slots) (top depth key : ℕ) (at : Option ℕ) (run : List ℕ) → HasPassed slots top depth at run → at ≡ Some key → node_at slots key ≢ None

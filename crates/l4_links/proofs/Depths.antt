@@ -1,5 +1,5 @@
 -- How deep a key can stand, and the order of keys after several that went.
-use Rattle.std.proofs.Common.{◌≡◌, ◌≢◌, ℕ, suc, zero, ◌+◌, ◌<◌, ◌≤◌, List, ◌∷◌, length, Option, Some, None, refl, ap, subst, inl, inr, arith}
+use Rattle.std.proofs.Common.{◌≡◌, ◌≢◌, ℕ, suc, zero, ◌+◌, ◌<◌, ◌≤◌, List, ◌∷◌, length, Option, Some, None, refl, ap, arith}
 use Rattle.std.specs.Option.{option_map}
 use Rattle.l4_nodes.specs.declared.nodes.Node.{Node}
 use Rattle.l4_links.specs.Inside.Trees.{Limb, IsTree, SameOrder}
@@ -42,7 +42,7 @@ depth_kept slots ks k n free f few at kept none =
     let is : limbs slots k ≡ Some x = ap (option_map (λ (m : Node). record { parent = m.parent; depth = m.depth })) at in
     let d = depth_within (limbs slots) (position ks) f.tree n.depth k x is (omega arith) in
     let p = position_within ks k (f.order.all k n at) in
-    let each : (j : ℕ) → IsIn (free ∷ ks) j → j < no_key = λ j i. grind (arith, inl, subst, inr, in_list, node_key) in
+    let each : (j : ℕ) → IsIn (free ∷ ks) j → j < no_key = λ j i. grind (arith, in_list, node_key) in
     let l = once_fits no_key (free ∷ ks) (not_in_list slots ks f.order free none, f.order.once) each in
     let m : length (free ∷ ks) ≡ length ks + 1 = omega arith in
     omega (arith, d, p, l, m)

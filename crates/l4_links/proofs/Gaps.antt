@@ -42,7 +42,7 @@ pub gone_more : (old cur new : Slots) (top depth count key : ℕ) (at : Option �
     → GoneSoFar old new top depth node.next (count + 1)
 gone_more old cur new top depth count key at node c is_key at_key deep out =
     let was = gone_was old cur top depth count key at node c at_key in
-    let in_run : (k : ℕ) → k ≢ key → IsIn (c.run ++ key ∷ []) k → IsIn c.run k = λ k ne i. grind (arith, in_parts, inl, inr, sym) in
+    let in_run : (k : ℕ) → k ≢ key → IsIn (c.run ++ key ∷ []) k → IsIn c.run k = λ k ne i. grind (arith, in_parts) in
     let other : (k : ℕ) → ¬ (IsIn (c.run ++ key ∷ []) k) → k ≢ key = λ k off ke. off (in_right c.run (key ∷ []) k (inl (sym ke))) in
     let off_run : (k : ℕ) → ¬ (IsIn (c.run ++ key ∷ []) k) → ¬ (IsIn c.run k) = λ k off i. off (in_left c.run (key ∷ []) k i) in
     record {

@@ -1,7 +1,7 @@
 -- What the nodes keep, after each operation.
-use Rattle.std.proofs.Common.{◌≡◌, ◌≢◌, ℕ, Bool, true, false, ◌&&◌, ◌+◌, ◌≤◌, List, [], ◌∷◌, ◌++◌, Option, Some, None, refl, sym, ap, ◌∙◌, subst, arith, inl, inr}
+use Rattle.std.proofs.Common.{◌≡◌, ◌≢◌, ℕ, Bool, true, false, ◌&&◌, ◌+◌, List, [], ◌∷◌, ◌++◌, Option, Some, None, refl, sym, ap, ◌∙◌, subst, arith, inl, inr}
 use Rattle.std.proofs.lemmas.Bool.{cases_eq}
-use Rattle.std.specs.Option.{option_map, option_and_then}
+use Rattle.std.specs.Option.{option_map}
 use Rattle.l4_fpage.specs.Rights.{RightsSet, common, set_of_bits, bits_of}
 use Rattle.l4_fpage.proofs.Eight.{bits_below, set_of_sum}
 use Rattle.l4_nodes.specs.declared.nodes.Node.{Node}
@@ -60,10 +60,7 @@ live_of slots first stamp walk s = record { keys = s.keys; forest = s.forest; fi
 -- no node
 pub sound_empty : (walk : ℕ) → IsSound [] None 1 walk
 sound_empty walk =
-    let forest : IsForest [] [] = record {
-      order = record { once = tt; linked = tt; all = λ k n at. no_some n at };
-      tree = record { apart = λ a b x y is_a is_b e. no_some x is_a; top = λ a x is e. no_some x is; under = λ a p x is up. no_some x is };
-    } in
+    let forest : IsForest [] [] = grind arith in
     grind arith
 
 -- the nodes are the same, whatever blanks came or went
@@ -181,13 +178,6 @@ none_below slots ks f top k none l =
     let r = run_from_leads (limbs slots) (position ks) f.tree l in
     no_some r.top (sym (ap (option_map limb_of) none) ∙ r.at_top)
 
-all_share : (a b c : Bool) → (a && c) && (b && c) ≡ (a && b) && c
-all_share false b c = refl
-all_share true false false = refl
-all_share true false true = refl
-all_share true true false = refl
-all_share true true true = refl
-
 -- what lies within stays within, where both are capped
 low_both : (h r c : RightsSet) → IsLow h r → IsLow (common h c) (common r c)
 low_both h r c low = grind arith
@@ -212,14 +202,7 @@ within_capped old new ks top cap f within c k p x l h is up v w =
           put (worth_of n.0) (worth_of m.0) (same_worth (sym lo ∙ sym (c.kept k off) ∙ v)) (same_worth (sym hi ∙ sym (c.kept p off_p) ∙ w)) base
       | inl on ↦
           let low_is : capped_worth cap (worth_of n.0) ≡ l = same_worth (sym (ap (option_map (capped_worth cap)) lo) ∙ sym (c.capped k on) ∙ v) in
-          elim (c.decided p) [
-            | inl on_p ↦
-                put (capped_worth cap (worth_of n.0)) (capped_worth cap (worth_of m.0)) low_is (same_worth (sym (ap (option_map (capped_worth cap)) hi) ∙ sym (c.capped p on_p) ∙ w))
-                (record { rights = low_both m.0.rights n.0.rights cap base.rights; frame = base.frame })
-            | inr off_p ↦
-                put (capped_worth cap (worth_of n.0)) (worth_of m.0) low_is (same_worth (sym hi ∙ sym (c.kept p off_p) ∙ w))
-                (record { rights = low_stays n.0.rights cap m.0.rights base.rights; frame = base.frame })
-          ]
+          grind (arith, worth_of, same_worth, low_both, low_stays)
     ]
 
 from_zero : (n : ℕ) → n ≡ 0 + n

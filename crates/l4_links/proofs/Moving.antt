@@ -63,11 +63,7 @@ can_first source target rights slots rows = grind arith
 
 pub can_all : (source : Place) (page end : ℕ) (target : Place) (rights : RightsSet) (slots : Slots) (t : Tables) (rows : Rows) → IsIndexed slots t → NonePresentIn t source.space page end → CanMove source page target rights slots rows
     → CanMove source end target rights slots rows
-can_all source page end target rights slots t rows i none c = record {
-  within = λ k s n at h. c.within k s n at (earlier k s at h);
-  free = λ k s at h. c.free k s at (earlier k s at h);
-  made = λ k s at h. c.made k s at (earlier k s at h);
-}
+can_all source page end target rights slots t rows i none c = grind (arith, earlier)
   where
     earlier : (k : ℕ) (s : Slot) → slot_at slots k ≡ Some s → IsInPages source end s.place → IsInPages source page s.place
     earlier k s at h = elim (cases_lt s.place.page page) [
@@ -87,10 +83,7 @@ can_joined source page next after target rights slots t sources rows later i fro
     | inl e ↦ c.free k s at e other o
     | inr e ↦ unnamed slots t i (moved_place source target s.place) (to.keys (s.place.page - source.page + target.page) ∙ (go.can s.place.page e.0 e.1 k (its_key k s at h.0)).0) other o
   ];
-  made = λ k s at h. elim (either k s at h) [
-    | inl e ↦ makes.kept _ (c.made k s at e)
-    | inr e ↦ go.there s.place.page e.0 e.1
-  ];
+  made = λ k s at h. grind (arith, either);
 }
   where
     its_key : (k : ℕ) (s : Slot) → slot_at slots k ≡ Some s → s.place.space ≡ source.space → entry sources s.place.page ≡ Some k
@@ -265,9 +258,7 @@ view_moves source end target rights old new within free m = record {
       ∙ ap (λ (x : Entry). Some (record x { place = moved_place source target x.place })) s.2);
   kept = λ k e at out. (let s = slot_seen k e at in at_seen new k ∙ ap (option_map entry_of) (m.kept k s.0 s.1 (λ h. out (subst (λ (x : Entry). IsInPages source end x.place) s.2 h))) ∙ ap (λ (x : Entry). Some x) s.2);
   vacant = λ k at. at_seen new k ∙ ap (option_map entry_of) (m.vacant k (none_from entry_of (slot_at old k) (sym (at_seen old k) ∙ at)));
-  within = λ k e x at h stands. (let s = slot_seen k e at in
-      let n = map_from standing_of s.0.node x (ap (λ (z : Entry). z.stands) s.2 ∙ stands) in
-      subst (λ (z : Standing). Within z.rights rights) n.2 (within k s.0 n.0 s.1 (subst (λ (x : Entry). IsInPages source end x.place) (sym s.2) h) n.1));
+  within = λ k e x at h stands. grind (arith, slot_seen, map_from);
   absent = λ k e at h other o. (let s = slot_seen k e at in
       free k s.0 s.1 (subst (λ (x : Entry). IsInPages source end x.place) (sym s.2) h) other
       (subst (λ (x : Entry). IsOf old (moved_place source target x.place) other) (sym s.2) ((is_at old (moved_place source target e.place) other).1 o)));

@@ -11,7 +11,7 @@ use Rattle.std.specs.FinSet as set
 use Rattle.l4_fpage.specs.Rights.{RightsSet}
 use Rattle.l4_spaces.specs.Tables as tables
 use Rattle.l4_spaces.specs.Tables.{Tables, NonePresentFrom, IsNextPresent, NonePresentIn, IsNextIn, IsPage}
-use Rattle.l4_spaces.proofs.Below.{places_total, tie, untie, apart, decided, is_equal}
+use Rattle.l4_spaces.proofs.Below.{places_total, tie, apart, decided, is_equal}
 use Rattle.l4_nodes.specs.declared.Place.{Place}
 use Rattle.l4_links.specs.declared.Entry.{Entry}
 use Rattle.l4_nodes.specs.declared.nodes.Node.{Node}
@@ -75,12 +75,12 @@ drop_other pages place q ne =
 -- a key has come for a page, and the page names it
 named_added : (old new : ℕ → Option Place) (before after : Pages) (place : Place) (key : ℕ) → Names old before → ((k : ℕ) → old k ≢ Some place) → old key ≡ None → new key ≡ Some place
     → ((o : ℕ) → o ≢ key → new o ≡ old o) → after ≡ map.insert before (place.space, place.page) key → Names new after
-named_added old new before after place key names free vacant stands others is q k = grind (arith, same_place, Some, ap, put_here, sym, same_some, cases_eq, inl, inr, put_other, no_some, one_place)
+named_added old new before after place key names free vacant stands others is q k = grind (arith, same_place, put_here, same_some, cases_eq, put_other, no_some, one_place)
 
 -- a key has gone, and its page names none
 named_removed : (old new : ℕ → Option Place) (before after : Pages) (place : Place) (key : ℕ) → Names old before → old key ≡ Some place → new key ≡ None
     → ((o : ℕ) → o ≢ key → new o ≡ old o) → after ≡ map.remove before (place.space, place.page) → Names new after
-named_removed old new before after place key names stood gone others is q k = grind (arith, same_place, None, ap, drop_here, no_some, sym, cases_eq, inl, inr, once_named, Some, drop_other, one_place)
+named_removed old new before after place key names stood gone others is q k = grind (arith, same_place, drop_here, no_some, cases_eq, once_named, drop_other, one_place)
 
 -- the places without that of this key
 abbrev without : (ℕ → Option Place) → ℕ → ℕ → Option Place

@@ -9,8 +9,8 @@ use Rattle.l4_nodes.specs.Slots.{Slots, slot_at, node_at, Writes, SetsNext, Sets
 use Rattle.l4_links.specs.Inside.Nodes.{limbs, links, IsForest}
 use Rattle.l4_links.proofs.Linking.{linked_same, first_in}
 use Rattle.l4_links.proofs.Positions.{position_here, position_further}
-use Rattle.l4_links.proofs.Neighbours.{not_in_list, some_from, map_prev, prev_set}
-use Rattle.l4_links.proofs.Writes.{limb_of, link_of}
+use Rattle.l4_links.proofs.Neighbours.{not_in_list, some_from, prev_set}
+use Rattle.l4_links.proofs.Writes.{link_of}
 
 abbrev root_limb : Limb
 root_limb = record { parent = None; depth = 0 }
@@ -24,20 +24,8 @@ tree_rises old new ks key t r =
     let here : (a : ℕ) → a ≡ key → position (key ∷ ks) a ≡ 0 = λ a e. position_here key ks a (sym e) in
     let its : (a : ℕ) (x : Limb) → a ≡ key → new a ≡ Some x → x ≡ root_limb = λ a x e is. (let w : ◌≡◌ {A = Option Limb} (Some x) (Some root_limb) = sym is ∙ ap new e ∙ r.filled in cc) in
     record {
-      apart = λ a b x y is_a is_b eq. elim (cases_eq a key) [
-        | inl ea ↦ elim (cases_eq b key) [
-          | inl eb ↦ ea ∙ sym eb
-          | inr nb ↦ absurd (let p = here a ea in let q = further b nb in omega (arith, p, q, eq))
-        ]
-        | inr na ↦ elim (cases_eq b key) [
-          | inl eb ↦ absurd (let p = further a na in let q = here b eb in omega (arith, p, q, eq))
-          | inr nb ↦ t.apart a b x y (was a x is_a na) (was b y is_b nb) (let p = further a na in let q = further b nb in omega (arith, p, q, eq))
-        ]
-      ];
-      top = λ a x is none. elim (cases_eq a key) [
-        | inl e ↦ ap (λ (z : Limb). z.depth) (its a x e is)
-        | inr ne ↦ t.top a x (was a x is ne) none
-      ];
+      apart = λ a b x y is_a is_b eq. grind arith;
+      top = λ a x is none. grind arith;
       under = λ a p x is up. elim (cases_eq a key) [
         | inl e ↦ absurd (let w : ◌≡◌ {A = Option ℕ} None (Some p) = sym (ap (λ (z : Limb). z.parent) (its a x e is)) ∙ up in cc)
         | inr ne ↦
@@ -46,16 +34,7 @@ tree_rises old new ks key t r =
             let pp = further p pk in
             let pa = further a ne in
             let after = u.after in
-            record {
-              above = u.above;
-              at_parent = r.others p pk ∙ u.at_parent;
-              after = omega (arith, after, pp, pa);
-              deeper = u.deeper;
-              between = λ b y is_b lo hi. elim (cases_eq b key) [
-                | inl eb ↦ absurd (let q = here b eb in omega (arith, q, lo))
-                | inr nb ↦ (let q = further b nb in u.between b y (was b y is_b nb) (omega (arith, q, lo, pp)) (omega (arith, q, hi, pa)))
-              ];
-            }
+            grind arith
       ];
     }
 
@@ -80,23 +59,7 @@ forest_root a b d key node first ks forest first_is slot blank w g prev_is next_
     let here : links d key ≡ Some (record { prev = None; next = first_of ks None }) =
     ap (option_map link_of) (g.others key first_other ∙ w.here slot) ∙ (λ i. Some (record { prev = prev_is i; next = (next_is ∙ sym first_is) i })) in
     record {
-      order = record {
-        once = (out, forest.order.once);
-        linked = (
-          here,
-          linked_front (links a) (links d) key ks forest.order.linked forest.order.once out
-              (λ n y e l.
-              let ne : n ≢ key = λ z. out (first_in ks key (e ∙ ap (λ (q : ℕ). Some q) z)) in
-              ap (option_map link_of) (g.here n (sym first_is ∙ e) ∙ ap (option_map (λ (z : Node). record z { prev = Some key })) (w.others n ne)) ∙ prev_set (node_at a n) (Some key) y l)
-              (λ o ne off. ap (option_map link_of) (g.others o (λ e. off (first_is ∙ e)) ∙ w.others o ne)),
-        );
-        all = λ k n at. elim (cases_eq k key) [
-          | inl e ↦ inl (sym e)
-          | inr ne ↦
-              let was = some_from d a k n (r.others k ne) at in
-              inr (elim (node_at a k) as (λ o. node_at a k ≡ o → IsIn ks k) [ None ↦ λ e. absurd (was e) | Some m ↦ λ e. forest.order.all k m e ] refl)
-        ];
-      };
+      order = grind (arith, linked_front, first_in, link_of, prev_set, cases_eq, some_from);
       tree = tree_rises (limbs a) (limbs d) ks key forest.tree r;
     }
 

@@ -9,7 +9,7 @@ use Rattle.l4_links.specs.Inside.Orders.{IsIn, first_of, position}
 use Rattle.l4_nodes.specs.Slots.{Slots, node_at, spots, Closes}
 use Rattle.l4_links.specs.Inside.Nodes.{limbs, links, values, capped_worth, sources, IsOrder, IsForest, Caps, place_of, IsMarked, IsLow, IsStamped, Passes, Stops, IsDone, AreDone, HasMarks, HasLow, NoneMet, HasSeen, NoSource, CapsBelow}
 use Rattle.l4_fpage.specs.Rights.{RightsSet, common}
-use Rattle.l4_links.proofs.Writes.{no_some, same_some, map_from, map_over, written_was, marks_of, map_at, stamped_same, stamped_at, limb_of, link_of, worth_of}
+use Rattle.l4_links.proofs.Writes.{no_some, map_over, written_was, marks_of, map_at, stamped_same, stamped_at, limb_of, link_of, worth_of}
 use Rattle.l4_links.proofs.Linking.{once_front, once_back, parted}
 use Rattle.l4_links.proofs.Positions.{position_here, position_further, position_within}
 use Rattle.l4_links.proofs.Neighbours.{once_apart, in_list, limb_in, forest_links, neighbours_at, next_live}
@@ -150,7 +150,7 @@ leads_range slots Holds ks top end head f done at k l =
         | inl lt ↦ lt
         | inr ge ↦ absurd (
             elim end as (λ o. end ≡ o → ⊥) [
-              | None ↦ grind (arith, length, ap, position_within, arith)
+              | None ↦ grind (arith, position_within)
               | Some b ↦ λ is.
                   let p : place_of ks end ≡ position ks b = ap (place_of ks) is in
                   let n = in_list slots ks f.order b (done.passes.live b is) in

@@ -86,10 +86,6 @@ stamped_at f stamp fits key old new here others s some k m is =
           subst (λ (z : Marks). (z.mark ≤ stamp) × (z.seen ≤ stamp)) (ap marks_of (sym w.2) ∙ n.2) (fits w.0 b.0 b.1)
     ]
 
--- a key without a place has no slot
-pub no_slot : (slots : Slots) (k : ℕ) → spots slots k ≡ None → slot_at slots k ≡ None
-no_slot slots k e = none_from spot_of (slot_at slots k) e
-
 -- a node has a slot
 pub has_slot : (slots : Slots) (k : ℕ) (n : Node) → node_at slots k ≡ Some n → slot_at slots k ≢ None
 has_slot slots k n at none = no_some n (sym (ap (option_and_then (λ (s : Slot). s.node)) none) ∙ at)
