@@ -5,11 +5,10 @@ use Rattle.l4_fpage.specs.Rights.{RightsSet, Right, Read, Write, Execute, has, c
 use Rattle.l4_nodes.specs.declared.Place.{Place}
 use Rattle.l4_links.specs.declared.Standing.{Standing}
 use Rattle.l4_links.specs.declared.Entry.{Entry}
-use Rattle.l4_links.specs.Leads.{Leads}
-use Rattle.l4_links.specs.Entries.{Entries, entry_at, standing_at, parent_of, IsAt, Descends, CapsTree, capped}
-use Rattle.l4_mapdb.specs.Inside.Cutting.{bare, IsGrantedAt, IsOrBelow, Capped}
+use Rattle.l4_links.specs.Entries.{Entries, entry_at, standing_at, parent_of, Descends, CapsTree, capped}
+use Rattle.l4_mapdb.specs.Inside.Cutting.{bare, tidied, IsGrantedAt, IsOrBelow, LeavesRights, Capped}
 use Rattle.l4_mapdb.proofs.Unique.{same_value}
-use Rattle.l4_mapdb.proofs.View.{some_standing}
+use Rattle.l4_mapdb.proofs.Leading.{leads_along}
 use Rattle.l4_mapdb.proofs.Marking.{by_key}
 
 both_true : (x y : Bool) → IsTrue (x && y) ↔ (IsTrue x × IsTrue y)
@@ -27,12 +26,15 @@ has_common a b Execute = both_true a.x b.x
 abbrev stands_of : Option Entry → Option Standing
 stands_of o = option_and_then (λ (e : Entry). e.stands) o
 
-abbrev rightless : Option Standing → Option Standing
+abbrev pub rightless : Option Standing → Option Standing
 rightless o = option_map (λ (t : Standing). record t { rights = no_rights }) o
 
-said_bare : {X : Type 0} (said : Standing → Option X) → ((t : Standing) → said (record t { rights = no_rights }) ≡ said t) → (o : Option Entry) → option_and_then said (stands_of (bare o)) ≡ option_and_then said (stands_of o)
-said_bare said same None = refl
-said_bare {X = X} said same (Some e) = elim e.stands as (λ (o : Option Standing). ◌≡◌ {A = Option X} (option_and_then said (rightless o)) (option_and_then said o)) [ None ↦ refl | Some t ↦ same t ]
+abbrev granted_of : Option Entry → Option RightsSet
+granted_of o = option_and_then (λ (t : Standing). t.granted) (stands_of o)
+
+granted_bare : (o : Option Entry) → granted_of (bare o) ≡ granted_of o
+granted_bare None = refl
+granted_bare (Some e) = elim e.stands as (λ (o : Option Standing). option_and_then (λ (t : Standing). t.granted) (rightless o) ≡ option_and_then (λ (t : Standing). t.granted) o) [ None ↦ refl | Some t ↦ refl ]
 
 place_bare : (o : Option Entry) → option_map {T = Entry} (λ e. e.place) (bare o) ≡ option_map {T = Entry} (λ e. e.place) o
 place_bare None = refl
@@ -43,106 +45,100 @@ bare_capped : (cap : RightsSet) (o : Option Entry) → bare (option_map (capped 
 bare_capped cap None = refl
 bare_capped cap (Some e) = elim e.stands as (λ (o : Option Standing). ◌≡◌ {A = Option Entry} (Some (record e { stands = rightless (option_map (λ (t : Standing). record t { rights = common t.rights cap }) o) })) (Some (record e { stands = rightless o }))) [ None ↦ refl | Some t ↦ refl ]
 
-module _ (old new : Entries) (same : (key : ℕ) → bare (entry_at new key) ≡ bare (entry_at old key)) where
-  pub granted_same : (key : ℕ) (cap : RightsSet) → IsGrantedAt old key cap → IsGrantedAt new key cap
-  granted_same key cap g =
-      let granted : Standing → Option RightsSet = λ t. t.granted in
-      sym (said_bare granted (λ t. refl) (entry_at new key)) ∙ ap (λ (o : Option Entry). option_and_then granted (stands_of o)) (same key) ∙ said_bare granted (λ t. refl) (entry_at old key) ∙ g
+-- what stands there apart from marks and rights, with its page
+abbrev pub base : Option Entry → Option (Place × Standing)
+base o = option_and_then (λ (e : Entry). option_map (λ (t : Standing). (let p : Place × Standing = (e.place, record t { source = false; granted = None; rights = no_rights }) in p)) e.stands) o
 
-  pub place_same : (place : Place) (key : ℕ) → IsAt old place key → IsAt new place key
-  place_same place key at = sym (place_bare (entry_at new key)) ∙ ap (option_map {T = Entry} (λ e. e.place)) (same key) ∙ place_bare (entry_at old key) ∙ at
+base_bare : (o : Option Entry) → base (bare o) ≡ base o
+base_bare None = refl
+base_bare (Some e) = elim e.stands as (λ (o : Option Standing). base (bare (Some (record e { stands = o }))) ≡ base (Some (record e { stands = o }))) [ None ↦ refl | Some t ↦ refl ]
 
-  below_same : (low high : ℕ) → IsOrBelow old low high → IsOrBelow new low high
-  below_same low high (inl e) = inl e
-  below_same low high (inr d) = inr (subst (λ (f : ℕ → Option ℕ). Leads f low high) (λ i k. parents_same k i) d)
-    where
-      parents_same : (key : ℕ) → parent_of old key ≡ parent_of new key
-      parents_same key =
-          let parent : Standing → Option ℕ = λ t. t.parent in
-          sym (said_bare parent (λ t. refl) (entry_at old key)) ∙ ap (λ (o : Option Entry). option_and_then parent (stands_of o)) (sym (same key)) ∙ said_bare parent (λ t. refl) (entry_at new key)
+base_tidied : (o : Option Entry) → base (tidied o) ≡ base o
+base_tidied None = refl
+base_tidied (Some e) = elim e.stands as (λ (o : Option Standing). base (tidied (Some (record e { stands = o }))) ≡ base (Some (record e { stands = o }))) [ None ↦ refl | Some t ↦ refl ]
 
--- the second is the first but for the rights
-pub record IsSameBare (e f : Entry) (t u : Standing) : Type 0 where
+pub bare_tidied : (o : Option Entry) → bare (tidied o) ≡ tidied (bare o)
+bare_tidied None = refl
+bare_tidied (Some e) = elim e.stands as (λ (o : Option Standing). bare (tidied (Some (record e { stands = o }))) ≡ tidied (bare (Some (record e { stands = o })))) [ None ↦ refl | Some t ↦ refl ]
+
+-- what a key is, apart from marks and rights, stays
+pub base_kept : (old new : Option Entry) (Touched : Type 0) → (bare new ≡ bare old) ⊎ (Touched × (bare new ≡ tidied (bare old))) → base new ≡ base old
+base_kept old new Touched (inl same) = sym (base_bare new) ∙ ap base same ∙ base_bare old
+base_kept old new Touched (inr tidy) = sym (base_bare new) ∙ ap base tidy.1 ∙ base_tidied (bare old) ∙ base_bare old
+
+parent_base : (o : Option Entry) → option_and_then (λ (p : Place × Standing). p.1.parent) (base o) ≡ option_and_then (λ (t : Standing). t.parent) (stands_of o)
+parent_base None = refl
+parent_base (Some e) = elim e.stands as (λ (o : Option Standing). option_and_then (λ (p : Place × Standing). p.1.parent) (base (Some (record e { stands = o }))) ≡ option_and_then (λ (t : Standing). t.parent) o) [ None ↦ refl | Some t ↦ refl ]
+
+-- where the same is under each key, marks and rights apart, the same descends from it
+pub below_base : (a b : Entries) → ((key : ℕ) → base (entry_at b key) ≡ base (entry_at a key)) → (low high : ℕ) → IsOrBelow a low high → IsOrBelow b low high
+below_base a b same low high (inl e) = inl e
+below_base a b same low high (inr d) = inr (leads_along (parent_of a) (parent_of b) (λ key. sym (parent_base (entry_at a key)) ∙ ap (option_and_then (λ (p : Place × Standing). p.1.parent)) (sym (same key)) ∙ parent_base (entry_at b key)) d)
+
+-- what an entry is with other rights has its page and its note
+pub place_same : (o n : Option Entry) → bare n ≡ bare o → option_map {T = Entry} (λ e. e.place) n ≡ option_map {T = Entry} (λ e. e.place) o
+place_same o n same = sym (place_bare n) ∙ ap (option_map {T = Entry} (λ e. e.place)) same ∙ place_bare o
+
+pub granted_same : (o n : Option Entry) → bare n ≡ bare o → granted_of n ≡ granted_of o
+granted_same o n same = sym (granted_bare n) ∙ ap granted_of same ∙ granted_bare o
+
+-- and without its marks it has its page, if something stands there, and no note
+place_tidied : (o : Option Entry) (place : Place) → option_map {T = Entry} (λ e. e.place) (tidied o) ≡ Some place → option_map {T = Entry} (λ e. e.place) o ≡ Some place
+place_tidied None place h = h
+place_tidied (Some e) place h = elim e.stands as (λ (o : Option Standing). option_map {T = Entry} (λ e. e.place) (tidied (Some (record e { stands = o }))) ≡ Some place → Some e.place ≡ Some place) [
+  | None ↦ λ is. absurd (let z : ◌≡◌ {A = Option Place} None (Some place) = is in cc)
+  | Some t ↦ λ is. is
+] h
+
+granted_tidied : (o : Option Entry) → granted_of (tidied o) ≡ None
+granted_tidied None = refl
+granted_tidied (Some e) = elim e.stands as (λ (o : Option Standing). granted_of (tidied (Some (record e { stands = o }))) ≡ None) [ None ↦ refl | Some t ↦ refl ]
+
+pub place_gone : (o n : Option Entry) (place : Place) → bare n ≡ tidied (bare o) → option_map {T = Entry} (λ e. e.place) n ≡ Some place → option_map {T = Entry} (λ e. e.place) o ≡ Some place
+place_gone o n place tidy h = sym (place_bare o) ∙ place_tidied (bare o) place (ap (option_map {T = Entry} (λ e. e.place)) (sym tidy) ∙ place_bare n ∙ h)
+
+pub granted_gone : (o n : Option Entry) → bare n ≡ tidied (bare o) → granted_of n ≡ None
+granted_gone o n tidy = sym (granted_bare n) ∙ ap granted_of tidy ∙ granted_tidied (bare o)
+
+-- what stands there stands here, at the same page, with the same frame and the same parent
+pub record IsSameBase (e f : Entry) (t u : Standing) : Type 0 where
   pub place : f.place ≡ e.place
-  pub wanted : f.wanted ≡ e.wanted
   pub frame : u.frame ≡ t.frame
-  pub source : u.source ≡ t.source
-  pub granted : u.granted ≡ t.granted
   pub parent : u.parent ≡ t.parent
 
-pub turned : {e f : Entry} {t u : Standing} → IsSameBare e f t u → IsSameBare f e u t
-turned s = record { place = sym s.place; wanted = sym s.wanted; frame = sym s.frame; source = sym s.source; granted = sym s.granted; parent = sym s.parent }
+pub turned : {e f : Entry} {t u : Standing} → IsSameBase e f t u → IsSameBase f e u t
+turned s = record { place = sym s.place; frame = sym s.frame; parent = sym s.parent }
 
--- what stands here stands there with other rights
-pub bare_stands : (a b : Option Entry) → bare b ≡ bare a → (e : Entry) (t : Standing) → a ≡ Some e → e.stands ≡ Some t → (f : Entry) × (u : Standing) × (b ≡ Some f) × (f.stands ≡ Some u) × IsSameBare e f t u
-bare_stands a None same e t at stands = absurd (let z : ◌≡◌ {A = Option Entry} None (bare (Some e)) = same ∙ ap bare at in cc)
-bare_stands a (Some f) same e t at stands =
-    let is : bare (Some f) ≡ bare (Some e) = same ∙ ap bare at in
-    let stand : rightless f.stands ≡ Some (record t { rights = no_rights }) = ap stands_of is ∙ ap rightless stands in
-    elim f.stands as (λ (o : Option Standing). f.stands ≡ o → rightless o ≡ Some (record t { rights = no_rights }) → (g : Entry) × (u : Standing) × (Some f ≡ Some g) × (g.stands ≡ Some u) × IsSameBare e g t u) [
-      | None ↦ λ _ none. absurd (let z : ◌≡◌ {A = Option Standing} None (Some (record t { rights = no_rights })) = none in cc)
-      | Some u ↦ λ here some.
-          let one : record u { rights = no_rights } ≡ record t { rights = no_rights } = same_value some in (
-            f,
-            u,
-            refl,
-            here,
-            record {
-              place = ap (λ (x : Entry). x.place) (same_value is);
-              wanted = ap (λ (x : Entry). x.wanted) (same_value is);
-              frame = ap (λ (x : Standing). x.frame) one;
-              source = ap (λ (x : Standing). x.source) one;
-              granted = ap (λ (x : Standing). x.granted) one;
-              parent = ap (λ (x : Standing). x.parent) one;
-            },
-          )
-    ] refl stand
+pub base_stands : (a b : Option Entry) → base b ≡ base a → (e : Entry) (t : Standing) → a ≡ Some e → e.stands ≡ Some t → (f : Entry) × (u : Standing) × (b ≡ Some f) × (f.stands ≡ Some u) × IsSameBase e f t u
+base_stands a b same e t at stands = go b refl
+  where
+    left : Standing → Standing
+    left x = record x { source = false; granted = None; rights = no_rights }
 
--- one cap after another
-pub capped_both : (Done More : ℕ → Type 0) (old mid new : Entries) → Capped Done old mid → Capped More mid new → Capped (λ k. Done k ⊎ More k) old new
-capped_both Done More old mid new a b = record {
-  same = λ key. b.same key ∙ a.same key;
-  rights = λ key t u at_t at_u right.
-      let e = some_standing old key t at_t in
-      let m = bare_stands (entry_at old key) (entry_at mid key) (a.same key) e.0 t e.1 e.2 in
-      let at_m : standing_at mid key ≡ Some m.1 = ap stands_of m.2 ∙ m.3 in
-      let first = a.rights key t m.1 at_t at_m right in
-      let second = b.rights key m.1 u at_m at_u right in (
-        λ h. (
-          (first.0 (second.0 h).0).0,
-          λ top cap done granted below. elim done [
-            | inl d ↦ (first.0 (second.0 h).0).1 top cap d granted below
-            | inr d ↦ (second.0 h).1 top cap d (granted_same old mid a.same top cap granted) (below_same old mid a.same key top below)
-          ],
-        ),
-        λ h. second.1 (
-          first.1 (h.0, λ top cap d granted below. h.1 top cap (inl d) granted below),
-          λ top cap d granted below. h.1 top cap (inr d) (granted_same mid old (λ k. sym (a.same k)) top cap granted) (below_same mid old (λ k. sym (a.same k)) key top below),
-        ),
-      );
-}
+    is : base b ≡ Some (e.place, left t)
+    is = same ∙ ap base at ∙ ap (option_map (λ (x : Standing). (let p : Place × Standing = (e.place, left x) in p))) stands
+
+    by_stands : (f : Entry) → b ≡ Some f → (o : Option Standing) → f.stands ≡ o → (f : Entry) × (u : Standing) × (b ≡ Some f) × (f.stands ≡ Some u) × IsSameBase e f t u
+    by_stands f here None none = absurd (let z : ◌≡◌ {A = Option (Place × Standing)} None (Some (e.place, left t)) = sym (ap base here ∙ ap (option_map (λ (x : Standing). (let p : Place × Standing = (f.place, left x) in p))) none) ∙ is in cc)
+    by_stands f here (Some u) there =
+        let both : (f.place, left u) ≡ (e.place, left t) = same_value (sym (ap base here ∙ ap (option_map (λ (x : Standing). (let p : Place × Standing = (f.place, left x) in p))) there) ∙ is) in
+        (f, u, here, there, record { place = ap (λ (x : Place × Standing). x.0) both; frame = ap (λ (x : Place × Standing). x.1.frame) both; parent = ap (λ (x : Place × Standing). x.1.parent) both })
+
+    go : (o : Option Entry) → b ≡ o → (f : Entry) × (u : Standing) × (b ≡ Some f) × (f.stands ≡ Some u) × IsSameBase e f t u
+    go None none = absurd (let z : ◌≡◌ {A = Option (Place × Standing)} None (Some (e.place, left t)) = sym (ap base none) ∙ is in cc)
+    go (Some f) here = by_stands f here f.stands refl
+
+-- what loses nothing keeps its rights
+pub leaves_none : (Done : ℕ → Type 0) (s : Entries) → ((top : ℕ) (cap : RightsSet) → Done top → IsGrantedAt s top cap → ⊥) → LeavesRights Done s s
+leaves_none Done s none key t u at_t at_u right =
+    let e : u ≡ t = same_value (sym at_u ∙ at_t) in
+    (λ h. (subst (λ (x : Standing). IsTrue (has x.rights right)) e h, λ top cap d granted _. absurd (none top cap d granted)), λ h. subst (λ (x : Standing). IsTrue (has x.rights right)) (sym e) h.0)
 
 -- the same pages, said in another way
-pub capped_as : (Done Other : ℕ → Type 0) (old new : Entries) → ((key : ℕ) → Done key ↔ Other key) → Capped Done old new → Capped Other old new
-capped_as Done Other old new how a = record {
-  same = a.same;
-  rights = λ key t u at_t at_u right.
-      let r = a.rights key t u at_t at_u right in (
-        λ h. ((r.0 h).0, λ top cap d granted below. (r.0 h).1 top cap ((how top).1 d) granted below),
-        λ h. r.1 (h.0, λ top cap d granted below. h.1 top cap ((how top).0 d) granted below),
-      );
-}
-
--- nothing is capped
-pub capped_none : (Done : ℕ → Type 0) (old new : Entries) → new ≡ old → ((key : ℕ) (cap : RightsSet) → Done key → IsGrantedAt old key cap → ⊥) → Capped Done old new
-capped_none Done old new is none = record {
-  same = λ key. ap (λ (s : Entries). bare (entry_at s key)) is;
-  rights = λ key t u at_t at_u right.
-      let e : u ≡ t = same_value (sym at_u ∙ ap (λ (s : Entries). standing_at s key) is ∙ at_t) in (
-        λ h. (subst (λ (x : Standing). IsTrue (has x.rights right)) e h, λ top cap d granted below. absurd (none top cap d granted)),
-        λ h. subst (λ (x : Standing). IsTrue (has x.rights right)) (sym e) h.0,
-      );
-}
+pub leaves_as : (Done Other : ℕ → Type 0) (old new : Entries) → ((key : ℕ) → Done key ↔ Other key) → LeavesRights Done old new → LeavesRights Other old new
+leaves_as Done Other old new how a key t u at_t at_u right =
+    let r = a key t u at_t at_u right in
+    (λ h. ((r.0 h).0, λ top cap d granted below. (r.0 h).1 top cap ((how top).1 d) granted below), λ h. r.1 (h.0, λ top cap d granted below. h.1 top cap ((how top).0 d) granted below))
 
 -- the cap of one tree
 module _ (old new : Entries) (top : ℕ) (cap : RightsSet) (caps : CapsTree top cap old new) (decided : (low high : ℕ) → Descends old low high ⊎ ¬ (Descends old low high)) where

@@ -1,6 +1,5 @@
 -- What is cut below granted pages is what the transfer's definition cuts.
 use Rattle.std.proofs.Common.{◌≡◌, ◌≢◌, ℕ, ◌^◌, true, List, length, Option, Some, None, option_and_then, option_map, ◌↔◌, inl, inr, IsTrue, refl, sym, ap, ◌∙◌, subst, arith}
-use Rattle.std.proofs.lemmas.Option.{slice_get_within}
 use Rattle.l4_fpage.specs.Rights.{RightsSet, Right, has, no_rights}
 use Rattle.l4_nodes.specs.declared.Place.{Place as LinkPlace}
 use Rattle.l4_links.specs.declared.Standing.{Standing}
@@ -16,16 +15,19 @@ use Rattle.l4_mapdb.specs.Losing.{LosesRights}
 use Rattle.l4_mapdb.specs.Transfer.{PageMove, IsCut}
 use Rattle.l4_mapdb.proofs.Unique.{same_value, same_rights}
 use Rattle.l4_mapdb.specs.View.{link_place, map_place, place_at, mapping_of, mappings_of}
-use Rattle.l4_mapdb.specs.Inside.Cutting.{IsGrantedAt, IsOrBelow, Capped, IsGrantBelow}
+use Rattle.l4_mapdb.specs.Inside.Cutting.{IsGrantedAt, IsOrBelow, LeavesRights, AtOneOf, Tidies}
+use Rattle.l4_mapdb.specs.Inside.Messages.{OfItems}
 use Rattle.l4_mapdb.specs.Inside.Placing.{IsStart, Used, Placed}
 use Rattle.l4_mapdb.specs.Inside.Settling.{left_by, settled_standing, settled_entry, settled}
 use Rattle.l4_mapdb.proofs.Leading.{leads_along}
 use Rattle.l4_mapdb.proofs.View.{some_standing, descends_by_parents, parents_stand, parent_is}
 use Rattle.l4_mapdb.proofs.Deciding.{none_or}
-use Rattle.l4_mapdb.proofs.Caps.{has_common, IsSameBare, bare_stands, turned}
+use Rattle.l4_mapdb.proofs.Caps.{has_common, base, IsSameBase, base_stands, turned}
+use Rattle.l4_mapdb.proofs.Restored.{target_in}
+use Rattle.l4_mapdb.proofs.Tidying.{bases}
 use Rattle.l4_mapdb.proofs.EntriesLemmas.{decided}
 use Rattle.l4_mapdb.proofs.Lost.{HasLost, KeysLose, view_loses}
-use Rattle.l4_mapdb.proofs.Moved.{at_settled, is_at_settled, was_settled, places_settled, place_at_settled, source_of, granted_to, IsGrantedHere, stands_here}
+use Rattle.l4_mapdb.proofs.Moved.{at_settled, is_at_settled, was_settled, places_settled, source_of, granted_to, IsGrantedHere, stands_here}
 
 -- a right of what stands below is a right of what stands above
 pub right_up : (s : Entries) → AreTrees s → (low high : ℕ) → Descends s low high → (t u : Standing) → standing_at s low ≡ Some t → standing_at s high ≡ Some u → (k : Right) → IsTrue (has t.rights k) → IsTrue (has u.rights k)
@@ -80,35 +82,23 @@ module _ (start now : Linked) (from to : ℕ) (items : List ItemMove) (ready : I
         | inr (inr l) ↦ absurd (let z : ◌≡◌ {A = Option RightsSet} (Some cap) None = sym noted ∙ ap note l.is ∙ l.plain.not_granted in cc)
       ]
 
-  -- each grant is of an item of the message
-  pub grant_below : (top : ℕ) (cap : RightsSet) → IsGrantedAt now.entries top cap → IsGrantBelow now.entries to items (length items) top
-  grant_below top cap granted = by_standing (standing_at now.entries top) refl
+  -- the pages that the items name
+  abbrev pub Named : LinkPlace → Type 0
+  Named = OfItems from to items (length items)
+
+  -- each grant is to one of them
+  grant_named : (top : ℕ) (cap : RightsSet) → IsGrantedAt now.entries top cap → AtOneOf Named now.entries top
+  grant_named top cap granted = by_standing (standing_at now.entries top) refl
     where
-      by_standing : (o : Option Standing) → standing_at now.entries top ≡ o → IsGrantBelow now.entries to items (length items) top
+      by_standing : (o : Option Standing) → standing_at now.entries top ≡ o → AtOneOf Named now.entries top
       by_standing None h = absurd (let z : ◌≡◌ {A = Option RightsSet} None (Some cap) = sym (ap (option_and_then (λ (y : Standing). y.granted)) h) ∙ granted in cc)
       by_standing (Some t) h =
           let s = some_standing now.entries top t h in
-          let here = grant_here top s.0 t cap s.1 s.2 (sym (ap (option_and_then (λ (y : Standing). y.granted)) h) ∙ granted) in
-          let g = here.0 in
-          let w = g.used.pages.within in
-          let ti = g.used.pages.target_is in
-          let size : 2 ^ g.used.by.mv.target.log ≡ 2 ^ g.used.by.mv.source.log = ap (λ (n : ℕ). 2 ^ n) (sym g.used.by.mv.same_size) in
-          record {
-            item = g.move.item;
-            less = slice_get_within items g.move.item g.used.by g.used.item;
-            by = g.used.by;
-            at = g.used.item;
-            is = record {
-              grant = sym g.used.grant ∙ g.grant;
-              is = record {
-                page = g.move.target.page;
-                from = omega (arith, ti);
-                before = omega (arith, ti, w, size);
-                at = ap (option_map {T = Entry} (λ x. x.place)) s.1 ∙ ap (λ (x : Entry). Some x.place) g.is ∙ (λ i. Some (record { space = g.used.to_space i; page = g.move.target.page }));
-                granted = granted ∙ ap Some (sym here.1);
-              };
-            };
-          }
+          let g = (grant_here top s.0 t cap s.1 s.2 (sym (ap (option_and_then (λ (y : Standing). y.granted)) h) ∙ granted)).0 in (
+            link_place g.move.target,
+            target_in from to items g.move.item g.used.by g.move.source.page (link_place g.move.target) g.used.item g.used.to_space g.used.pages,
+            ap (option_map {T = Entry} (λ x. x.place)) s.1 ∙ ap (λ (x : Entry). Some x.place) g.is,
+          )
 
   -- a right that is lost under a key, by a grant above it
   pub record LostKey (key : ℕ) (right : Right) : Type 0 where
@@ -166,13 +156,13 @@ module _ (start now : Linked) (from to : ℕ) (items : List ItemMove) (ready : I
   -- the right stood there, and each item names it that granted what stands there or what it descends from
   abbrev KeepsRight : ℕ → Standing → Right → Type 0
   KeepsRight key t right =
-      IsTrue (has t.rights right) × ((top : ℕ) (cap : RightsSet) → IsGrantBelow now.entries to items (length items) top → IsGrantedAt now.entries top cap → IsOrBelow now.entries key top → IsTrue (has cap right))
+      IsTrue (has t.rights right) × ((top : ℕ) (cap : RightsSet) → AtOneOf Named now.entries top → IsGrantedAt now.entries top cap → IsOrBelow now.entries key top → IsTrue (has cap right))
 
   -- the rights of what is capped
-  rights_left : (cur : Entries) → Capped (IsGrantBelow now.entries to items (length items)) now.entries cur → (key : ℕ) (t u : Standing) → standing_at now.entries key ≡ Some t → standing_at cur key ≡ Some u
+  rights_left : (cur : Entries) → LeavesRights (AtOneOf Named now.entries) now.entries cur → (key : ℕ) (t u : Standing) → standing_at now.entries key ≡ Some t → standing_at cur key ≡ Some u
       → (right : Right) → IsTrue (has u.rights right) ↔ (IsTrue (has (settled_standing t).rights right) × ¬ (LostKey key right))
-  rights_left cur capped key t u at_t at_u right =
-      let r = capped.rights key t u at_t at_u right in
+  rights_left cur leaves key t u at_t at_u right =
+      let r = leaves key t u at_t at_u right in
       (λ h. (own t.granted refl (r.0 h), not_lost (r.0 h)), λ h. r.1 (back t.granted refl h.0, λ top cap done granted below. above top cap granted below h))
     where
       noted : (cap : RightsSet) → t.granted ≡ Some cap → IsGrantedAt now.entries key cap
@@ -181,14 +171,14 @@ module _ (start now : Linked) (from to : ℕ) (items : List ItemMove) (ready : I
       own : (o : Option RightsSet) → t.granted ≡ o → KeepsRight key t right → IsTrue (has (left_by t.granted t.rights) right)
       own None g h = subst (λ (o : Option RightsSet). IsTrue (has (left_by o t.rights) right)) (sym g) h.0
       own (Some cap) g h = subst (λ (o : Option RightsSet). IsTrue (has (left_by o t.rights) right)) (sym g)
-          ((has_common t.rights cap right).1 (h.0, h.1 key cap (grant_below key cap (noted cap g)) (noted cap g) (inl refl)))
+          ((has_common t.rights cap right).1 (h.0, h.1 key cap (grant_named key cap (noted cap g)) (noted cap g) (inl refl)))
 
       back : (o : Option RightsSet) → t.granted ≡ o → IsTrue (has (left_by t.granted t.rights) right) → IsTrue (has t.rights right)
       back None g h = subst (λ (o : Option RightsSet). IsTrue (has (left_by o t.rights) right)) g h
       back (Some cap) g h = ((has_common t.rights cap right).0 (subst (λ (o : Option RightsSet). IsTrue (has (left_by o t.rights) right)) g h)).0
 
       not_lost : KeepsRight key t right → ¬ (LostKey key right)
-      not_lost h l = l.lacks (h.1 l.top l.cap (grant_below l.top l.cap (ap (option_and_then (λ (y : Standing). y.granted)) l.at ∙ l.granted)) (ap (option_and_then (λ (y : Standing). y.granted)) l.at ∙ l.granted) (inr l.below))
+      not_lost h l = l.lacks (h.1 l.top l.cap (grant_named l.top l.cap (ap (option_and_then (λ (y : Standing). y.granted)) l.at ∙ l.granted)) (ap (option_and_then (λ (y : Standing). y.granted)) l.at ∙ l.granted) (inr l.below))
 
       above : (top : ℕ) (cap : RightsSet) → IsGrantedAt now.entries top cap → IsOrBelow now.entries key top → IsTrue (has (left_by t.granted t.rights) right) × ¬ (LostKey key right) → IsTrue (has cap right)
       above top cap granted (inl same) h =
@@ -209,7 +199,11 @@ module _ (start now : Linked) (from to : ℕ) (items : List ItemMove) (ready : I
             below = d;
           })
 
-  module _ (cur : Entries) (new : Linked) (capped : Capped (IsGrantBelow now.entries to items (length items)) now.entries cur) (buries : Buries cur new.entries) where
+  module _ (cur : Entries) (new : Linked) (tidies : Tidies Named now.entries cur) (buries : Buries cur new.entries) where
+    -- apart from marks and rights each key is as it was
+    pub same_base : (key : ℕ) → base (entry_at cur key) ≡ base (entry_at now.entries key)
+    same_base = bases Named now.entries cur tidies
+
     -- what is there after the burial was there before it, and where something stands it has rights
     pub before_burial : (key : ℕ) (e : Entry) → entry_at new.entries key ≡ Some e → entry_at cur key ≡ Some e
     before_burial key e at = elim (standing_at cur key) as (λ (o : Option Standing). standing_at cur key ≡ o → entry_at cur key ≡ Some e) [
@@ -228,14 +222,14 @@ module _ (start now : Linked) (from to : ℕ) (items : List ItemMove) (ready : I
     settled_at : (key : ℕ) (e : Entry) → entry_at now.entries key ≡ Some e → entry_at (settled now).entries key ≡ Some (record e { stands = option_map settled_standing e.stands })
     settled_at key e at = at_settled now key ∙ ap settled_entry at
 
-    lost_between : (key : ℕ) (e f : Entry) (t u : Standing) → entry_at now.entries key ≡ Some e → e.stands ≡ Some t → entry_at cur key ≡ Some f → f.stands ≡ Some u → IsSameBare e f t u → u.rights ≢ no_rights
+    lost_between : (key : ℕ) (e f : Entry) (t u : Standing) → entry_at now.entries key ≡ Some e → e.stands ≡ Some t → entry_at cur key ≡ Some f → f.stands ≡ Some u → IsSameBase e f t u → u.rights ≢ no_rights
         → HasLost (LostKey key) (record e { stands = option_map settled_standing e.stands }) (settled_standing t) f u
     lost_between key e f t u at_e at_t at_f at_u b some =
         record {
           place = b.place;
           frame = b.frame;
           parent = b.parent;
-          rights = rights_left cur capped key t u (ap (option_and_then (λ (x : Entry). x.stands)) at_e ∙ at_t) (ap (option_and_then (λ (x : Entry). x.stands)) at_f ∙ at_u);
+          rights = rights_left cur tidies.rights key t u (ap (option_and_then (λ (x : Entry). x.stands)) at_e ∙ at_t) (ap (option_and_then (λ (x : Entry). x.stands)) at_f ∙ at_u);
           some_right = some;
         }
 
@@ -243,13 +237,13 @@ module _ (start now : Linked) (from to : ℕ) (items : List ItemMove) (ready : I
     keys_lose = record {
       from = λ key f u at stands.
           let n = not_buried key f u at stands in
-          let h = bare_stands (entry_at cur key) (entry_at now.entries key) (sym (capped.same key)) f u n.0 stands in
+          let h = base_stands (entry_at cur key) (entry_at now.entries key) (sym (same_base key)) f u n.0 stands in
           (record h.0 { stands = option_map settled_standing h.0.stands }, settled_standing h.1, settled_at key h.0 h.2, ap (option_map settled_standing) h.3, lost_between key h.0 f h.1 u h.2 h.3 n.0 stands (turned h.4) n.1);
       to = λ key was had at stands rights rights_are some.
           let w = was_settled (entry_at now.entries key) was (sym (at_settled now key) ∙ at) in
           let s = settled_from w.entry.stands had (ap (λ (x : Entry). x.stands) (sym w.is) ∙ stands) in
-          let a = bare_stands (entry_at now.entries key) (entry_at cur key) (capped.same key) w.entry s.0 w.was s.1 in
-          let left = rights_left cur capped key s.0 a.1 (ap (option_and_then (λ (x : Entry). x.stands)) w.was ∙ s.1) (ap (option_and_then (λ (x : Entry). x.stands)) a.2 ∙ a.3) in
+          let a = base_stands (entry_at now.entries key) (entry_at cur key) (same_base key) w.entry s.0 w.was s.1 in
+          let left = rights_left cur tidies.rights key s.0 a.1 (ap (option_and_then (λ (x : Entry). x.stands)) w.was ∙ s.1) (ap (option_and_then (λ (x : Entry). x.stands)) a.2 ∙ a.3) in
           let same : a.1.rights ≡ rights = same_rights a.1.rights rights (λ k. (
             λ h. (rights_are k).1 (let l = (left k).0 h in (subst (λ (x : Standing). IsTrue (has x.rights k)) (sym s.2) l.0, l.1)),
             λ h. (left k).1 (let l = (rights_are k).0 h in (subst (λ (x : Standing). IsTrue (has x.rights k)) s.2 l.0, l.1)),

@@ -13,7 +13,6 @@ pub mod Single
 pub mod Unique
 pub mod UsedMoves
 pub mod AllDone
-pub mod CapLoops
 pub mod Caps
 pub mod CutLoss
 pub mod Deciding
@@ -36,7 +35,6 @@ pub mod Prepared
 pub mod Restored
 pub mod RoomMade
 pub mod Rooming
-pub mod SameRights
 pub mod Sourced
 pub mod Tangling
 pub mod Tidying

@@ -37,13 +37,6 @@ is_at_settled s place key =
     let e : option_map {T = Entry} (λ e. e.place) (entry_at (settled s).entries key) ≡ option_map {T = Entry} (λ e. e.place) (entry_at s.entries key) = ap (option_map {T = Entry} (λ e. e.place)) (at_settled s key) ∙ place_settled (entry_at s.entries key) in
     (λ h. sym e ∙ h, λ h. e ∙ h)
 
-pub place_at_settled : (s : Linked) (key : ℕ) → place_at (settled s).entries key ≡ place_at s.entries key
-place_at_settled s key = ap (option_map {T = Entry} (λ e. map_place e.place)) (at_settled s key) ∙ over (entry_at s.entries key)
-  where
-    over : (o : Option Entry) → option_map {T = Entry} (λ e. map_place e.place) (settled_entry o) ≡ option_map {T = Entry} (λ e. map_place e.place) o
-    over None = refl
-    over (Some e) = refl
-
 -- what was there before it was settled
 pub record WasSettled (o : Option Entry) (e : Entry) : Type 0 where
   pub entry : Entry

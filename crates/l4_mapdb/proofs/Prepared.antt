@@ -128,7 +128,6 @@ module _ (old : Linked) (clean : IsClean old) (have : HavePlaces old) (trees : A
     stands : entry.stands ≡ Some now
     stood : e.stands ≡ Some before
     unwanted : e.wanted ≡ false
-    plain_before : before.source ≡ false
     not_granted : before.granted ≡ None
     is : now ≡ record before { source = now.source }
 
@@ -145,7 +144,6 @@ module _ (old : Linked) (clean : IsClean old) (have : HavePlaces old) (trees : A
         stands = o.stands;
         stood = p.stands;
         unwanted = p.unwanted;
-        plain_before = p.no_source;
         not_granted = p.not_granted;
         is = marked_is o.standing p.standing o.plain_is (room.marked.marks.not_granted key o.standing (ap (option_and_then (λ (x : Entry). x.stands)) o.at ∙ o.stands)) p.not_granted;
       }

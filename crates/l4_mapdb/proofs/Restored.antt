@@ -1,16 +1,19 @@
 -- What was marked and is marked no longer is as it was.
 use Rattle.std.proofs.Common.{◌≡◌, ℕ, ◌^◌, Bool, true, false, List, length, Option, Some, None, option_and_then, option_map, refl, sym, ap, ◌∙◌, subst, slice_get, inl, inr, ◌⊎◌, arith}
 use Rattle.std.proofs.lemmas.Option.{slice_get_within}
+use Rattle.l4_fpage.specs.Rights.{RightsSet, no_rights}
 use Rattle.l4_msg.specs.Moves.{MovePairs}
 use Rattle.l4_nodes.specs.declared.Place.{Place as LinkPlace}
 use Rattle.l4_links.specs.declared.Standing.{Standing}
 use Rattle.l4_links.specs.declared.Entry.{Entry}
 use Rattle.l4_links.specs.Entries.{Entries, Linked, entry_at, standing_at, IsStanding, parent_of, IsAt, IsSource, Descends}
 use Rattle.l4_msg.specs.declared.items.ItemMove.{ItemMove}
-use Rattle.l4_mapdb.proofs.Unique.{same_value}
+use Rattle.l4_mapdb.proofs.Unique.{same_value, same_rights}
 use Rattle.l4_mapdb.specs.declared.sources.UsedMove.{UsedMove}
 use Rattle.l4_mapdb.specs.Delivering.{IsClean}
-use Rattle.l4_mapdb.specs.Inside.Messages.{plain, stand_at, StandAlike, IsMoved, IsWaiting, Marks, AreMarked, tidied, Tidies, OfItems, Wants, IsFilled}
+use Rattle.l4_mapdb.specs.Inside.Messages.{plain, stand_at, StandAlike, IsMoved, IsWaiting, Marks, AreMarked, OfItems, Wants, IsFilled}
+use Rattle.l4_mapdb.specs.Inside.Cutting.{bare, tidied, IsGrantedAt, Tidies}
+use Rattle.l4_mapdb.proofs.Caps.{bare_tidied}
 use Rattle.l4_mapdb.specs.Inside.Tangles.{Clashes, Tangles, HasTangle}
 use Rattle.l4_mapdb.proofs.Leading.{leads_along}
 use Rattle.l4_mapdb.proofs.Moves.{stand_of, stands_as, with_place, found_of, is_at, entry_of}
@@ -63,6 +66,32 @@ tidied_was old clean cur key alike =
       ] is
     ] alike
 
+-- entries that are the same apart from rights, and have the same rights, are one
+by_rights : (o n : Option Standing) → option_map (λ (t : Standing). record t { rights = no_rights }) n ≡ option_map (λ (t : Standing). record t { rights = no_rights }) o → ((t u : Standing) → o ≡ Some t → n ≡ Some u → u.rights ≡ t.rights) → n ≡ o
+by_rights None None same rights = refl
+by_rights None (Some u) same rights = absurd (let z : ◌≡◌ {A = Option Standing} (Some (record u { rights = no_rights })) None = same in cc)
+by_rights (Some t) None same rights = absurd (let z : ◌≡◌ {A = Option Standing} None (Some (record t { rights = no_rights })) = same in cc)
+by_rights (Some t) (Some u) same rights =
+    let one : record u { rights = no_rights } ≡ record t { rights = no_rights } = same_value same in
+    λ i. Some (record { frame = (one i).frame; rights = rights t u refl refl i; source = (one i).source; granted = (one i).granted; parent = (one i).parent })
+
+bare_exact : (o n : Option Entry) → bare n ≡ bare o → ((t u : Standing) → option_and_then (λ (e : Entry). e.stands) o ≡ Some t → option_and_then (λ (e : Entry). e.stands) n ≡ Some u → u.rights ≡ t.rights) → n ≡ o
+bare_exact None None same rights = refl
+bare_exact None (Some f) same rights = absurd (let z : ◌≡◌ {A = Option Entry} (bare (Some f)) None = same in cc)
+bare_exact (Some e) None same rights = absurd (let z : ◌≡◌ {A = Option Entry} None (bare (Some e)) = same in cc)
+bare_exact (Some e) (Some f) same rights =
+    let is = same_value same in
+    let stands : f.stands ≡ e.stands = by_rights e.stands f.stands (ap (λ (x : Entry). x.stands) is) rights in
+    λ i. Some (record { place = (is i).place; wanted = (is i).wanted; stands = stands i })
+
+tidied_stands : (o : Option Entry) (t : Standing) → option_and_then (λ (e : Entry). e.stands) (tidied o) ≡ Some t → (u : Standing) × (option_and_then (λ (e : Entry). e.stands) o ≡ Some u) × (u.rights ≡ t.rights)
+tidied_stands None t at = absurd (let z : ◌≡◌ {A = Option Standing} None (Some t) = at in cc)
+tidied_stands (Some e) t at =
+    elim e.stands as (λ (o : Option Standing). option_and_then (λ (x : Entry). x.stands) (tidied (Some (record e { stands = o }))) ≡ Some t → (u : Standing) × (o ≡ Some u) × (u.rights ≡ t.rights)) [
+      | None ↦ λ none. absurd (let z : ◌≡◌ {A = Option Standing} None (Some t) = none in cc)
+      | Some u ↦ λ is. (u, refl, ap (λ (x : Standing). x.rights) (same_value is))
+    ] at
+
 -- a used move is of pages that the items name
 pub target_in : (from to : ℕ) (items : List ItemMove) (item : ℕ) (by : ItemMove) (source : ℕ) (place : LinkPlace) → slice_get items item ≡ Some by → place.space ≡ to → MovePairs (Some by.mv) source place.page → OfItems from to items (length items) place
 target_in from to items item by source place at space pages =
@@ -97,30 +126,47 @@ module _ (old : Linked) (clean : IsClean old) (from to : ℕ) (items : List Item
         let same : c.entry ≡ e = same_value (sym c.at ∙ at) in
         subst (λ (p : LinkPlace). OfItems from to items (length items) p) (sym c.place_is ∙ ap (λ (x : Entry). x.place) same) (source_in from to items m.0.item m.1.by m.0.target.page (record { space = from; page = m.0.page }) m.1.item refl m.1.pages)
 
-    -- an entry that no item names has no mark
-    unnamed_tidy : (new : Entries) → Tidies (OfItems from to items (length items)) cur new → (key : ℕ) (e : Entry) → entry_at cur key ≡ Some e → entry_at new key ≡ Some e → entry_at new key ≡ tidied (Some e)
-    unnamed_tidy new tidies key e at same = by_bool e.wanted
-        (λ wanted. tidies.here key e at (waiting_named key e at (inl wanted)))
-        (λ unwanted. elim e.stands as (λ (o : Option Standing). e.stands ≡ o → entry_at new key ≡ tidied (Some e)) [
-          | None ↦ λ none. tidies.here key e at (waiting_named key e at (inr none))
-          | Some t ↦ λ stands. by_bool t.source
-              (λ source. tidies.here key e at (marked_named key e t at stands source))
-              (λ source.
-              let granted : t.granted ≡ None = marks.not_granted key t (ap (option_and_then (λ (x : Entry). x.stands)) at ∙ stands) in
-              same ∙ unmarked_is e t unwanted stands source granted)
-        ] refl)
-
-    -- once the marks are taken away all is as it was
-    pub restored : (new : Entries) → Tidies (OfItems from to items (length items)) cur new → (key : ℕ) → entry_at new key ≡ entry_at old.entries key
-    restored new tidies key = elim (tidies.each key) [
-      | inr tidy ↦ tidy ∙ tidied_was old clean cur key (marks.alike key)
-      | inl same ↦ elim (entry_at cur key) as (λ (o : Option Entry). entry_at cur key ≡ o → entry_at new key ≡ entry_at old.entries key) [
-        | None ↦ λ none.
-            let gone : stand_at old.entries key ≡ None = sym (marks.alike key) ∙ ap (option_and_then (λ (e : Entry). option_map (with_place e.place) e.stands)) none in
-            same ∙ none ∙ sym (clean_none old clean key gone)
-        | Some e ↦ λ at. unnamed_tidy new tidies key e at (same ∙ at) ∙ ap tidied (sym at) ∙ tidied_was old clean cur key (marks.alike key)
+    module _ (new : Entries) (tidies : Tidies (OfItems from to items (length items)) cur new) where
+      not_noted : (key : ℕ) (cap : RightsSet) → ¬ (IsGrantedAt cur key cap)
+      not_noted key cap granted = elim (standing_at cur key) as (λ (o : Option Standing). standing_at cur key ≡ o → ⊥) [
+        | None ↦ λ none. let z : ◌≡◌ {A = Option RightsSet} None (Some cap) = sym (ap (option_and_then (λ (t : Standing). t.granted)) none) ∙ granted in cc
+        | Some t ↦ λ at. let z : ◌≡◌ {A = Option RightsSet} None (Some cap) = sym (marks.not_granted key t at) ∙ sym (ap (option_and_then (λ (t : Standing). t.granted)) at) ∙ granted in cc
       ] refl
-    ]
+
+      -- as no page was granted, what stands keeps its rights
+      rights_kept : (key : ℕ) (t u : Standing) → standing_at cur key ≡ Some t → standing_at new key ≡ Some u → u.rights ≡ t.rights
+      rights_kept key t u at_t at_u = same_rights u.rights t.rights (λ right. let r = tidies.rights key t u at_t at_u right in (λ h. (r.0 h).0, λ h. r.1 (h, λ top cap _ granted _. absurd (not_noted top cap granted))))
+
+      -- an entry that no item names has no mark
+      unnamed_tidy : (key : ℕ) (e : Entry) → entry_at cur key ≡ Some e → entry_at new key ≡ Some e → ((named : OfItems from to items (length items) e.place) → entry_at new key ≡ tidied (Some e)) → entry_at new key ≡ tidied (Some e)
+      unnamed_tidy key e at same here = by_bool e.wanted
+          (λ wanted. here (waiting_named key e at (inl wanted)))
+          (λ unwanted. elim e.stands as (λ (o : Option Standing). e.stands ≡ o → entry_at new key ≡ tidied (Some e)) [
+            | None ↦ λ none. here (waiting_named key e at (inr none))
+            | Some t ↦ λ stands. by_bool t.source
+                (λ source. here (marked_named key e t at stands source))
+                (λ source. same ∙ unmarked_is e t unwanted stands source (marks.not_granted key t (ap (option_and_then (λ (x : Entry). x.stands)) at ∙ stands)))
+          ] refl)
+
+      tidy : (key : ℕ) → bare (entry_at new key) ≡ tidied (bare (entry_at cur key)) → entry_at new key ≡ tidied (entry_at cur key)
+      tidy key is = bare_exact (tidied (entry_at cur key)) (entry_at new key) (is ∙ sym (bare_tidied (entry_at cur key)))
+          (λ t u at_t at_u. let w = tidied_stands (entry_at cur key) t at_t in rights_kept key w.0 u w.1 at_u ∙ w.2)
+
+      -- once the marks are taken away all is as it was
+      pub restored : (key : ℕ) → entry_at new key ≡ entry_at old.entries key
+      restored key = elim (tidies.each key) [
+        | inr is ↦ tidy key is.1 ∙ tidied_was old clean cur key (marks.alike key)
+        | inl is ↦
+            let same = bare_exact (entry_at cur key) (entry_at new key) is (rights_kept key) in
+            elim (entry_at cur key) as (λ (o : Option Entry). entry_at cur key ≡ o → entry_at new key ≡ entry_at old.entries key) [
+              | None ↦ λ none.
+                  let gone : stand_at old.entries key ≡ None = sym (marks.alike key) ∙ ap (option_and_then (λ (e : Entry). option_map (with_place e.place) e.stands)) none in
+                  same ∙ none ∙ sym (clean_none old clean key gone)
+              | Some e ↦ λ at.
+                  unnamed_tidy key e at (same ∙ at) (λ named. tidy key (tidies.here key (e.place, named, is_at cur key e e.place at refl)) ∙ ap tidied at)
+                  ∙ ap tidied (sym at) ∙ tidied_was old clean cur key (marks.alike key)
+            ] refl
+      ]
 
   -- what is only looked at keeps its marks
   marks_same : (a b : Entries) → ((key : ℕ) → entry_at b key ≡ entry_at a key) → Marks Used old.entries a → Marks Used old.entries b

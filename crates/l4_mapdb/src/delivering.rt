@@ -12,7 +12,6 @@ ghost use Rattle.l4_mapdb.specs.Inside.Growing.{AreOfKind};
 ghost use Rattle.l4_mapdb.specs.Inside.Placing.{IsStart, Placed, IsDone};
 
 use crate::clearing::clear_targets;
-use crate::cutting::cut;
 use crate::granting::deliver_grants;
 use crate::maps::deliver_maps;
 use crate::moving::move_all;
@@ -23,7 +22,7 @@ use crate::{Cause, ItemMove};
 use l4_links::Links;
 
 /// Executes the used moves of a message whose targets are prepared, cuts the rights of what descends from granted pages, and removes all
-/// marks.
+/// marks and what has no rights left.
 fn carry_out(links: &mut Links, from: u64, to: u64, items: &[ItemMove])
     requires ready { (start : Linked) × IsStart start from to items.now
         × Placed start from to items.now (IsDone start from to items.now false 0 0) links.old }
@@ -37,12 +36,10 @@ fn carry_out(links: &mut Links, from: u64, to: u64, items: &[ItemMove])
     move_all(links, from, to, items);
     links.law_places();
     links.law_trees();
-    cut(links, to, items);
+    unmark(links, from, to, items);
     links.bury();
     links.law_places();
     links.law_trees();
-    unmark(links, from, to, items);
-    links.law_places();
 }
 
 /// Delivers any message: tests it, makes room for each target, removes the mappings at the targets with everything that descends from

@@ -4,7 +4,6 @@
 #![tactic(auto)]
 
 mod clearing;
-mod cutting;
 mod delivering;
 mod granting;
 mod maps;

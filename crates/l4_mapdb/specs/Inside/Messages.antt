@@ -84,15 +84,6 @@ pub record IsWanted (s : Entries) (place : LinkPlace) : Type 0 where
   pub place_is : entry.place ≡ place
   pub wanted : entry.wanted ≡ true
 
--- an entry without its marks, nothing where it was a blank
-abbrev pub tidied : Option Entry → Option Entry
-tidied o = option_and_then (λ (e : Entry). option_map (λ (t : Standing). record e { wanted = false; stands = Some (plain t) }) e.stands) o
-
--- these pages have lost their marks, and their keys where nothing stands; of all others, what there is is as it was or without its marks
-pub record Tidies (Touched : LinkPlace → Type 0) (old new : Entries) : Type 0 where
-  pub each : (key : ℕ) → (entry_at new key ≡ entry_at old key) ⊎ (entry_at new key ≡ tidied (entry_at old key))
-  pub here : (key : ℕ) (e : Entry) → entry_at old key ≡ Some e → Touched e.place → entry_at new key ≡ tidied (Some e)
-
 -- the place is a page of the space from the first page on and before the end
 abbrev pub InPages : ℕ → ℕ → ℕ → LinkPlace → Type 0
 InPages space first end place = (place.space ≡ space) × (first ≤ place.page) × (place.page < end)

@@ -1,7 +1,8 @@
 use Rattle.std.proofs.Common.{◌∙◌, refl, ◌<◌, length, arith}
+use Rattle.std.proofs.lemmas.Option.{slice_get_within}
 use Rattle.l4_mapdb.specs.Inside.Messages.{OfItems}
 use Rattle.l4_mapdb.proofs.Clashing.{read_there}
-use Rattle.l4_mapdb.proofs.Tidying.{items_first, items_more, tidies_fewer}
+use Rattle.l4_mapdb.proofs.Tidying.{items_first, items_more, tidies_as}
 use Rattle.l4_mapdb.proofs.unmarking.unmark.Goals as goal
 
 pub loop-item-init : goal.loop-item-init
@@ -18,7 +19,10 @@ loop-item-preserved c =
 
 pub returns : goal.returns
 returns c = record {
-  tidies = tidies_fewer (OfItems c.args.from c.args.to c.args.items.now c.loop-item.item) (OfItems c.args.from c.args.to c.args.items.now (length c.args.items.now)) c.args.links.now.entries c.loop-item.links.entries
-      (λ key e at h. let lt = h.2 in (h.0, h.1, omega (arith, lt, c.loop-item-test.false), h.3, h.4)) c.loop-item.invariant.tidies;
+  tidies = tidies_as (OfItems c.args.from c.args.to c.args.items.now c.loop-item.item) (OfItems c.args.from c.args.to c.args.items.now (length c.args.items.now)) c.args.links.now.entries c.loop-item.links.entries
+      (λ key. (
+      λ h. (h.0, (h.1.0, h.1.1, slice_get_within c.args.items.now h.1.0 h.1.1 h.1.3, h.1.3, h.1.4), h.2),
+      λ h. (let lt = h.1.2 in (h.0, (h.1.0, h.1.1, omega (arith, lt, c.loop-item-test.false), h.1.3, h.1.4), h.2)),
+      )) c.loop-item.invariant.tidies;
   spaces = c.loop-item.invariant.spaces;
 }
