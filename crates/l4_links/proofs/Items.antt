@@ -33,15 +33,6 @@ goes_there source target = λ i. record { space = target.space; page = (let e : 
 pub read_there : {A : Type 0} (xs : List A) (i : ℕ) (x : A) → i < length xs → x ≡ get_or xs i x → slice_get xs i ≡ Some x
 read_there {A = A} xs i x lt is = slice_get-get_or xs i x lt ∙ ap (λ (v : A). Some v) (sym is)
 
--- what is known of an attempt's end
-pub if_done : {E : Type 0} (r : Result Bool E) (D L R P : Type 0) → Ends r D L R → (D → P) → IfOk r (λ done. done ≡ true → P)
-if_done (Ok true) D L R P e f = λ _. f e
-if_done (Ok false) D L R P e f = λ z. absurd (let w : ◌≡◌ false true = z in cc)
-if_done (Err x) D L R P e f = tt
-
-pub was_left : (E : Type 0) (b : Bool) (D L R : Type 0) → b ≡ false → Ends {E = E} (Ok b) D L R → L
-was_left E false D L R is e = e
-was_left E true D L R is e = absurd (let z : ◌≡◌ true false = is in cc)
 
 -- tables were made, which have no keys
 pub growing_made : (to : ℕ) (pages : Tables) (rows made : Rows) (slots : Slots) (first head : Option ℕ) (stamp : ℕ) (all : Tables) → MakesTables rows made → AreGrowing to pages rows slots first head stamp all → AreGrowing to pages made slots first head stamp all

@@ -7,6 +7,7 @@ ghost use Rattle.l4_spaces.specs.Rows.{entry, AreWhole};
 ghost use Rattle.l4_fpage.specs.Pages.{most_pages};
 ghost use Rattle.l4_links.specs.Entries.{moved_place, source_of, target_of, end_of};
 ghost use Rattle.l4_nodes.specs.Slots.{node_at};
+ghost use Rattle.l4_links.specs.Inside.Bringing.{Ends};
 ghost use Rattle.l4_links.specs.Inside.Moving.{AreWithin, AreFree, CanMove, CanGo, IsStuck, CanGoRow, IsStuckRow, IsStuckIn, CanGoIn, MakesTables, MovesAt, MovesRow, Hinders, LacksPlace, Moves, AreNamed, StayNamed};
 
 use crate::children::{Run, run_at};
@@ -166,12 +167,10 @@ fn can_move_all(
         sources.now.items targets.old.items nodes.now.slots all }
     requires rising { of.now.source.page ≤ of.now.end }
     requires fits { of.now.end - of.now.source.page + of.now.target.page ≤ space_pages }
-    ensures can { IfOk result (λ can. can ≡ true
-        → CanMove of.now.source of.now.end of.now.target of.now.rights nodes.now.slots targets.new.items) }
-    ensures lacks { OnErr result (LacksPlace of.now.source of.now.end of.now.target of.now.rights
-        nodes.now.slots) }
-    ensures hinders { IfOk result (λ can. can ≡ false
-        → Hinders of.now.source of.now.end of.now.target of.now.rights nodes.now.slots) }
+    ensures can { Ends result
+        (CanMove of.now.source of.now.end of.now.target of.now.rights nodes.now.slots targets.new.items)
+        (Hinders of.now.source of.now.end of.now.target of.now.rights nodes.now.slots)
+        (LacksPlace of.now.source of.now.end of.now.target of.now.rights nodes.now.slots) }
     ensures makes { MakesTables targets.old.items targets.new.items }
 {
     let mut page = of.source.page;
@@ -275,17 +274,11 @@ pub(crate) fn move_block(
         sources.old.items targets.old.items nodes.old.slots all × IsSpace all of.now.target.space }
     requires rising { of.now.source.page ≤ of.now.end }
     requires fits { of.now.end - of.now.source.page + of.now.target.page ≤ space_pages }
-    ensures moves { IfOk result (λ done. done ≡ true
-        → Moves of.now.source of.now.end of.now.target nodes.old.slots nodes.new.slots) }
-    ensures could { IfOk result (λ done. done ≡ true
-        → AreWithin of.now.source of.now.end of.now.rights nodes.old.slots
-        × AreFree of.now.source of.now.end of.now.target nodes.old.slots) }
-    ensures left { IfOk result (λ done. done ≡ false → nodes.new.slots ≡ nodes.old.slots) }
-    ensures hinders { IfOk result (λ done. done ≡ false
-        → Hinders of.now.source of.now.end of.now.target of.now.rights nodes.old.slots) }
-    ensures err { OnErr result (nodes.new.slots ≡ nodes.old.slots) }
-    ensures lacks { OnErr result (LacksPlace of.now.source of.now.end of.now.target of.now.rights
-        nodes.old.slots) }
+    ensures moves { Ends result (Moves of.now.source of.now.end of.now.target nodes.old.slots nodes.new.slots
+        × AreWithin of.now.source of.now.end of.now.rights nodes.old.slots
+        × AreFree of.now.source of.now.end of.now.target nodes.old.slots)
+        ((nodes.new.slots ≡ nodes.old.slots) × Hinders of.now.source of.now.end of.now.target of.now.rights nodes.old.slots)
+        ((nodes.new.slots ≡ nodes.old.slots) × LacksPlace of.now.source of.now.end of.now.target of.now.rights nodes.old.slots) }
     ensures same { (key : ℕ) → node_at nodes.new.slots key ≡ node_at nodes.old.slots key }
     ensures named { StayNamed of.now.source.space of.now.target.space sources.old.items
         sources.new.items targets.old.items targets.new.items nodes.old.slots nodes.new.slots }

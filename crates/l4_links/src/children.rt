@@ -2,12 +2,10 @@
 
 ghost use Rattle.std.specs.Prelude.{◌≡◌, ◌≢◌, ◌≤◌, ◌<◌, ◌+◌, ◌-◌, ◌*◌, ◌/◌, ◌%◌, ℕ, Option, List, length, MatchOption, OnOk, OnErr, IfOk, IfErr, Some, None, true, false, slice_index_or};
 ghost use Rattle.l4_fpage.specs.Rights.{common, no_rights};
-ghost use Rattle.l4_spaces.specs.Tables.{space_pages, table_pages};
 ghost use Rattle.l4_nodes.specs.declared.nodes.Node.{Node as ANode};
-ghost use Rattle.l4_nodes.specs.Slots.{node_at};
-ghost use Rattle.l4_spaces.specs.Tables.{Tables, IsPage};
+ghost use Rattle.l4_spaces.specs.Tables.{Tables, IsPage, space_pages, table_pages};
 ghost use Rattle.l4_spaces.specs.Rows.{entry, is_made, AreTablesOf};
-ghost use Rattle.l4_nodes.specs.Slots.{HasRoomFor};
+ghost use Rattle.l4_nodes.specs.Slots.{HasRoomFor, node_at};
 ghost use Rattle.l4_links.specs.Entries.{IsBrought, IsDue, Brings, AreOverLeaves, LacksKey, HasOther, AreApart, ArePlain};
 ghost use Rattle.l4_links.specs.Inside.Nodes.{AreKeys, IsForest};
 ghost use Rattle.l4_links.specs.Inside.Keeping.{entries_of, IsLive};

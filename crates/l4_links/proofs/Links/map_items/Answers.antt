@@ -4,8 +4,9 @@ use Rattle.l4_spaces.specs.declared.NoMemory.{NoMemory}
 use Rattle.l4_links.specs.Entries.{Linked, IsDue, AreOverLeaves}
 use Rattle.l4_links.specs.Inside.Growing.{AreGrowing}
 use Rattle.l4_links.specs.Inside.Keeping.{seen}
-use Rattle.l4_links.proofs.Items.{was_left, if_done, indexed_back}
+use Rattle.l4_links.proofs.Items.{indexed_back}
 use Rattle.l4_links.proofs.Kept.{live_of, sound_live}
+use Rattle.l4_links.proofs.Results.{was_left, if_done}
 use Rattle.l4_links.proofs.Links.map_items.Goals.{After-take_tables-targets, After-bring_all-done}
 use Rattle.l4_links.proofs.Links.map_items.Goals as goal
 

@@ -1,4 +1,4 @@
-use Rattle.std.proofs.Common.{◌≡◌, ℕ, Bool, true, false, IsTrue, Some, Result, Ok, Err, IfOk, OnErr, sym, ap, ◌∙◌, subst}
+use Rattle.std.proofs.Common.{◌≡◌, ℕ, true, false, IsTrue, Some, sym, ap, ◌∙◌, subst}
 use Rattle.std.specs.Ordering.{nat_cmp}
 use Rattle.std.specs.FinSet as set
 use Rattle.l4_spaces.specs.Tables.{Tables}
@@ -10,22 +10,10 @@ use Rattle.l4_links.proofs.Asides.{named_first, spaces_last, indexed_last}
 use Rattle.l4_links.proofs.Kept.{sound_nodes}
 use Rattle.l4_links.proofs.Moving.{view_moves, view_hinders, view_lacks}
 use Rattle.l4_links.proofs.Naming.{have_places}
+use Rattle.l4_links.proofs.Results.{if_done, if_left, if_refused}
 use Rattle.l4_links.proofs.Stacking.{stack_nodes}
 use Rattle.l4_links.proofs.Links.move_pages.Goals.{After-take_tables-sources, After-move_block-done, After-put_tables-2}
 use Rattle.l4_links.proofs.Links.move_pages.Goals as goal
-
--- what is known of a result leads to more
-if_ok : (E : Type 0) (r : Result Bool E) (P Q : Bool → Type 0) → ((b : Bool) → P b → Q b) → IfOk r P → IfOk r Q
-if_ok E (Ok b) P Q f p = f b p
-if_ok E (Err e) P Q f p = p
-
-if_both : (E : Type 0) (r : Result Bool E) (P Q R : Bool → Type 0) → ((b : Bool) → P b → Q b → R b) → IfOk r P → IfOk r Q → IfOk r R
-if_both E (Ok b) P Q R f p q = f b p q
-if_both E (Err e) P Q R f p q = p
-
-on_err : (E : Type 0) (r : Result Bool E) (P Q : Type 0) → (P → Q) → OnErr r P → OnErr r Q
-on_err E (Ok b) P Q f p = p
-on_err E (Err e) P Q f p = f p
 
 -- a space that isn't there has no pages
 pub returns-then-not-has-clause-moved : goal.returns-then-not-has-clause-moved
@@ -119,30 +107,27 @@ same_links c l e = (λ i. record { entries = entries_of (e i); spaces = (spaces_
 
 pub returns-clause-moved : goal.returns-clause-moved
 returns-clause-moved c =
-    if_both _ c.move_block-done.result _ _ _
-    (λ b moves could t. subst (λ (s : Linked). MovesPages c.args.source c.args.end c.args.target c.args.rights s.entries (entries_of c.move_block-done.new.nodes.slots)) c.self.view_is
-    (view_moves c.args.source c.args.end c.args.target c.args.rights c.self.inside.nodes.slots c.move_block-done.new.nodes.slots (could t).0 (could t).1 (moves t)))
-    c.move_block-done.ensures.moves c.move_block-done.ensures.could
+    if_done c.move_block-done.result _ _ _ _ c.move_block-done.ensures.moves
+    (λ d. subst (λ (s : Linked). MovesPages c.args.source c.args.end c.args.target c.args.rights s.entries (entries_of c.move_block-done.new.nodes.slots)) c.self.view_is
+    (view_moves c.args.source c.args.end c.args.target c.args.rights c.self.inside.nodes.slots c.move_block-done.new.nodes.slots d.1 d.2 d.0))
 
 pub returns-clause-left : goal.returns-clause-left
-returns-clause-left c = let at = (goal.at.returns-clause-left c).After-put_tables-2 in let l = later (goal.at.returns-clause-left c).After-move_block-done in if_ok _ c.move_block-done.result _ _ (λ b left f. same_links at l (left f)) c.move_block-done.ensures.left
+returns-clause-left c =
+    let at = goal.at.returns-clause-left c in if_left c.move_block-done.result _ _ _ _ c.move_block-done.ensures.moves (λ l. same_links at.After-put_tables-2 (later at.After-move_block-done) l.0)
 
 pub returns-clause-hinders : goal.returns-clause-hinders
 returns-clause-hinders c =
-    if_ok _ c.move_block-done.result _ _
-    (λ b hinders f. subst (λ (s : Linked). Hinders c.args.source c.args.end c.args.target c.args.rights s.entries) c.self.view_is
-    (view_hinders c.args.source c.args.end c.args.target c.args.rights c.self.inside.nodes.slots (hinders f)))
-    c.move_block-done.ensures.hinders
+    if_left c.move_block-done.result _ _ _ _ c.move_block-done.ensures.moves
+    (λ l. subst (λ (s : Linked). Hinders c.args.source c.args.end c.args.target c.args.rights s.entries) c.self.view_is (view_hinders c.args.source c.args.end c.args.target c.args.rights c.self.inside.nodes.slots l.1))
 
 pub returns-clause-err : goal.returns-clause-err
-returns-clause-err c = let at = (goal.at.returns-clause-err c).After-put_tables-2 in let l = later (goal.at.returns-clause-err c).After-move_block-done in on_err _ c.move_block-done.result _ _ (λ e. same_links at l e) c.move_block-done.ensures.err
+returns-clause-err c =
+    let at = goal.at.returns-clause-err c in if_refused c.move_block-done.result _ _ _ _ c.move_block-done.ensures.moves (λ r. same_links at.After-put_tables-2 (later at.After-move_block-done) r.0)
 
 pub returns-clause-lacks : goal.returns-clause-lacks
 returns-clause-lacks c =
-    on_err _ c.move_block-done.result _ _
-    (λ l. subst (λ (s : Linked). LacksPlace c.args.source c.args.end c.args.target c.args.rights s.entries) c.self.view_is
-    (view_lacks c.args.source c.args.end c.args.target c.args.rights c.self.inside.nodes.slots l))
-    c.move_block-done.ensures.lacks
+    if_refused c.move_block-done.result _ _ _ _ c.move_block-done.ensures.moves
+    (λ r. subst (λ (s : Linked). LacksPlace c.args.source c.args.end c.args.target c.args.rights s.entries) c.self.view_is (view_lacks c.args.source c.args.end c.args.target c.args.rights c.self.inside.nodes.slots r.1))
 
 pub returns-clause-spaces : goal.returns-clause-spaces
 returns-clause-spaces c = spaces_same (goal.at.returns-clause-spaces c).After-put_tables-2 (later (goal.at.returns-clause-spaces c).After-move_block-done) ∙ ap (λ (s : Linked). s.spaces) c.self.view_is

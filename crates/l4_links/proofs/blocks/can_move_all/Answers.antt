@@ -3,7 +3,7 @@ use Rattle.l4_spaces.specs.Rows.{entry, AreTablesOf}
 use Rattle.l4_spaces.proofs.Aside.{none_present, made_aside}
 use Rattle.l4_links.specs.Inside.Moving.{IsStuckIn, CanGoIn}
 use Rattle.l4_links.proofs.Moving.{makes_more, can_first, can_all, can_joined, hinders_found, lacks_found}
-use Rattle.l4_links.proofs.Results.{on_some, on_none, on_err}
+use Rattle.l4_links.proofs.Results.{on_some, on_none, refused}
 use Rattle.l4_links.proofs.blocks.can_move_all.Goals.{After-next_page}
 use Rattle.l4_links.proofs.blocks.can_move_all.Goals as goal
 
@@ -29,7 +29,7 @@ targets c =
     made_aside c.requires.named.0 c.args.of.now.target.space c.args.targets.now.items c.loop-next.targets.items c.requires.named.1.target c.loop-next.invariant.makes.same c.loop-next.invariant.makes.whole c.loop-next.invariant.makes.full
 
 pub returns-in_default-clause-can : goal.returns-in_default-clause-can
-returns-in_default-clause-can c = λ _.
+returns-in_default-clause-can c =
     can_all c.args.of.now.source c.loop-next.page c.args.of.now.end c.args.of.now.target c.args.of.now.rights c.args.nodes.now.slots c.requires.named.0 c.loop-next.targets.items c.requires.named.1.indexed
     (none_present c.requires.named.0 c.args.of.now.source.space c.loop-next.page c.args.of.now.end c.args.sources.now.items c.requires.named.1.source c.in_default.ensures) c.loop-next.invariant.can
 
@@ -47,9 +47,9 @@ loop-next-preserved c =
       makes = makes_more c.args.targets.now.items c.loop-next.targets.items c.can_go_from.new.targets.items c.loop-next.invariant.makes c.can_go_from.ensures.makes;
     }
 
-pub returns-in_default-found-clause-hinders : goal.returns-in_default-found-clause-hinders
-returns-in_default-found-clause-hinders c = λ _.
-    let tables = targets (goal.at.returns-in_default-found-clause-hinders c).After-next_page in
+pub returns-in_default-found-clause-can : goal.returns-in_default-found-clause-can
+returns-in_default-found-clause-can c =
+    let tables = targets (goal.at.returns-in_default-found-clause-can c).After-next_page in
     let stuck =
     on_none (IsStuckIn c.args.of.now.source.page c.in-Some.next c.args.of.now.end c.args.of.now.target.page c.args.of.now.rights c.args.sources.now.items c.loop-next.targets.items c.args.nodes.now.slots)
     (λ after. (c.in-Some.next < after) × (after ≤ c.args.of.now.end) × CanGoIn c.args.of.now.source.page c.in-Some.next after c.args.of.now.target.page c.args.of.now.rights c.args.sources.now.items c.loop-next.targets.items c.can_go_from.new.targets.items c.args.nodes.now.slots)
@@ -62,12 +62,12 @@ returns-in_default-found-clause-hinders c = λ _.
     (entry c.loop-next.targets.items (stuck.0 - c.args.of.now.source.page + c.args.of.now.target.page)) (tables.keys (stuck.0 - c.args.of.now.source.page + c.args.of.now.target.page))
     (stuck.3.0, refl, stuck.3.2)
 
-pub returns-in_err-found-clause-lacks : goal.returns-in_err-found-clause-lacks
-returns-in_err-found-clause-lacks c =
-    let tables = targets (goal.at.returns-in_err-found-clause-lacks c).After-next_page in
+pub returns-in_err-found-clause-can : goal.returns-in_err-found-clause-can
+returns-in_err-found-clause-can c =
+    let tables = targets (goal.at.returns-in_err-found-clause-can c).After-next_page in
     let from = c.loop-next.invariant.from in
     let ge = c.in-Some.ensures.from in
-    on_err c.from_residual.result
+    refused c.from_residual.result _ _ _ c.from_residual.ensures.0
     (lacks_found c.args.of.now.source c.args.of.now.end c.in-Some.next c.in-Some.key c.args.of.now.target c.args.of.now.rights c.args.nodes.now.slots c.requires.named.0 c.requires.named.1.indexed
     (c.requires.named.1.source.keys c.in-Some.next ∙ c.in-Some.ensures.shows) (omega (arith, from, ge)) c.in-Some.ensures.before
     (entry c.loop-next.targets.items (c.in-Some.next - c.args.of.now.source.page + c.args.of.now.target.page)) (tables.keys (c.in-Some.next - c.args.of.now.source.page + c.args.of.now.target.page))
