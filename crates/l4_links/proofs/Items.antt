@@ -13,7 +13,7 @@ use Rattle.l4_nodes.specs.Slots.{Slots, Store, HasRoomFor}
 use Rattle.l4_links.specs.declared.Standing.{Standing}
 use Rattle.l4_links.specs.declared.Entry.{Entry}
 use Rattle.l4_links.specs.Entries.{Entries, entry_at, standing_at, IsAt, moved_place, child_entry, source_of, target_of, end_of, IsBrought, IsDue, Brings, AddsChild, AreOverLeaves, LacksKey, AreApart}
-use Rattle.l4_links.specs.Inside.Bringing.{IsBroughtFrom, Fits, HaveTables, IsLacking, AtMost, sum_to, WantsItems, Ends}
+use Rattle.l4_links.specs.Inside.Bringing.{IsBroughtFrom, Fits, HaveTables, IsLacking, AtMost, sum_to, WantsItems}
 use Rattle.l4_links.specs.Inside.Growing.{HaveRoom, AreGrowing, StayGrowing, BringsAll, CanBringFrom, BringsPages}
 use Rattle.l4_links.specs.Inside.Moving.{MakesTables}
 use Rattle.l4_links.specs.Inside.Keeping.{IsIndexed, entries_of}
@@ -32,7 +32,6 @@ goes_there source target = λ i. record { space = target.space; page = (let e : 
 -- the element that is read stands there
 pub read_there : {A : Type 0} (xs : List A) (i : ℕ) (x : A) → i < length xs → x ≡ get_or xs i x → slice_get xs i ≡ Some x
 read_there {A = A} xs i x lt is = slice_get-get_or xs i x lt ∙ ap (λ (v : A). Some v) (sym is)
-
 
 -- tables were made, which have no keys
 pub growing_made : (to : ℕ) (pages : Tables) (rows made : Rows) (slots : Slots) (first head : Option ℕ) (stamp : ℕ) (all : Tables) → MakesTables rows made → AreGrowing to pages rows slots first head stamp all → AreGrowing to pages made slots first head stamp all
@@ -155,6 +154,10 @@ none_there from to n items pages rows slots first head stamp all differ none g e
     let h = d.brings.1 in
     let z : ◌≡◌ {A = Option ℕ} None (Some d.brings.0) = sym (g.aside.away from h.entry.place.page differ ∙ none h.entry.place.page) ∙ entry_named slots all g.indexed from d.brings.0 h.entry h.at h.inside.0 in cc
 
+-- tables and room were made
+pub still_growing : (to : ℕ) (pages : Tables) (old_rows rows : Rows) (old now : Slots) → MakesTables old_rows rows → now ≡ old → StayGrowing to pages old_rows rows old now
+still_growing to pages old_rows rows old now makes same first head stamp all g = (all, subst (λ (s : Slots). AreGrowing to pages rows s first head stamp all) (sym same) (growing_made to pages old_rows rows old first head stamp all makes g))
+
 -- the items before this one have brought what is due, and there is room for what the others bring
 pub record HaveBrought (from to : ℕ) (items : List ItemMove) (i wants : ℕ) (pages : Tables) (old_rows rows : Rows) (old now : Store) : Type 0 where
   pub brings : BringsAll to (IsDue from to items i (entries_of old.slots)) pages old_rows rows old.slots now.slots
@@ -164,10 +167,6 @@ pub record HaveBrought (from to : ℕ) (items : List ItemMove) (i wants : ℕ) (
   pub room : (rest : ℕ) → sum_to asks.counts i + rest ≤ wants → 1 ≤ rest → HasRoomFor now rest
 
 module _ (from to : ℕ) (differ : from ≢ to) (items : List ItemMove) (apart : AreApart items) (wants : ℕ) (pages : Tables) (old_rows : Rows) (old : Store) where
-  -- tables and room were made
-  pub still_growing : (rows : Rows) (now : Slots) → MakesTables old_rows rows → now ≡ old.slots → StayGrowing to pages old_rows rows old.slots now
-  still_growing rows now makes same first head stamp all g = (all, subst (λ (s : Slots). AreGrowing to pages rows s first head stamp all) (sym same) (growing_made to pages old_rows rows old.slots first head stamp all makes g))
-
   at_first : (w : WantsItems from to items (length items) (entries_of old.slots) wants) (rest : ℕ) → sum_to w.counts 0 + rest ≤ wants → rest ≤ wants
   unfolding sum_to
   at_first w rest le = omega (arith, le)
@@ -176,7 +175,7 @@ module _ (from to : ℕ) (differ : from ≢ to) (items : List ItemMove) (apart :
       → HaveTables (IsDue from to items (length items) (entries_of old.slots)) rows → WantsItems from to items (length items) (entries_of old.slots) wants → HaveBrought from to items 0 wants pages old_rows rows old now
   brought_first rows now makes same room fits made asks = record {
     brings = λ first head stamp all g.
-        (let v = still_growing rows now.slots makes same first head stamp all g in (v.0, v.1, subst (λ (s : Slots). Brings (IsDue from to items 0 (entries_of old.slots)) (entries_of old.slots) (entries_of s)) (sym same) (brings_none (IsDue from to items 0 (entries_of old.slots)) (entries_of old.slots) (none_yet from to differ items apart (entries_of old.slots)))));
+        (let v = still_growing to pages old_rows rows old.slots now.slots makes same first head stamp all g in (v.0, v.1, subst (λ (s : Slots). Brings (IsDue from to items 0 (entries_of old.slots)) (entries_of old.slots) (entries_of s)) (sym same) (brings_none (IsDue from to items 0 (entries_of old.slots)) (entries_of old.slots) (none_yet from to differ items apart (entries_of old.slots)))));
     fits = fits;
     made = made;
     asks = asks;

@@ -1,6 +1,6 @@
 -- What is known of a result.
-use Rattle.std.proofs.Common.{◌≡◌, Bool, true, false, Option, Some, None, MatchOption, Result, Ok, Err, IsErr, IfOk, OnErr, subst}
-use Rattle.l4_links.specs.Inside.Bringing.{Ends}
+use Rattle.std.proofs.Common.{◌≡◌, Bool, true, false, Option, Some, None, MatchOption, Result, Ok, Err, IsErr, OnErr, subst}
+use Rattle.l4_links.specs.Entries.{Ends}
 
 -- what is known of a result leads to more
 pub match_both : {A : Type 0} (r : Option A) (P Q : Type 0) (F G : A → Type 0) → (P → Q) → ((a : A) → F a → G a) → MatchOption r P F → MatchOption r Q G
@@ -30,20 +30,10 @@ err_both (Ok t) f m = tt
 err_both (Err e) f m = f m
 
 -- what is known of an attempt's end
-pub if_done : {E : Type 0} (r : Result Bool E) (D L R P : Type 0) → Ends r D L R → (D → P) → IfOk r (λ done. done ≡ true → P)
-if_done (Ok true) D L R P e f = λ _. f e
-if_done (Ok false) D L R P e f = λ z. absurd (let w : ◌≡◌ false true = z in cc)
-if_done (Err x) D L R P e f = tt
-
-pub if_left : {E : Type 0} (r : Result Bool E) (D L R P : Type 0) → Ends r D L R → (L → P) → IfOk r (λ done. done ≡ false → P)
-if_left (Ok true) D L R P e f = λ z. absurd (let w : ◌≡◌ true false = z in cc)
-if_left (Ok false) D L R P e f = λ _. f e
-if_left (Err x) D L R P e f = tt
-
-pub if_refused : {E : Type 0} (r : Result Bool E) (D L R P : Type 0) → Ends r D L R → (R → P) → OnErr r P
-if_refused (Ok true) D L R P e f = tt
-if_refused (Ok false) D L R P e f = tt
-if_refused (Err x) D L R P e f = f e
+pub ends : {E D L R P Q S : Type 0} (r : Result Bool E) → Ends r D L R → (D → P) → (L → Q) → (R → S) → Ends r P Q S
+ends (Ok true) e f g h = f e
+ends (Ok false) e f g h = g e
+ends (Err x) e f g h = h e
 
 pub was_done : (E : Type 0) (b : Bool) (D L R : Type 0) → b ≡ true → Ends {E = E} (Ok b) D L R → D
 was_done E true D L R is e = e

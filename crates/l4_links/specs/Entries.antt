@@ -1,6 +1,6 @@
 -- What a contract sees of the nodes: the spaces that exist, the page of each key, and the node there (this profile's own). A node "stands"
 -- if it is a mapping and not a blank.
-use Rattle.std.specs.Prelude.{◌≡◌, ◌≢◌, ◌↔◌, ◌⊎◌, ◌<◌, ◌≤◌, ◌+◌, ◌-◌, ◌^◌, ℕ, Bool, true, false, List, Option, Some, None, slice_get, slice_index_or, option_and_then, if◌then◌else◌, IsTrue, refl}
+use Rattle.std.specs.Prelude.{◌≡◌, ◌≢◌, ◌↔◌, ◌⊎◌, ◌<◌, ◌≤◌, ◌+◌, ◌-◌, ◌^◌, ℕ, Bool, true, false, List, length, Result, Ok, Err, Option, Some, None, slice_get, slice_index_or, option_and_then, if◌then◌else◌, IsTrue, refl}
 use Rattle.std.specs.Option.{option_map}
 use Rattle.std.specs.Ordering.{nat_cmp}
 use Rattle.std.specs.FinSet as set
@@ -343,3 +343,16 @@ pub record IsPlain (e : Entry) : Type 0 where
 
 abbrev pub ArePlain : Entries → Type 0
 ArePlain s = (key : ℕ) (e : Entry) → entry_at s key ≡ Some e → IsPlain e
+
+-- the three ends of an attempt: it was done, it was not, or memory was refused
+abbrev pub Ends : {E : Type 0} → Result Bool E → (done left refused : Type 0) → Type 0
+Ends (Ok true) done left refused = done
+Ends (Ok false) done left refused = left
+Ends (Err e) done left refused = refused
+
+-- the pages of all items are mapped, and nothing descended from what was at their places; or nothing has changed: one of the places has a key,
+-- or lacks one, for which memory was refused
+abbrev pub MapsItems : (from to : ℕ) → List ItemMove → {E : Type 0} → Result Bool E → (old new : Entries) → Type 0
+MapsItems from to items result old new =
+    Ends result (Brings (IsDue from to items (length items) old) old new × AreOverLeaves (IsDue from to items (length items) old) old)
+    ((new ≡ old) × HasOther (IsDue from to items (length items) old) old) ((new ≡ old) × LacksKey (IsDue from to items (length items) old) old)

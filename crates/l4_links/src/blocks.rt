@@ -5,9 +5,8 @@ ghost use Rattle.std.specs.Prelude.{◌≡◌, ◌≢◌, ◌≤◌, ◌<◌, �
 ghost use Rattle.l4_spaces.specs.Tables.{Tables, IsPage, IsSpace, space_pages, space_tables, table_pages};
 ghost use Rattle.l4_spaces.specs.Rows.{entry, AreWhole};
 ghost use Rattle.l4_fpage.specs.Pages.{most_pages};
-ghost use Rattle.l4_links.specs.Entries.{moved_place, source_of, target_of, end_of};
+ghost use Rattle.l4_links.specs.Entries.{moved_place, source_of, target_of, end_of, Ends};
 ghost use Rattle.l4_nodes.specs.Slots.{node_at};
-ghost use Rattle.l4_links.specs.Inside.Bringing.{Ends};
 ghost use Rattle.l4_links.specs.Inside.Moving.{AreWithin, AreFree, CanMove, CanGo, IsStuck, CanGoRow, IsStuckRow, IsStuckIn, CanGoIn, MakesTables, MovesAt, MovesRow, Hinders, LacksPlace, Moves, AreNamed, StayNamed};
 
 use crate::children::{Run, run_at};

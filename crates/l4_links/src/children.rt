@@ -6,10 +6,10 @@ ghost use Rattle.l4_nodes.specs.declared.nodes.Node.{Node as ANode};
 ghost use Rattle.l4_spaces.specs.Tables.{Tables, IsPage, space_pages, table_pages};
 ghost use Rattle.l4_spaces.specs.Rows.{entry, is_made, AreTablesOf};
 ghost use Rattle.l4_nodes.specs.Slots.{HasRoomFor, node_at};
-ghost use Rattle.l4_links.specs.Entries.{IsBrought, IsDue, Brings, AreOverLeaves, LacksKey, HasOther, AreApart, ArePlain};
+ghost use Rattle.l4_links.specs.Entries.{IsBrought, IsDue, Brings, AreOverLeaves, LacksKey, HasOther, AreApart, ArePlain, MapsItems};
 ghost use Rattle.l4_links.specs.Inside.Nodes.{AreKeys, IsForest};
 ghost use Rattle.l4_links.specs.Inside.Keeping.{entries_of, IsLive};
-ghost use Rattle.l4_links.specs.Inside.Bringing.{Fits, HaveTables, CanBring, Ends};
+ghost use Rattle.l4_links.specs.Inside.Bringing.{Fits, HaveTables, CanBring};
 ghost use Rattle.l4_links.specs.Inside.Moving.{MakesTables};
 ghost use Rattle.l4_links.specs.Inside.Growing.{SharesNone, Lacks, Enters, Renews, IsSpareNode, IsBareNode, CanEnter, BringsRow, CanRun, HaveRoom, AreGrowing, StayGrowing, BringsAll, CanBringFrom, BringsPages};
 
@@ -295,10 +295,7 @@ pub(crate) fn bring_all(
         × AreGrowing to pages.now targets.old.items nodes.old.slots first head stamp all }
     requires plain { ArePlain (entries_of nodes.old.slots) }
     ensures growing { StayGrowing to pages.now targets.old.items targets.new.items nodes.old.slots nodes.new.slots }
-    ensures maps { Ends result (Brings (IsDue from to items.now (length items.now) (entries_of nodes.old.slots)) (entries_of nodes.old.slots) (entries_of nodes.new.slots)
-        × AreOverLeaves (IsDue from to items.now (length items.now) (entries_of nodes.old.slots)) (entries_of nodes.old.slots))
-        ((nodes.new.slots ≡ nodes.old.slots) × HasOther (IsDue from to items.now (length items.now) (entries_of nodes.old.slots)) (entries_of nodes.old.slots))
-        ((nodes.new.slots ≡ nodes.old.slots) × LacksKey (IsDue from to items.now (length items.now) (entries_of nodes.old.slots)) (entries_of nodes.old.slots)) }
+    ensures maps { MapsItems from to items.now result (entries_of nodes.old.slots) (entries_of nodes.new.slots) }
 {
     let Some(sources) = pages.tables(from) else {
         return Ok(true);

@@ -4,13 +4,12 @@
 //! name parents, descendants, and the page of each key.
 #![tactic(auto)]
 
-ghost use Rattle.std.specs.Prelude.{◌≡◌, ◌≢◌, ◌⊎◌, ◌↔◌, ◌≤◌, ◌+◌, ◌-◌, [], ℕ, length, true, false, IsTrue, IsOk, OnOk, OnErr, IfOk, IfSome, MatchOption, Some, None};
+ghost use Rattle.std.specs.Prelude.{◌≡◌, ◌≢◌, ◌⊎◌, ◌↔◌, ◌≤◌, ◌+◌, ◌-◌, [], ℕ, length, true, false, IsTrue, IsOk, OnOk, OnErr, IfOk, IfSome, MatchOption, Some, None, Ok};
 ghost use Rattle.std.specs.FinSet as set;
 ghost use Rattle.l4_fpage.specs.Rights.{common, no_rights};
 ghost use Rattle.std.specs.Option.{option_map};
 ghost use Rattle.l4_spaces.specs.Tables.{IsPage, space_pages};
 ghost use Rattle.l4_nodes.specs.Slots.{HasRoomFor};
-ghost use Rattle.l4_links.specs.Inside.Bringing.{Ends};
 ghost use Rattle.l4_links.specs.Inside.Keeping.{standing_of};
 
 mod blocks;
@@ -97,7 +96,7 @@ impl Model for Links {
 impl Links {
     ghost use Rattle.l4_spaces.specs.Listed.{NoSpaceFrom, IsNextSpace};
     ghost use Rattle.l4_links.specs.ListOf.{IsListOf};
-    ghost use Rattle.l4_links.specs.Entries.{entry_at, standing_at, parent_of, IsStanding, IsBlank, IsAt, IsSource, HaveRights, HavePlaces, AreTrees, NoKeyFrom, IsNextKey, NoKeyIn, IsNextKeyIn, IsKeyOf, NoParentIn, IsNextParentIn, Descends, AddsBlank, Stands, Sprouts, Clears, CutsBelow, Buries, CapsBelow, CapsTree, SetsSource, SetsPlain, SetsWanted, TakesOver, MovesPages, Hinders, LacksPlace, IsBrought, IsDue, Brings, AreOverLeaves, LacksKey, HasOther, AreApart, ArePlain};
+    ghost use Rattle.l4_links.specs.Entries.{entry_at, standing_at, parent_of, IsStanding, IsBlank, IsAt, IsSource, HaveRights, HavePlaces, AreTrees, NoKeyFrom, IsNextKey, NoKeyIn, IsNextKeyIn, IsKeyOf, NoParentIn, IsNextParentIn, Descends, AddsBlank, Stands, Sprouts, Clears, CutsBelow, Buries, CapsBelow, CapsTree, SetsSource, SetsPlain, SetsWanted, TakesOver, MovesPages, Hinders, LacksPlace, AreApart, ArePlain, Ends, MapsItems};
     ghost use Rattle.l4_links.specs.declared.Standing.{Standing as AStanding};
     ghost use Rattle.l4_links.specs.declared.Entry.{Entry as AnEntry};
 
@@ -291,22 +290,7 @@ impl Links {
         requires there { IsTrue (set.contains self.old.spaces to) }
         requires apart { AreApart items.now }
         requires plain { ArePlain self.old.entries }
-        ensures brings { IfOk result (λ done. done ≡ true
-            → Brings (IsDue from to items.now (length items.now) self.old.entries) self.old.entries
-            self.new.entries) }
-        ensures leaves { IfOk result (λ done. done ≡ true
-            → AreOverLeaves (IsDue from to items.now (length items.now) self.old.entries)
-            self.old.entries) }
-        ensures left { IfOk result (λ done. done ≡ false → (key : ℕ)
-            → entry_at self.new.entries key ≡ entry_at self.old.entries key) }
-        ensures hinders { IfOk result (λ done. done ≡ false
-            → HasOther (IsDue from to items.now (length items.now) self.old.entries)
-            self.old.entries) }
-        ensures err { OnErr result
-            ((key : ℕ) → entry_at self.new.entries key ≡ entry_at self.old.entries key) }
-        ensures lacks { OnErr result
-            (LacksKey (IsDue from to items.now (length items.now) self.old.entries)
-            self.old.entries) }
+        ensures maps { MapsItems from to items.now result self.old.entries self.new.entries }
         ensures spaces { self.new.spaces ≡ self.old.spaces }
     {
         let Ok(added) = self.add_alone(from, to, items) else {
@@ -326,11 +310,8 @@ impl Links {
     /// changed. To take tables aside would cost more than the page.
     fn add_alone(&mut self, from: u64, to: u64, items: &[ItemMove]) -> Result<bool, NoMemory>
         requires there { IsTrue (set.contains self.old.spaces to) }
-        ensures maps { Ends result
-            (Brings (IsDue from to items.now (length items.now) self.old.entries) self.old.entries self.new.entries
-            × AreOverLeaves (IsDue from to items.now (length items.now) self.old.entries) self.old.entries)
-            (self.new ≡ self.old)
-            ((self.new ≡ self.old) × LacksKey (IsDue from to items.now (length items.now) self.old.entries) self.old.entries) }
+        ensures maps { result ≢ Ok false → MapsItems from to items.now result self.old.entries self.new.entries }
+        ensures left { result ≡ Ok false → self.new ≡ self.old }
         ensures spaces { self.new.spaces ≡ self.old.spaces }
     {
         if items.len() != 1 {
@@ -426,14 +407,9 @@ impl Links {
         requires there { IsTrue (set.contains self.old.spaces target.space) }
         requires rising { source.page ≤ end }
         requires fits { end - source.page + target.page ≤ space_pages }
-        ensures moved { IfOk result
-            (λ done. done ≡ true
-            → MovesPages source end target rights self.old.entries self.new.entries) }
-        ensures left { IfOk result (λ done. done ≡ false → self.new ≡ self.old) }
-        ensures hinders { IfOk result
-            (λ done. done ≡ false → Hinders source end target rights self.old.entries) }
-        ensures err { OnErr result (self.new ≡ self.old) }
-        ensures lacks { OnErr result (LacksPlace source end target rights self.old.entries) }
+        ensures moves { Ends result (MovesPages source end target rights self.old.entries self.new.entries)
+            ((self.new ≡ self.old) × Hinders source end target rights self.old.entries)
+            ((self.new ≡ self.old) × LacksPlace source end target rights self.old.entries) }
         ensures spaces { self.new.spaces ≡ self.old.spaces }
     {
         if !self.pages.has(source.space) {

@@ -1,5 +1,5 @@
 -- What the pages of a message bring to their places, part by part. (this profile's own)
-use Rattle.std.specs.Prelude.{◌≡◌, ◌≢◌, ◌<◌, ◌≤◌, ◌+◌, ◌*◌, ℕ, zero, suc, Bool, List, Result, Ok, Err, Some, None, true, false, slice_get}
+use Rattle.std.specs.Prelude.{◌≡◌, ◌≢◌, ◌<◌, ◌≤◌, ◌+◌, ◌*◌, ℕ, zero, suc, Bool, List, Some, None, true, false, slice_get}
 use Rattle.l4_fpage.specs.Rights.{RightsSet, common}
 use Rattle.l4_spaces.specs.Tables.{table_pages}
 use Rattle.l4_spaces.specs.Rows.{Rows, is_made}
@@ -64,9 +64,3 @@ abbrev pub CanBring : (from to : ℕ) (items : List ItemMove) (end : ℕ) (s : E
 CanBring from to items end s targets wants changes =
     Fits (IsDue from to items end s) s × HaveTables (IsDue from to items end s) targets × WantsItems from to items end s wants
     × (1 ≤ wants → LacksKey (IsDue from to items end s) s) × (changes ≡ false → Brings (IsDue from to items end s) s s)
-
--- the three ends of an attempt: it was done, it was not, or memory was refused
-abbrev pub Ends : {E : Type 0} → Result Bool E → (done left refused : Type 0) → Type 0
-Ends (Ok true) done left refused = done
-Ends (Ok false) done left refused = left
-Ends (Err e) done left refused = refused

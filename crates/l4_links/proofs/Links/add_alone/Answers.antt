@@ -40,7 +40,7 @@ alone : (c : After-sharing) (k : ℕ) → IsAt c.args.self.now.entries (source_o
 alone c k at = same_some (sym ((c.find.ensures k).1 (subst (λ (p : Place). IsAt c.args.self.now.entries p k) (sym c.pages_of-of.ensures.source) at)) ∙ c.in-Some.is)
 
 pub returns-in_default-sharing-clause-maps : goal.returns-in_default-sharing-clause-maps
-returns-in_default-sharing-clause-maps c =
+returns-in_default-sharing-clause-maps c = λ _.
     let at = (goal.at.returns-in_default-sharing-clause-maps c).After-sharing in
     none_mapped (IsDue c.args.from c.args.to c.args.items.now (length c.args.items.now) c.args.self.now.entries) c.args.self.now.entries
     (one_none c.args.from c.args.to c.args.items.now c.index-items-0.result (one at) (item at) (page at) c.args.self.now.entries
@@ -67,9 +67,9 @@ left : (c : After-make_key) → ◌≡◌ {A = Linked} (record { entries = entri
 left c = ap (λ (s : Slots). record { entries = entries_of s; spaces = c.self.inside.pages.spaces }) c.make_key.ensures.same ∙ c.self.view_is
 
 pub returns-in_default-make_key-clause-maps : goal.returns-in_default-make_key-clause-maps
-returns-in_default-make_key-clause-maps c =
+returns-in_default-make_key-clause-maps c = λ _.
     let at = goal.at.returns-in_default-make_key-clause-maps c in (
-      left at.After-make_key,
+      ap (λ (s : Linked). s.entries) (left at.After-make_key),
       one_lacks c.args.from c.args.to c.args.items.now c.index-items-0.result (one at.After-sharing) (item at.After-sharing) (page at.After-sharing) c.args.self.now.entries c.in-Some.key (found at.After-sharing) (alone at.After-sharing)
           (standing_of c.in-Some-sharing.above) (stands at.In-Some-sharing) (shares at.In-Some-sharing)
           (subst (λ (p : Place). (k : ℕ) → ¬ (IsAt c.args.self.now.entries p k)) c.pages_of-of.ensures.target
@@ -81,9 +81,9 @@ claim-requires-clause-there c =
     subst (λ (p : Place). IsTrue (set.contains c.self.inside.pages.spaces p.space)) (sym c.pages_of-of.ensures.target) (subst (λ (s : Linked). IsTrue (set.contains s.spaces c.args.to)) (sym c.self.view_is) c.requires.there)
 
 pub returns-in_default-claim-clause-maps : goal.returns-in_default-claim-clause-maps
-returns-in_default-claim-clause-maps c =
+returns-in_default-claim-clause-maps c = λ _.
     let at = goal.at.returns-in_default-claim-clause-maps c in (
-      (λ i. record { entries = entries_of c.make_key.new.self.slots; spaces = (c.in_default-claim.ensures.err.1 i).spaces }) ∙ left at.After-make_key,
+      ap (λ (s : Linked). s.entries) (left at.After-make_key),
       one_lacks c.args.from c.args.to c.args.items.now c.index-items-0.result (one at.After-sharing) (item at.After-sharing) (page at.After-sharing) c.args.self.now.entries c.in-Some.key (found at.After-sharing) (alone at.After-sharing)
           (standing_of c.in-Some-sharing.above) (stands at.In-Some-sharing) (shares at.In-Some-sharing)
           (subst (λ (p : Place). (k : ℕ) → ¬ (IsAt c.args.self.now.entries p k)) c.pages_of-of.ensures.target (absent at.In-Some-sharing c.in_default-claim.ensures.err.0)),
@@ -126,7 +126,7 @@ invariant_of-self-2 c =
     }
 
 pub returns-clause-maps : goal.returns-clause-maps
-returns-clause-maps c =
+returns-clause-maps c = λ _.
     let at = goal.at.returns-clause-maps c in
     one_mapped c.args.from c.args.to c.args.items.now c.index-items-0.result (one at.After-sharing) (item at.After-sharing) (page at.After-sharing) c.args.self.now.entries c.in-Some.key (found at.After-sharing) (alone at.After-sharing)
     (standing_of c.in-Some-sharing.above) (stands at.In-Some-sharing) (shares at.In-Some-sharing) (entries_of c.add_under.new.nodes.slots) c.in-Ok.child

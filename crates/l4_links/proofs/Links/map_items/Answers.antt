@@ -1,18 +1,17 @@
-use Rattle.std.proofs.Common.{◌≡◌, IsTrue, length, sym, ◌∙◌, subst}
+use Rattle.std.proofs.Common.{◌≡◌, ◌≢◌, ℕ, Bool, true, false, Result, Ok, Err, IsTrue, sym, ap, ◌∙◌, subst}
 use Rattle.std.specs.FinSet as set
 use Rattle.l4_spaces.specs.declared.NoMemory.{NoMemory}
-use Rattle.l4_links.specs.Entries.{Linked, IsDue, AreOverLeaves}
+use Rattle.l4_links.specs.Entries.{Linked, MapsItems}
 use Rattle.l4_links.specs.Inside.Growing.{AreGrowing}
-use Rattle.l4_links.specs.Inside.Keeping.{seen}
+use Rattle.l4_links.specs.Inside.Keeping.{seen, entries_of}
 use Rattle.l4_links.proofs.Items.{indexed_back}
 use Rattle.l4_links.proofs.Kept.{live_of, sound_live}
-use Rattle.l4_links.proofs.Results.{was_left, if_done}
 use Rattle.l4_links.proofs.Links.map_items.Goals.{After-take_tables-targets, After-bring_all-done}
 use Rattle.l4_links.proofs.Links.map_items.Goals as goal
 
 -- nothing has changed yet
 same : (c : After-take_tables-targets) → seen c.self.inside ≡ c.args.self.now
-same c = c.self.view_is ∙ was_left NoMemory c.in-Ok.added _ _ _ c.if-added.false c.in-Ok.ensures.maps
+same c = c.self.view_is ∙ c.in-Ok.ensures.left (ap (λ (b : Bool). Ok b) c.if-added.false)
 
 start : (c : After-take_tables-targets) → AreGrowing c.args.to c.take_tables-targets.new.self c.take_tables-targets.result.items c.self.inside.nodes.slots c.self.inside.first c.self.inside.doomed c.self.inside.stamp c.self.inside.pages
 start c = record {
@@ -43,7 +42,14 @@ invariant_of-self c =
       stack = l.1.stack;
     }
 
-pub returns-clause-leaves : goal.returns-clause-leaves
-returns-clause-leaves c =
-    let is = same (goal.at.returns-clause-leaves c).After-take_tables-targets in
-    if_done c.bring_all-done.result _ _ _ _ c.bring_all-done.ensures.maps (λ d. subst (λ (s : Linked). AreOverLeaves (IsDue c.args.from c.args.to c.args.items.now (length c.args.items.now) s.entries) s.entries) is d.1)
+pub returns-in_default-clause-maps : goal.returns-in_default-clause-maps
+returns-in_default-clause-maps c = c.in_default.ensures.maps (λ e. let z : ◌≡◌ {A = Result Bool NoMemory} (Err c.in_default.field-0) (Ok false) = e in cc)
+
+pub returns-then-added-clause-maps : goal.returns-then-added-clause-maps
+returns-then-added-clause-maps c =
+    subst (λ (b : Bool). ◌≢◌ {A = Result Bool NoMemory} (Ok b) (Ok false) → MapsItems c.args.from c.args.to c.args.items.now {E = NoMemory} (Ok b) c.args.self.now.entries c.add_alone.new.self.entries) c.if-added.true c.in-Ok.ensures.maps
+    (λ e. let z : ◌≡◌ {A = Result Bool NoMemory} (Ok true) (Ok false) = e in cc)
+
+pub returns-clause-maps : goal.returns-clause-maps
+returns-clause-maps c =
+    subst (λ (s : Linked). MapsItems c.args.from c.args.to c.args.items.now c.bring_all-done.result s.entries (entries_of c.bring_all-done.new.nodes.slots)) (same (goal.at.returns-clause-maps c).After-take_tables-targets) c.bring_all-done.ensures.maps

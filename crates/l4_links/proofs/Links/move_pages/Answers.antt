@@ -10,14 +10,14 @@ use Rattle.l4_links.proofs.Asides.{named_first, spaces_last, indexed_last}
 use Rattle.l4_links.proofs.Kept.{sound_nodes}
 use Rattle.l4_links.proofs.Moving.{view_moves, view_hinders, view_lacks}
 use Rattle.l4_links.proofs.Naming.{have_places}
-use Rattle.l4_links.proofs.Results.{if_done, if_left, if_refused}
+use Rattle.l4_links.proofs.Results.{ends}
 use Rattle.l4_links.proofs.Stacking.{stack_nodes}
 use Rattle.l4_links.proofs.Links.move_pages.Goals.{After-take_tables-sources, After-move_block-done, After-put_tables-2}
 use Rattle.l4_links.proofs.Links.move_pages.Goals as goal
 
 -- a space that isn't there has no pages
-pub returns-then-not-has-clause-moved : goal.returns-then-not-has-clause-moved
-returns-then-not-has-clause-moved c = λ _.
+pub returns-then-not-has-clause-moves : goal.returns-then-not-has-clause-moves
+returns-then-not-has-clause-moves c =
     subst (λ (s : Linked). MovesPages c.args.source c.args.end c.args.target c.args.rights s.entries s.entries) c.self.view_is (record {
       moved = λ k e at h. absurd (none k e at h);
       kept = λ k e at out. at;
@@ -105,29 +105,15 @@ invariant_of-self c =
 same_links : (c : After-put_tables-2) → AllLater c → c.move_block-done.new.nodes.slots ≡ c.self.inside.nodes.slots → ◌≡◌ {A = Linked} (record { entries = entries_of c.move_block-done.new.nodes.slots; spaces = c.put_tables-2.new.self.spaces }) c.args.self.now
 same_links c l e = (λ i. record { entries = entries_of (e i); spaces = (spaces_same c l) i }) ∙ c.self.view_is
 
-pub returns-clause-moved : goal.returns-clause-moved
-returns-clause-moved c =
-    if_done c.move_block-done.result _ _ _ _ c.move_block-done.ensures.moves
+pub returns-clause-moves : goal.returns-clause-moves
+returns-clause-moves c =
+    let at = goal.at.returns-clause-moves c in
+    let same = same_links at.After-put_tables-2 (later at.After-move_block-done) in
+    ends c.move_block-done.result c.move_block-done.ensures.moves
     (λ d. subst (λ (s : Linked). MovesPages c.args.source c.args.end c.args.target c.args.rights s.entries (entries_of c.move_block-done.new.nodes.slots)) c.self.view_is
     (view_moves c.args.source c.args.end c.args.target c.args.rights c.self.inside.nodes.slots c.move_block-done.new.nodes.slots d.1 d.2 d.0))
-
-pub returns-clause-left : goal.returns-clause-left
-returns-clause-left c =
-    let at = goal.at.returns-clause-left c in if_left c.move_block-done.result _ _ _ _ c.move_block-done.ensures.moves (λ l. same_links at.After-put_tables-2 (later at.After-move_block-done) l.0)
-
-pub returns-clause-hinders : goal.returns-clause-hinders
-returns-clause-hinders c =
-    if_left c.move_block-done.result _ _ _ _ c.move_block-done.ensures.moves
-    (λ l. subst (λ (s : Linked). Hinders c.args.source c.args.end c.args.target c.args.rights s.entries) c.self.view_is (view_hinders c.args.source c.args.end c.args.target c.args.rights c.self.inside.nodes.slots l.1))
-
-pub returns-clause-err : goal.returns-clause-err
-returns-clause-err c =
-    let at = goal.at.returns-clause-err c in if_refused c.move_block-done.result _ _ _ _ c.move_block-done.ensures.moves (λ r. same_links at.After-put_tables-2 (later at.After-move_block-done) r.0)
-
-pub returns-clause-lacks : goal.returns-clause-lacks
-returns-clause-lacks c =
-    if_refused c.move_block-done.result _ _ _ _ c.move_block-done.ensures.moves
-    (λ r. subst (λ (s : Linked). LacksPlace c.args.source c.args.end c.args.target c.args.rights s.entries) c.self.view_is (view_lacks c.args.source c.args.end c.args.target c.args.rights c.self.inside.nodes.slots r.1))
+    (λ l. (same l.0, subst (λ (s : Linked). Hinders c.args.source c.args.end c.args.target c.args.rights s.entries) c.self.view_is (view_hinders c.args.source c.args.end c.args.target c.args.rights c.self.inside.nodes.slots l.1)))
+    (λ r. (same r.0, subst (λ (s : Linked). LacksPlace c.args.source c.args.end c.args.target c.args.rights s.entries) c.self.view_is (view_lacks c.args.source c.args.end c.args.target c.args.rights c.self.inside.nodes.slots r.1)))
 
 pub returns-clause-spaces : goal.returns-clause-spaces
 returns-clause-spaces c = spaces_same (goal.at.returns-clause-spaces c).After-put_tables-2 (later (goal.at.returns-clause-spaces c).After-move_block-done) ∙ ap (λ (s : Linked). s.spaces) c.self.view_is

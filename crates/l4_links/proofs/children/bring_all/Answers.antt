@@ -16,15 +16,15 @@ returns-in_default-clause-maps c =
 
 pub returns-in_default-wants_all-clause-growing : goal.returns-in_default-wants_all-clause-growing
 returns-in_default-wants_all-clause-growing c =
-    still_growing c.args.from c.args.to c.requires.differ c.args.items.now c.requires.apart 0 c.args.pages.now c.args.targets.now.items c.args.nodes.now c.wants_all.new.targets.items c.args.nodes.now.slots c.wants_all.ensures.makes refl
+    still_growing c.args.to c.args.pages.now c.args.targets.now.items c.wants_all.new.targets.items c.args.nodes.now.slots c.args.nodes.now.slots c.wants_all.ensures.makes refl
 
 pub returns-in_default-found-clause-growing : goal.returns-in_default-found-clause-growing
 returns-in_default-found-clause-growing c =
-    still_growing c.args.from c.args.to c.requires.differ c.args.items.now c.requires.apart 0 c.args.pages.now c.args.targets.now.items c.args.nodes.now c.wants_all.new.targets.items c.args.nodes.now.slots c.wants_all.ensures.makes refl
+    still_growing c.args.to c.args.pages.now c.args.targets.now.items c.wants_all.new.targets.items c.args.nodes.now.slots c.args.nodes.now.slots c.wants_all.ensures.makes refl
 
 pub returns-then-not-changes-clause-growing : goal.returns-then-not-changes-clause-growing
 returns-then-not-changes-clause-growing c =
-    still_growing c.args.from c.args.to c.requires.differ c.args.items.now c.requires.apart 0 c.args.pages.now c.args.targets.now.items c.args.nodes.now c.wants_all.new.targets.items c.args.nodes.now.slots c.wants_all.ensures.makes refl
+    still_growing c.args.to c.args.pages.now c.args.targets.now.items c.wants_all.new.targets.items c.args.nodes.now.slots c.args.nodes.now.slots c.wants_all.ensures.makes refl
 
 -- all is there already
 pub returns-then-not-changes-clause-maps : goal.returns-then-not-changes-clause-maps
@@ -34,7 +34,7 @@ returns-then-not-changes-clause-maps c =
 
 pub returns-in_default-make_room-clause-growing : goal.returns-in_default-make_room-clause-growing
 returns-in_default-make_room-clause-growing c =
-    still_growing c.args.from c.args.to c.requires.differ c.args.items.now c.requires.apart 0 c.args.pages.now c.args.targets.now.items c.args.nodes.now c.wants_all.new.targets.items c.make_room.new.nodes.slots c.wants_all.ensures.makes c.make_room.ensures.same
+    still_growing c.args.to c.args.pages.now c.args.targets.now.items c.wants_all.new.targets.items c.args.nodes.now.slots c.make_room.new.nodes.slots c.wants_all.ensures.makes c.make_room.ensures.same
 
 pub loop-item-init : goal.loop-item-init
 loop-item-init c =
