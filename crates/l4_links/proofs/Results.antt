@@ -1,5 +1,5 @@
 -- What is known of a result.
-use Rattle.std.proofs.Common.{◌≡◌, Bool, true, false, Option, Some, None, MatchOption, Result, Ok, Err, IsErr, OnErr, subst}
+use Rattle.std.proofs.Common.{◌≡◌, Bool, true, false, Option, Some, None, MatchOption, Result, Ok, Err, IfOk, IsErr, OnErr, subst}
 use Rattle.l4_links.specs.Entries.{Ends}
 
 -- what is known of a result leads to more

@@ -98,10 +98,8 @@ fn can_go_run(nodes: &Slots, source: &Row, target: &Row, run: &Run, rights: Righ
     requires target { length target.now ≡ table_pages }
     requires from { run.now.from + run.now.entries ≤ table_pages }
     requires to { run.now.to + run.now.entries ≤ table_pages }
-    ensures yes { result ≡ true → CanGoRow run.now.from run.now.to run.now.entries rights source.now
-        target.now nodes.now.slots }
-    ensures no { result ≡ false → IsStuckRow run.now.from run.now.to run.now.entries rights
-        source.now target.now nodes.now.slots }
+    ensures yes { result ≡ true → CanGoRow run.now.from run.now.to run.now.entries rights source.now target.now nodes.now.slots }
+    ensures no { result ≡ false → IsStuckRow run.now.from run.now.to run.now.entries rights source.now target.now nodes.now.slots }
 {
     let from = run.from;
     let to = run.to;
@@ -129,14 +127,11 @@ fn can_go_from(
     requires before { page < of.now.end }
     requires fits { of.now.end - of.now.source.page + of.now.target.page ≤ space_pages }
     requires shows { entry sources.now.items page ≡ Some key }
-    ensures can { IfOk result (λ next. MatchOption next
-        (IsStuckIn of.now.source.page page of.now.end of.now.target.page of.now.rights
+    ensures can { IfOk result (λ next. MatchOption next (IsStuckIn of.now.source.page page of.now.end of.now.target.page of.now.rights
         sources.now.items targets.old.items nodes.now.slots)
         (λ next. (page < next) × (next ≤ of.now.end) × CanGoIn of.now.source.page page next
-        of.now.target.page of.now.rights sources.now.items targets.old.items targets.new.items
-        nodes.now.slots)) }
-    ensures lacks { OnErr result
-        (CanGo (Some key) (entry targets.old.items (page - of.now.source.page + of.now.target.page))
+        of.now.target.page of.now.rights sources.now.items targets.old.items targets.new.items nodes.now.slots)) }
+    ensures lacks { OnErr result (CanGo (Some key) (entry targets.old.items (page - of.now.source.page + of.now.target.page))
         of.now.rights nodes.now.slots) }
     ensures makes { MakesTables targets.old.items targets.new.items }
 {
@@ -166,8 +161,7 @@ fn can_move_all(
         sources.now.items targets.old.items nodes.now.slots all }
     requires rising { of.now.source.page ≤ of.now.end }
     requires fits { of.now.end - of.now.source.page + of.now.target.page ≤ space_pages }
-    ensures can { Ends result
-        (CanMove of.now.source of.now.end of.now.target of.now.rights nodes.now.slots targets.new.items)
+    ensures can { Ends result (CanMove of.now.source of.now.end of.now.target of.now.rights nodes.now.slots targets.new.items)
         (Hinders of.now.source of.now.end of.now.target of.now.rights nodes.now.slots)
         (LacksPlace of.now.source of.now.end of.now.target of.now.rights nodes.now.slots) }
     ensures makes { MakesTables targets.old.items targets.new.items }
@@ -198,8 +192,7 @@ fn move_at(
     requires from { from < length source.old }
     requires to { to < length target.old }
     requires fits { IsPage place.page }
-    ensures { MovesAt place from to source.old source.new target.old target.new nodes.old.slots
-        nodes.new.slots }
+    ensures { MovesAt place from to source.old source.new target.old target.new nodes.old.slots nodes.new.slots }
 {
     let link = source.link(from);
     let Some(key) = link.key() else {
@@ -241,8 +234,7 @@ fn move_all(nodes: &mut Slots, sources: &mut Vec<Row>, targets: &mut Vec<Row>, o
         sources.old.items targets.old.items nodes.old.slots all × IsSpace all of.now.target.space }
     requires rising { of.now.source.page ≤ of.now.end }
     requires fits { of.now.end - of.now.source.page + of.now.target.page ≤ space_pages }
-    requires can { CanMove of.now.source of.now.end of.now.target of.now.rights nodes.old.slots
-        targets.old.items }
+    requires can { CanMove of.now.source of.now.end of.now.target of.now.rights nodes.old.slots targets.old.items }
     ensures moves { Moves of.now.source of.now.end of.now.target nodes.old.slots nodes.new.slots }
     ensures named { StayNamed of.now.source.space of.now.target.space sources.old.items
         sources.new.items targets.old.items targets.new.items nodes.old.slots nodes.new.slots }
@@ -274,8 +266,7 @@ pub(crate) fn move_block(
     requires rising { of.now.source.page ≤ of.now.end }
     requires fits { of.now.end - of.now.source.page + of.now.target.page ≤ space_pages }
     ensures moves { Ends result (Moves of.now.source of.now.end of.now.target nodes.old.slots nodes.new.slots
-        × AreWithin of.now.source of.now.end of.now.rights nodes.old.slots
-        × AreFree of.now.source of.now.end of.now.target nodes.old.slots)
+        × AreWithin of.now.source of.now.end of.now.rights nodes.old.slots × AreFree of.now.source of.now.end of.now.target nodes.old.slots)
         ((nodes.new.slots ≡ nodes.old.slots) × Hinders of.now.source of.now.end of.now.target of.now.rights nodes.old.slots)
         ((nodes.new.slots ≡ nodes.old.slots) × LacksPlace of.now.source of.now.end of.now.target of.now.rights nodes.old.slots) }
     ensures same { (key : ℕ) → node_at nodes.new.slots key ≡ node_at nodes.old.slots key }

@@ -35,8 +35,7 @@ pub(crate) struct Run {
 /// Returns the node under the key, if it shares a right with these.
 #[inline(always)]
 pub(crate) fn sharing(nodes: &Slots, key: usize, rights: Rights) -> Option<Node>
-    ensures { MatchOption result (SharesNone key rights nodes.now.slots)
-        (λ n. (node_at nodes.now.slots key ≡ Some n)
+    ensures { MatchOption result (SharesNone key rights nodes.now.slots) (λ n. (node_at nodes.now.slots key ≡ Some n)
         × (common n.rights rights ≢ no_rights)) }
 {
     let node = node_of(nodes, key)?;
@@ -172,8 +171,7 @@ fn bring_from(
     requires before { page < of.now.end }
     requires fits { of.now.end - of.now.source.page + of.now.target.page ≤ space_pages }
     requires shows { entry sources.now.items page ≡ Some key }
-    requires can { CanBringFrom of.now.source page of.now.end of.now.target of.now.rights sources.now.items targets.old.items
-        nodes.old }
+    requires can { CanBringFrom of.now.source page of.now.end of.now.target of.now.rights sources.now.items targets.old.items nodes.old }
     ensures next { (page < result) × (result ≤ of.now.end) }
     ensures brings { BringsPages of.now.source page result of.now.target of.now.rights sources.now.items targets.old.items
         targets.new.items nodes.old nodes.new }
@@ -242,13 +240,11 @@ fn wants_all(
 ) -> Result<Option<Wants>, NoMemory>
     requires differ { from ≢ to }
     requires apart { AreApart items.now }
-    requires growing { (pages : Tables) × (first head : Option ℕ) × (stamp : ℕ) × (all : Tables)
-        × AreTablesOf pages from sources.now.items
+    requires growing { (pages : Tables) × (first head : Option ℕ) × (stamp : ℕ) × (all : Tables) × AreTablesOf pages from sources.now.items
         × AreGrowing to pages targets.old.items nodes.now.slots first head stamp all }
     requires plain { ArePlain (entries_of nodes.now.slots) }
     ensures wants { IfOk result (λ found. MatchOption found
-        (HasOther (IsDue from to items.now (length items.now) (entries_of nodes.now.slots))
-        (entries_of nodes.now.slots))
+        (HasOther (IsDue from to items.now (length items.now) (entries_of nodes.now.slots)) (entries_of nodes.now.slots))
         (λ wants. CanBring from to items.now (length items.now) (entries_of nodes.now.slots) targets.new.items wants.slots wants.changes)) }
     ensures lacks { OnErr result (LacksKey (IsDue from to items.now (length items.now) (entries_of nodes.now.slots))
         (entries_of nodes.now.slots)) }

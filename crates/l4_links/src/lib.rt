@@ -121,8 +121,7 @@ impl Links {
     /// Adds an empty space. Changes nothing if the space exists.
     /// Returns `NoMemory` if an allocation fails; then nothing has changed.
     pub fn add_space(&mut self, space: u64) -> Result<(), NoMemory>
-        ensures ok { OnOk result
-            (self.new ≡ record self.old { spaces = set.insert self.old.spaces space }) }
+        ensures ok { OnOk result (self.new ≡ record self.old { spaces = set.insert self.old.spaces space }) }
         ensures err { OnErr result (self.new ≡ self.old) }
         ensures succeeds { IsTrue (set.contains self.old.spaces space) → IsOk result }
         ensures there { IsTrue (set.contains self.old.spaces space) → self.new ≡ self.old }
@@ -140,8 +139,7 @@ impl Links {
 
     /// Returns the least number of a space that is not below `from`, or None.
     pub fn next_space(&self, from: u64) -> Option<u64>
-        ensures { MatchOption result (NoSpaceFrom self.now.spaces from)
-            (IsNextSpace self.now.spaces from) }
+        ensures { MatchOption result (NoSpaceFrom self.now.spaces from) (IsNextSpace self.now.spaces from) }
     {
         self.pages.next_space(from)
     }
@@ -155,8 +153,7 @@ impl Links {
 
     /// Returns the least page of the space that has a key and is not below `page`, or None.
     pub fn next_key(&self, space: u64, page: u32) -> Option<u32>
-        ensures { MatchOption result (NoKeyFrom self.now.entries space page)
-            (IsNextKey self.now.entries space page) }
+        ensures { MatchOption result (NoKeyFrom self.now.entries space page) (IsNextKey self.now.entries space page) }
     {
         self.pages.next_present(space, page)
     }
@@ -243,8 +240,7 @@ impl Links {
     pub fn take_blank(&mut self, key: usize)
         requires blank { IsBlank self.old.entries key }
         ensures gone { entry_at self.new.entries key ≡ None }
-        ensures others { (other : ℕ) → other ≢ key → entry_at self.new.entries other
-            ≡ entry_at self.old.entries other }
+        ensures others { (other : ℕ) → other ≢ key → entry_at self.new.entries other ≡ entry_at self.old.entries other }
         ensures spaces { self.new.spaces ≡ self.old.spaces }
     {
         remove(&mut self.nodes, &mut self.pages, key);
@@ -254,9 +250,7 @@ impl Links {
     pub fn stand_root(&mut self, key: usize, frame: u32, rights: Rights)
         requires blank { IsBlank self.old.entries key }
         requires some { rights ≢ no_rights }
-        ensures stands { Stands key
-            (record
-            { frame = frame; rights = rights; source = false; granted = None; parent = None })
+        ensures stands { Stands key (record { frame = frame; rights = rights; source = false; granted = None; parent = None })
             self.old.entries self.new.entries }
         ensures spaces { self.new.spaces ≡ self.old.spaces }
     {
@@ -268,8 +262,7 @@ impl Links {
     pub fn stand_under(&mut self, parent: usize, key: usize, rights: Rights)
         requires there { IsStanding self.old.entries parent }
         requires blank { IsBlank self.old.entries key }
-        requires some { (above : AStanding) → standing_at self.old.entries parent ≡ Some above
-            → common above.rights rights ≢ no_rights }
+        requires some { (above : AStanding) → standing_at self.old.entries parent ≡ Some above → common above.rights rights ≢ no_rights }
         ensures sprouts { Sprouts parent key rights self.old.entries self.new.entries }
         ensures spaces { self.new.spaces ≡ self.old.spaces }
     {
@@ -483,10 +476,8 @@ impl Links {
     /// Returns whether a source descends from the key. Successive calls visit no node twice.
     pub fn has_source_below(&mut self, top: usize) -> bool
         ensures same { (key : ℕ) → entry_at self.new.entries key ≡ entry_at self.old.entries key }
-        ensures yes { result ≡ true → (low : ℕ) × Descends self.old.entries low top
-            × IsSource self.old.entries low }
-        ensures no { result ≡ false → (low : ℕ) → Descends self.old.entries low top
-            → ¬ (IsSource self.old.entries low) }
+        ensures yes { result ≡ true → (low : ℕ) × Descends self.old.entries low top × IsSource self.old.entries low }
+        ensures no { result ≡ false → (low : ℕ) → Descends self.old.entries low top → ¬ (IsSource self.old.entries low) }
         ensures spaces { self.new.spaces ≡ self.old.spaces }
     {
         let Some(_) = node_of(&self.nodes, top) else {
@@ -505,10 +496,8 @@ impl Links {
     /// Returns whether the node under the key has no descendants, which its successor in the list shows at once. Returns false if there is
     /// no node.
     pub fn is_leaf(&self, key: usize) -> bool
-        ensures yes { result ≡ true → IsStanding self.now.entries key
-            × ((low : ℕ) → ¬ (Descends self.now.entries low key)) }
-        ensures no { result ≡ false → IsStanding self.now.entries key → (low : ℕ)
-            × Descends self.now.entries low key }
+        ensures yes { result ≡ true → IsStanding self.now.entries key × ((low : ℕ) → ¬ (Descends self.now.entries low key)) }
+        ensures no { result ≡ false → IsStanding self.now.entries key → (low : ℕ) × Descends self.now.entries low key }
     {
         walks::is_leaf(&self.nodes, key)
     }
@@ -516,8 +505,7 @@ impl Links {
     /// Returns the keys of everything that descends from the key, each once.
     /// Returns `NoMemory` if an allocation fails.
     pub fn descendants(&self, alloc: Global, key: usize) -> Result<Vec<usize>, NoMemory>
-        ensures { IfOk result
-            (λ keys. IsListOf (λ (low : ℕ). Descends self.now.entries low key) keys.items) }
+        ensures { IfOk result (λ keys. IsListOf (λ (low : ℕ). Descends self.now.entries low key) keys.items) }
     {
         let Some(_) = node_of(&self.nodes, key) else {
             return Ok(Vec::new(alloc));

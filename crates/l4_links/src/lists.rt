@@ -23,8 +23,7 @@ pub(crate) fn unlink(nodes: &mut Slots, key: usize)
     requires there { node_at nodes.old.slots key ≢ None }
     ensures takes { TakesOut (links nodes.old.slots) (links nodes.new.slots) key }
     ensures parts { Parts key nodes.old.slots nodes.new.slots }
-    ensures order { (xs ys : List ℕ) → IsOrder nodes.old.slots (xs ++ key ∷ ys)
-        → IsOrder nodes.new.slots (xs ++ ys) }
+    ensures order { (xs ys : List ℕ) → IsOrder nodes.old.slots (xs ++ key ∷ ys) → IsOrder nodes.new.slots (xs ++ ys) }
     ensures room { (more : ℕ) → HasRoomFor nodes.old more → HasRoomFor nodes.new more }
 {
     let Some(node) = node_of(nodes, key) else {
@@ -98,15 +97,13 @@ pub(crate) fn link_under(nodes: &mut Slots, parent: usize, key: usize, above: No
     requires room { slot_at nodes.old.slots key ≢ None }
     requires blank { node_at nodes.old.slots key ≡ None }
     ensures sprouts { Sprouts (limbs nodes.old.slots) (limbs nodes.new.slots) parent key }
-    ensures comes { Comes
-        (record {
-          frame = above.frame;
-          rights = common above.rights rights;
-          source = false;
-          granted = None;
-        }) key nodes.old.slots nodes.new.slots }
-    ensures forest { (xs ys : List ℕ) → IsForest nodes.old.slots (xs ++ parent ∷ ys)
-        → IsForest nodes.new.slots (xs ++ parent ∷ key ∷ ys) }
+    ensures comes { Comes (record {
+      frame = above.frame;
+      rights = common above.rights rights;
+      source = false;
+      granted = None;
+    }) key nodes.old.slots nodes.new.slots }
+    ensures forest { (xs ys : List ℕ) → IsForest nodes.old.slots (xs ++ parent ∷ ys) → IsForest nodes.new.slots (xs ++ parent ∷ key ∷ ys) }
     ensures room { (more : ℕ) → HasRoomFor nodes.old more → HasRoomFor nodes.new more }
 {
     let node = child_of(parent, &above, rights, nodes.capacity());
@@ -133,8 +130,7 @@ pub(crate) fn add_under(
     ensures room { (more : ℕ) → HasRoomFor nodes.old (more + 1) → HasRoomFor nodes.new more }
     ensures link { result ≡ Some nodes.old.vacant_key }
     ensures few { IsKey nodes.old.vacant_key }
-    ensures adds { AddsUnder parent place above.now rights nodes.old.slots nodes.new.slots
-        nodes.old.vacant_key }
+    ensures adds { AddsUnder parent place above.now rights nodes.old.slots nodes.new.slots nodes.old.vacant_key }
 {
     let node = child_of(parent, above, rights, nodes.capacity());
     let key = nodes.insert_node(place, node);
@@ -156,11 +152,8 @@ pub(crate) fn link_root(
     requires room { slot_at nodes.old.slots key ≢ None }
     requires blank { node_at nodes.old.slots key ≡ None }
     ensures rises { Rises (limbs nodes.old.slots) (limbs nodes.new.slots) key }
-    ensures comes { Comes
-        (record { frame = frame; rights = rights; source = false; granted = None }) key
-        nodes.old.slots nodes.new.slots }
-    ensures forest { (ks : List ℕ) → IsForest nodes.old.slots ks → first_of ks None ≡ first
-        → IsForest nodes.new.slots (key ∷ ks) }
+    ensures comes { Comes (record { frame = frame; rights = rights; source = false; granted = None }) key nodes.old.slots nodes.new.slots }
+    ensures forest { (ks : List ℕ) → IsForest nodes.old.slots ks → first_of ks None ≡ first → IsForest nodes.new.slots (key ∷ ks) }
     ensures first { result ≡ Some key }
 {
     let at = Link::to(key);
@@ -234,8 +227,7 @@ pub(crate) fn clear(nodes: &mut Slots, pages: &mut Spaces, first: Link, top: usi
 #[inline]
 pub(crate) fn remove(nodes: &mut Slots, pages: &mut Spaces, key: usize)
     ensures gone { slot_at nodes.new.slots key ≡ None }
-    ensures others { (other : ℕ) → other ≢ key → slot_at nodes.new.slots other
-        ≡ slot_at nodes.old.slots other }
+    ensures others { (other : ℕ) → other ≢ key → slot_at nodes.new.slots other ≡ slot_at nodes.old.slots other }
     ensures indexed { IsIndexed nodes.old.slots pages.old → IsIndexed nodes.new.slots pages.new }
     ensures spaces { pages.new.spaces ≡ pages.old.spaces }
 {

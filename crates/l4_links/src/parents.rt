@@ -55,8 +55,7 @@ fn parent_in_block(
     requires begun { block * row_block ≤ end }
     ensures none { MatchOption result (NoParentsInBlock nodes.now.slots row.now from end block)
         (λ found. NoParentsInBlock nodes.now.slots row.now from found.0 block) }
-    ensures some { IfSome result
-        (λ found. IsParentKey nodes.now.slots row.now found.0 found.1 × (from ≤ found.0)
+    ensures some { IfSome result (λ found. IsParentKey nodes.now.slots row.now found.0 found.1 × (from ≤ found.0)
         × (found.0 < end) × (found.0 < block * row_block + row_block)) }
 {
     if !row.is_used(block) {

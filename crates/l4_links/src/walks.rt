@@ -118,8 +118,7 @@ pub(crate) fn is_leaf(nodes: &Slots, key: usize) -> bool
     requires forest { (keys : List ℕ) × IsForest nodes.now.slots keys }
     ensures yes { result ≡ true → (node_at nodes.now.slots key ≢ None)
         × ((low : ℕ) → ¬ (Leads (parent_at (limbs nodes.now.slots)) low key)) }
-    ensures no { result ≡ false → node_at nodes.now.slots key ≢ None → (low : ℕ)
-        × Leads (parent_at (limbs nodes.now.slots)) low key }
+    ensures no { result ≡ false → node_at nodes.now.slots key ≢ None → (low : ℕ) × Leads (parent_at (limbs nodes.now.slots)) low key }
 {
     let Some(node) = node_of(nodes, key) else {
         return false;
@@ -137,9 +136,7 @@ pub(crate) fn is_leaf(nodes: &Slots, key: usize) -> bool
 pub(crate) fn keys_below(alloc: Global, nodes: &Slots, top: usize) -> Result<Vec<usize>, NoMemory>
     requires forest { (ks : List ℕ) × IsForest nodes.now.slots ks }
     requires there { node_at nodes.now.slots top ≢ None }
-    ensures { IfOk result
-        (λ keys. IsListOf (λ (key : ℕ). Leads (parent_at (limbs nodes.now.slots)) key top)
-        keys.items) }
+    ensures { IfOk result (λ keys. IsListOf (λ (key : ℕ). Leads (parent_at (limbs nodes.now.slots)) key top) keys.items) }
 {
     let Some(head) = node_of(nodes, top) else {
         unreachable!()

@@ -55,19 +55,3 @@ module _ (old : Linked) (clean : IsClean old) (from to : ℕ) (items : List Item
     -- or memory was refused
     pub lacks_room : ¬ (HasTangle Used old.entries) → (m : UsedMove) × IsMoved mid from to items m × ((key : ℕ) → ¬ (IsAt mid m.target key)) → LacksKey Used old.entries NoMemory
     lacks_room free lacks = (free, (lacks.0, moved_alike old.entries mid from to items marked.marks.alike lacks.0 lacks.1, λ key at. lacks.2 key (clean_at old clean mid marked.marks.alike lacks.0.target key at)))
-
-  -- why a message is refused, where all is as before
-  pub lacks_same : (b : Entries) → ((key : ℕ) → entry_at b key ≡ entry_at old.entries key) → (cause : Cause) → LacksKey (IsMoved b from to items) b cause → LacksKey Used old.entries cause
-  lacks_same b same Entangled tangle = tangle_alike old.entries b (λ key. ap (option_and_then (λ (e : Entry). option_map (λ (t : Standing). (e.place, record t { source = false; granted = None })) e.stands)) (same key)) from to items tangle
-  lacks_same b same NoMemory lacks =
-      let alike : StandAlike old.entries b = λ key. ap (option_and_then (λ (e : Entry). option_map (λ (t : Standing). (e.place, record t { source = false; granted = None })) e.stands)) (same key) in (
-        (λ tangle. lacks.0 (tangle_alike b old.entries (λ key. sym (alike key)) from to items tangle)),
-        (lacks.1.0, moved_alike old.entries b from to items alike lacks.1.0 lacks.1.1, λ key at. lacks.1.2 key (ap (option_map {T = Entry} (λ e. e.place)) (same key) ∙ at)),
-      )
-
-  -- and back
-  pub lacks_still : (b : Entries) → ((key : ℕ) → entry_at b key ≡ entry_at old.entries key) → (m : UsedMove) × Used m × ((key : ℕ) → ¬ (IsAt old.entries m.target key))
-      → (m : UsedMove) × IsMoved b from to items m × ((key : ℕ) → ¬ (IsAt b m.target key))
-  lacks_still b same lacks =
-      let alike : StandAlike old.entries b = λ key. ap (option_and_then (λ (e : Entry). option_map (λ (t : Standing). (e.place, record t { source = false; granted = None })) e.stands)) (same key) in
-      (lacks.0, moved_still old.entries b from to items alike lacks.0 lacks.1, λ key at. lacks.2 key (ap (option_map {T = Entry} (λ e. e.place)) (sym (same key)) ∙ at))
