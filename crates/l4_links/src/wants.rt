@@ -16,37 +16,30 @@ use l4_nodes::{Node, Slots, node_of};
 use l4_spaces::tables::{TABLE_PAGES, is_ready, key_in, make_all, next_page};
 use l4_spaces::{NoMemory, Row};
 
-/// Returns whether a child can take the place of the node under the key: the node has a parent, and nothing descends from it.
-#[inline]
-fn can_go(nodes: &Slots, key: usize) -> bool
-    requires forest { (ks : List ℕ) × IsForest nodes.now.slots ks }
-    ensures { result ≡ true → IsSpareNode key nodes.now.slots }
-{
-    let Some(node) = node_of(nodes, key) else {
-        return false;
-    };
-    let Some(_) = node.parent.key() else {
-        return false;
-    };
-    is_leaf(nodes, key)
-}
-
-/// Returns whether the second node is a child of the first one, with those of these rights that its parent has.
+/// Returns whether the node under the key would change if a child of this parent took its place, or None if it can't: it must have a parent,
+/// and nothing may descend from it.
 #[inline(always)]
-fn is_child(nodes: &Slots, parent: usize, above: &Node, key: usize, rights: Rights) -> bool
+fn changes_at(
+    nodes: &Slots,
+    key: usize,
+    parent: usize,
+    above: &Node,
+    rights: Rights,
+) -> Option<bool>
+    requires forest { (ks : List ℕ) × IsForest nodes.now.slots ks }
     requires stands { node_at nodes.now.slots parent ≡ Some above.now }
-    ensures { result ≡ true → IsChildOf parent key rights nodes.now.slots }
+    ensures { IfSome result (λ changes. IsSpareNode key nodes.now.slots
+        × (changes ≡ false → IsChildOf parent key rights nodes.now.slots)) }
 {
-    let Some(node) = node_of(nodes, key) else {
-        return false;
-    };
-    let Some(own) = node.parent.key() else {
-        return false;
-    };
-    if own != parent {
-        return false;
+    let node = node_of(nodes, key)?;
+    let own = node.parent.key()?;
+    if !is_leaf(nodes, key) {
+        return None;
     }
-    node.rights == above.rights.intersection(rights)
+    if own != parent {
+        return Some(true);
+    }
+    Some(node.rights != above.rights.intersection(rights))
 }
 
 /// What the children of pages need.
@@ -87,10 +80,7 @@ fn wants_at(
             changes: true,
         });
     };
-    if !can_go(nodes, taken) {
-        return None;
-    }
-    let changes = !is_child(nodes, key, &above, taken, rights);
+    let changes = changes_at(nodes, taken, key, &above, rights)?;
     Some(Wants { slots: 0, changes })
 }
 
