@@ -166,6 +166,8 @@ impl Forest {
                 return Err(cause);
             }
         }
+        self.links.law_places();
+        self.links.law_trees();
         Ok(())
     }
 

@@ -68,8 +68,8 @@ module _ (start now : Linked) (from to : ℕ) (items : List ItemMove) (ready : I
   abbrev before_all : Mappings
   before_all = mappings_of start
 
-  known : KnownMoves Moves before_all
-  known = known_moves before_all from to items ready.there
+  known : KnownMoves Moves
+  known = known_moves before_all from to items
 
   abbrev stood : (u : PageMove) → Moves u → IsShown start.entries u.source u.shows
   stood u used = stood_at start ready.places from to items u used

@@ -5,7 +5,6 @@ pub mod Clashing
 pub mod Climbing
 pub mod EntriesLemmas
 pub mod ForestKept
-pub mod ForestMoved
 pub mod Nothing
 pub mod Places
 pub mod RightsLeft
@@ -33,6 +32,7 @@ pub mod Placed
 pub mod OneGrant
 pub mod Prepared
 pub mod Restored
+pub mod Rooted
 pub mod RoomMade
 pub mod Rooming
 pub mod Sourced

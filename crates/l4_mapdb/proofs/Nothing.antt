@@ -34,13 +34,14 @@ loses_nothing Lost s some none = record {
 pub loses_none : (Lost : Place → Right → Type 0) (s : Mappings) → IsForest s → ((q : Place) (m : Mapping) → shown s q ≡ Some m → (k : Right) → ¬ (Lost q k)) → LosesRights Lost s s
 loses_none Lost s forest none = loses_nothing Lost s (λ q m at. forest.some_right q m at) none
 
--- what stands in clean entries has a right, so where nothing is cut nothing changes
+-- what stands in clean entries has a right
+pub clean_rights : (now : Linked) → HavePlaces now → IsClean now → (q : Place) (m : Mapping) → shown (mappings_of now) q ≡ Some m → m.rights ≢ no_rights
+clean_rights now have clean q m h is_none =
+    let u = (shown_by_key now have q m).0 h in
+    let p = clean u.key u.entry u.at in
+    let same : p.standing ≡ u.standing = same_value (sym p.stands ∙ u.stands) in
+    p.some_right (ap (λ (x : Standing). x.rights) same ∙ ap (λ (x : Mapping). x.rights) u.mapping ∙ is_none)
+
+-- so where nothing is cut nothing changes
 pub cuts_none : (now : Linked) → HavePlaces now → IsClean now → (Used : PageMove → Type 0) → ((q : Place) (k : Right) → ¬ (IsCut Used (mappings_of now) q k)) → LosesRights (IsCut Used (mappings_of now)) (mappings_of now) (mappings_of now)
-cuts_none now have clean Used none = loses_nothing (IsCut Used (mappings_of now)) (mappings_of now) some_right (λ q _ _ k. none q k)
-  where
-    some_right : (q : Place) (m : Mapping) → shown (mappings_of now) q ≡ Some m → m.rights ≢ no_rights
-    some_right q m h is_none =
-        let u = (shown_by_key now have q m).0 h in
-        let p = clean u.key u.entry u.at in
-        let same : p.standing ≡ u.standing = same_value (sym p.stands ∙ u.stands) in
-        p.some_right (ap (λ (x : Standing). x.rights) same ∙ ap (λ (x : Mapping). x.rights) u.mapping ∙ is_none)
+cuts_none now have clean Used none = loses_nothing (IsCut Used (mappings_of now)) (mappings_of now) (clean_rights now have clean) (λ q _ _ k. none q k)

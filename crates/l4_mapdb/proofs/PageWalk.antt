@@ -48,7 +48,7 @@ module _ (start now : Linked) (from to : ℕ) (items : List ItemMove) (ready : I
     | inl d ↦ d.1 g.grant
     | inr d ↦
         let g_is : v.grant ≡ true = kind_of v used item_is ∙ of_kind ∙ sym d.0 ∙ g.grant in
-        let e : v ≡ g.move = one_grant ItemMoves (mappings_of start) (known_moves (mappings_of start) from to items ready.there) ready.free v g.move used g.used g_is (sym (same_link g.move.source v.source g.source)) in
+        let e : v ≡ g.move = one_grant ItemMoves (mappings_of start) (known_moves (mappings_of start) from to items) ready.free v g.move used g.used g_is (sym (same_link g.move.source v.source g.source)) in
         undone v (kind_of v used item_is ∙ of_kind) item_is le (subst (λ (x : PageMove). IsDone start from to items kind item begin x) (sym e) g.done)
   ]
 
@@ -178,7 +178,7 @@ module _ (start now new : Linked) (from to : ℕ) (items : List ItemMove) (ready
       | inr ge ↦
           let p : v.source.page ≡ page = omega (arith, ge, lt) in
           let place : v.source ≡ m.move.source = same_link v.source m.move.source ((λ k. record { space = used.from_space k; page = p k }) ∙ sym m.source) in
-          inr ((known_moves (mappings_of start) from to items ready.there).same_source v m.move used m.used (i ∙ sym m.item_is) place)
+          inr ((known_moves (mappings_of start) from to items).same_source v m.move used m.used (i ∙ sym m.item_is) place)
     ]
 
     back : (v : PageMove) → PageMoves v → IsDone start from to items kind item (page + 1) v → NowDone v
@@ -190,7 +190,7 @@ module _ (start now new : Linked) (from to : ℕ) (items : List ItemMove) (ready
 
   maps_page : kind ≡ false → MapsPage source_here target_here by.rights now.entries new.entries → Placed start from to items (IsDone start from to items kind item (page + 1)) new
   maps_page maps s = as_done s.key s.is.standing m
-      (placed_map start from to items (known_moves (mappings_of start) from to items ready.there) ready (IsDone start from to items kind item page) now new placed spaces m.move m.used (not_done s.key s.is.standing m) by (by_is s.key s.is.standing m)
+      (placed_map start from to items (known_moves (mappings_of start) from to items) ready (IsDone start from to items kind item page) now new placed spaces m.move m.used (not_done s.key s.is.standing m) by (by_is s.key s.is.standing m)
       s.blank (blank_at s.key s.is.standing m s.blank s.at) (λ g. let z : false ≡ true = sym maps ∙ sym of_kind ∙ sym m.grant ∙ g in cc) s.key (ap (option_map {T = Entry} (λ e. e.place)) m.stood.at ∙ ap Some (m.stood.place_is ∙ sym m.source)) s.is.standing s.is.stands m.frame m.rights s.sprouts)
     where
       m : MoveHere start now from to items ready (IsDone start from to items kind item page) placed have item by item_at page first last s.key s.is.standing
@@ -198,7 +198,7 @@ module _ (start now new : Linked) (from to : ℕ) (items : List ItemMove) (ready
 
   grants_page : kind ≡ true → GrantsPage source_here target_here by.rights now.entries new.entries → Placed start from to items (IsDone start from to items kind item (page + 1)) new
   grants_page grants s = as_done s.key s.is.standing m
-      (placed_grant start from to items (known_moves (mappings_of start) from to items ready.there) ready (IsDone start from to items kind item page) now new placed spaces m.move m.used (not_done s.key s.is.standing m) by (by_is s.key s.is.standing m)
+      (placed_grant start from to items (known_moves (mappings_of start) from to items) ready (IsDone start from to items kind item page) now new placed spaces m.move m.used (not_done s.key s.is.standing m) by (by_is s.key s.is.standing m)
       s.blank (blank_at s.key s.is.standing m s.blank s.at) (m.grant ∙ of_kind ∙ grants) s.key m.stood.before m.stood.standing m.stood.at (m.stood.place_is ∙ sym m.source) m.stood.stands m.stood.unwanted m.stood.no_grant m.stood.at_now s.takes)
     where
       m : MoveHere start now from to items ready (IsDone start from to items kind item page) placed have item by item_at page first last s.key s.is.standing

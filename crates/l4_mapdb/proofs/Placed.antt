@@ -40,7 +40,7 @@ module _ (start : Linked) (from to : ℕ) (items : List ItemMove) where
     only = p.only;
   }
 
-  module _ (known : KnownMoves (Used start from to items) (mappings_of start)) (ready : IsStart start from to items) (Done : PageMove → Type 0) (now new : Linked)
+  module _ (known : KnownMoves (Used start from to items)) (ready : IsStart start from to items) (Done : PageMove → Type 0) (now new : Linked)
       (placed : Placed start from to items Done now) (spaces : new.spaces ≡ now.spaces)
       (u : PageMove) (used : Used start from to items u) (undone : ¬ (Done u)) (by : ItemMove) (item : slice_get items u.item ≡ Some by) where
     abbrev Later : PageMove → Type 0

@@ -1,8 +1,6 @@
 -- What a place becomes is one thing, where the message is not entangled.
-use Rattle.std.proofs.Common.{◌≡◌, ◌≢◌, ◌<◌, ◌==◌, true, Option, Some, None, IsTrue, is_some, sym, ap, ◌∙◌, subst, inl, inr, arith}
+use Rattle.std.proofs.Common.{◌≡◌, ◌==◌, true, Option, Some, None, IsTrue, is_some, sym, ap, ◌∙◌, subst, inl, inr, arith}
 use Rattle.std.proofs.lemmas.Bool.Decides.{nat_tests}
-use Rattle.std.specs.FinSet as set
-use Rattle.l4_fpage.specs.Rights.{no_rights, Within}
 use Rattle.l4_mapdb.specs.declared.Place.{Place}
 use Rattle.l4_mapdb.specs.declared.Mapping.{Mapping}
 use Rattle.l4_mapdb.specs.Mappings.{Mappings, shown}
@@ -10,19 +8,13 @@ use Rattle.l4_mapdb.specs.Transfer.{PageMove, IsEntangled, IsGone, StandsAt, Par
 use Rattle.l4_mapdb.proofs.EntriesLemmas.{decided}
 use Rattle.l4_mapdb.proofs.Filled.{BecomesBy, by_kind}
 use Rattle.l4_mapdb.proofs.Unique.{same_value}
-use Rattle.l4_fpage.specs.Pages.{most_pages}
 
--- what is known of each used move
-pub record KnownMoves (Used : PageMove → Type 0) (old : Mappings) : Type 0 where
-  pub shows : (u : PageMove) → Used u → shown old u.source ≡ Some u.shows
-  pub within : (u : PageMove) → Used u → Within u.rights u.shows.rights
-  pub some_right : (u : PageMove) → Used u → u.rights ≢ no_rights
-  pub in_space : (u : PageMove) → Used u → IsTrue (set.contains old.spaces u.target.space)
-  pub page_fits : (u : PageMove) → Used u → u.target.page < most_pages
+-- an item has one used move out of a place, and one into it
+pub record KnownMoves (Used : PageMove → Type 0) : Type 0 where
   pub same_source : (u v : PageMove) → Used u → Used v → u.item ≡ v.item → u.source ≡ v.source → u ≡ v
   pub same_target : (u v : PageMove) → Used u → Used v → u.item ≡ v.item → u.target ≡ v.target → u ≡ v
 
-module _ (Used : PageMove → Type 0) (old : Mappings) (known : KnownMoves Used old) (free : ¬ (IsEntangled Used old)) where
+module _ (Used : PageMove → Type 0) (old : Mappings) (known : KnownMoves Used) (free : ¬ (IsEntangled Used old)) where
   -- two used moves with one target are one
   pub one_target : (u v : PageMove) → Used u → Used v → u.target ≡ v.target → u ≡ v
   one_target u v a b e = decided (u.item == v.item)
@@ -36,7 +28,7 @@ module _ (Used : PageMove → Type 0) (old : Mappings) (known : KnownMoves Used 
       (λ f. absurd (free (record { one = u; other = v; one_used = a; other_used = b; clash = inl (λ i. f (let t : (u.item == v.item) ≡ true = grind (arith, nat_tests) in t), inr (g, e)) })))
 
   -- a place stands at one place later
-  pub one_place : (c q r : Place) → StandsAt Used c q → StandsAt Used c r → q ≡ r
+  one_place : (c q r : Place) → StandsAt Used c q → StandsAt Used c r → q ≡ r
   one_place c q r (inl g) (inl h) =
       let e : g.0 ≡ h.0 = one_grant g.0 h.0 g.1 h.1 g.2 (g.3 ∙ sym h.3) in
       sym g.4 ∙ ap (λ (v : PageMove). v.target) e ∙ h.4
@@ -53,7 +45,7 @@ module _ (Used : PageMove → Type 0) (old : Mappings) (known : KnownMoves Used 
   same_mapping a b f r p = λ i. record { frame = f i; rights = r i; parent = p i }
 
   -- a present target is gone
-  pub target_gone : (u : PageMove) → Used u → (q : Place) (b : Mapping) → u.target ≡ q → shown old q ≡ Some b → IsGone Used old q
+  target_gone : (u : PageMove) → Used u → (q : Place) (b : Mapping) → u.target ≡ q → shown old q ≡ Some b → IsGone Used old q
   target_gone u a q b e at = record { move = u; used = a; present = ap is_some (ap (shown old) e ∙ at); below = inl (sym e) }
 
   one_by_kind : (q : Place) (a b : Mapping) → BecomesBy Used old q a → BecomesBy Used old q b → a ≡ b

@@ -1,29 +1,12 @@
--- What is known of the used moves of a message, and that its delivery leaves a forest.
-use Rattle.std.proofs.Common.{◌≡◌, ℕ, ◌+◌, ◌<◌, ◌≤◌, ◌^◌, Bool, true, false, ◌&&◌, List, IsTrue, refl, sym, ap, ◌∙◌, subst, slice_get, arith}
-use Rattle.std.specs.FinSet as set
-use Rattle.l4_fpage.specs.Rights.{RightsSet, Read, Write, Execute, common, Within}
-use Rattle.l4_msg.specs.declared.items.Move.{Move}
+-- What is known of the used moves of a message.
+use Rattle.std.proofs.Common.{◌≡◌, ℕ, ◌+◌, List, sym, ap, ◌∙◌, slice_get, arith}
+use Rattle.l4_fpage.specs.Rights.{common}
 use Rattle.l4_mapdb.specs.declared.Place.{Place}
 use Rattle.l4_msg.specs.declared.items.ItemMove.{ItemMove}
-use Rattle.l4_mapdb.specs.Mappings.{Mappings, shown, IsForest}
-use Rattle.l4_mapdb.specs.Transfer.{PageMove, IsUsed, IsEntangled, Delivers}
+use Rattle.l4_mapdb.specs.Mappings.{Mappings, shown}
+use Rattle.l4_mapdb.specs.Transfer.{PageMove, IsUsed}
 use Rattle.l4_mapdb.proofs.Single.{KnownMoves}
-use Rattle.l4_mapdb.proofs.ForestMoved.{transfers_keep}
 use Rattle.l4_mapdb.proofs.Unique.{same_value}
-use Rattle.l4_fpage.specs.Pages.{most_pages}
-
-first_true : (a b : Bool) → IsTrue (a && b) → IsTrue a
-first_true true b h = refl
-first_true false b h = h
-
-common_within : (a b : RightsSet) → Within (common a b) a
-common_within a b Read h = first_true a.r b.r h
-common_within a b Write h = first_true a.w b.w h
-common_within a b Execute h = first_true a.x b.x h
-
--- the last page of a move's target is a page
-fits : (move : Move) → move.target.first + 2 ^ move.source.log ≤ most_pages
-fits move = rw move.same_size move.target.block.inside
 
 module _ (old : Mappings) (sender receiver : ℕ) (items : List ItemMove) where
   abbrev Used : PageMove → Type 0
@@ -54,7 +37,7 @@ module _ (old : Mappings) (sender receiver : ℕ) (items : List ItemMove) where
       omega arith
 
   -- an item has one move out of a place
-  pub same_source : (u v : PageMove) → Used u → Used v → u.item ≡ v.item → u.source ≡ v.source → u ≡ v
+  same_source : (u v : PageMove) → Used u → Used v → u.item ≡ v.item → u.source ≡ v.source → u ≡ v
   same_source u v a b item source =
       let apart = one_distance u v a b item in
       let same : u.source.page ≡ v.source.page = ap (λ (x : Place). x.page) source in
@@ -63,7 +46,7 @@ module _ (old : Mappings) (sender receiver : ℕ) (items : List ItemMove) where
       one_move u v a b item source (λ i. record { space = space i; page = page i })
 
   -- an item has one move into a place
-  pub same_target : (u v : PageMove) → Used u → Used v → u.item ≡ v.item → u.target ≡ v.target → u ≡ v
+  same_target : (u v : PageMove) → Used u → Used v → u.item ≡ v.item → u.target ≡ v.target → u ≡ v
   same_target u v a b item target =
       let apart = one_distance u v a b item in
       let same : u.target.page ≡ v.target.page = ap (λ (x : Place). x.page) target in
@@ -71,26 +54,5 @@ module _ (old : Mappings) (sender receiver : ℕ) (items : List ItemMove) where
       let space : u.source.space ≡ v.source.space = a.from_space ∙ sym b.from_space in
       one_move u v a b item (λ i. record { space = space i; page = page i }) target
 
-  -- the target of a used move lies in its space
-  pub target_fits : (u : PageMove) → Used u → u.target.page < most_pages
-  target_fits u a = let f = fits a.by.mv in let p = a.pages.within in let q = a.pages.target_is in omega arith
-
-module _ (old : Mappings) (sender receiver : ℕ) (items : List ItemMove)
-    (there : IsTrue (set.contains old.spaces receiver)) where
-  abbrev Moves : PageMove → Type 0
-  Moves = IsUsed old sender receiver items
-
-  pub known_moves : KnownMoves Moves old
-  known_moves = record {
-    shows = λ u a. a.present;
-    within = λ u a. subst (λ (r : RightsSet). Within r u.shows.rights) (sym a.rights) (common_within u.shows.rights a.by.rights);
-    some_right = λ u a. a.some_right;
-    in_space = λ u a. subst (λ (n : ℕ). IsTrue (set.contains old.spaces n)) (sym a.to_space) there;
-    page_fits = target_fits old sender receiver items;
-    same_source = same_source old sender receiver items;
-    same_target = same_target old sender receiver items;
-  }
-
-  -- a message that is not entangled leaves a forest
-  pub delivers_keep : (new : Mappings) → IsForest old → ¬ (IsEntangled Moves old) → Delivers sender receiver items old new → IsForest new
-  delivers_keep new forest free t = transfers_keep Moves old new known_moves forest free t
+  pub known_moves : KnownMoves Used
+  known_moves = record { same_source = same_source; same_target = same_target }

@@ -165,7 +165,7 @@ some_parent s low high up =
     ] refl up
 
 -- the key of the place that a key's place has as its parent
-some_key : (s : Entries) (key : Option ℕ) (q : Place) → option_and_then (place_at s) key ≡ Some q → (k : ℕ) × (key ≡ Some k) × IsAt s (link_place q) k
+pub some_key : (s : Entries) (key : Option ℕ) (q : Place) → option_and_then (place_at s) key ≡ Some q → (k : ℕ) × (key ≡ Some k) × IsAt s (link_place q) k
 some_key s None q h = absurd (let k : ◌≡◌ {A = Option Place} None (Some q) = h in cc)
 some_key s (Some k) q h =
     elim (entry_at s k) as (λ v. entry_at s k ≡ v → option_map {T = Entry} (λ e. map_place e.place) v ≡ Some q → (j : ℕ) × (Some k ≡ Some j) × IsAt s (link_place q) j) [

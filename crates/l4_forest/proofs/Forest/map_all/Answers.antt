@@ -1,8 +1,7 @@
-use Rattle.std.proofs.Common.{◌≡◌, IsTrue, sym, ap, ◌∙◌, subst, option_and_then}
-use Rattle.std.specs.FinSet as set
+use Rattle.std.proofs.Common.{◌≡◌, sym, ap, ◌∙◌, subst, option_and_then}
 use Rattle.l4_links.specs.declared.Entry.{Entry}
-use Rattle.l4_mapdb.specs.Mappings.{Mappings, IsForest}
-use Rattle.l4_mapdb.proofs.UsedMoves.{delivers_keep}
+use Rattle.l4_mapdb.specs.Mappings.{IsForest}
+use Rattle.l4_mapdb.proofs.Rooted.{are_forest}
 use Rattle.l4_mapdb.specs.View.{mappings_of}
 use Rattle.l4_mapdb.proofs.Unchanged.{unchanged}
 use Rattle.l4_forest.proofs.Forest.map_all.Goals as goal
@@ -26,14 +25,11 @@ returns-in-Err-clause-cause c = rw (← c.self.view_is) c.in-Err.ensures.cause
 pub returns-in-Err-clause-succeeds : goal.returns-in-Err-clause-succeeds
 returns-in-Err-clause-succeeds c = rw (← c.self.view_is) c.in-Err.ensures.succeeds
 
-there : (c : goal.In-Ok) → IsTrue (set.contains (mappings_of c.self.inside.links).spaces c.args.to)
-there c = subst (λ (m : Mappings). IsTrue (set.contains m.spaces c.args.to)) (sym c.self.view_is) c.requires.to_there
-
 pub invariant_of-self-2 : goal.invariant_of-self-2
 invariant_of-self-2 c = record {
   clean = c.in-Ok.ensures.ok.clean;
   known = c.in-Ok.ensures.ok.roots c.self.inside.roots.items c.self.invariant.known;
-  forest = delivers_keep (mappings_of c.self.inside.links) c.args.from c.args.to c.args.moves.now (there c) (mappings_of c.deliver.new.links) c.self.invariant.forest c.in-Ok.ensures.ok.free c.in-Ok.ensures.ok.delivers;
+  forest = are_forest c.deliver.new.links c.law_places-2.ensures c.law_trees-2.ensures c.in-Ok.ensures.ok.clean c.self.inside.roots.items (c.in-Ok.ensures.ok.roots c.self.inside.roots.items c.self.invariant.known);
 }
 
 pub returns-clause-ok : goal.returns-clause-ok
