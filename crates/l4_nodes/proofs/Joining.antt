@@ -1,6 +1,5 @@
 -- What is read of the slots and of what is noted beside them, and what a write to one key does.
-use Rattle.std.proofs.Common.{◌≡◌, ◌≢◌, ℕ, zero, suc, ◌+◌, ◌<◌, ◌≤◌, Bool, true, false, if◌then◌else◌, List, [], ◌∷◌, drop, length, slice_index_or, slice_set, Option, Some, None, is_some, cond, count_by, arith, refl, sym, ap, ◌∙◌, subst, inl, inr}
-use Rattle.std.proofs.lemmas.Bool.{cases_eq, cases_lt}
+use Rattle.std.proofs.Common.{◌≡◌, ◌≢◌, ℕ, zero, suc, ◌+◌, ◌<◌, ◌≤◌, Bool, true, false, if◌then◌else◌, List, [], ◌∷◌, drop, length, slice_index_or, slice_set, Option, Some, None, is_some, cond, count_by, arith, refl, sym, ap, ◌∙◌, subst}
 use Rattle.std.proofs.lemmas.List.{get_or-set_same, get_or-set_other, get_or_past}
 use Rattle.std.proofs.lemmas.List.Sums.{sum_by-cons}
 use Rattle.std.specs.Option.{option_map, option_and_then}
@@ -64,10 +63,7 @@ joined_at (slot ∷ slots) notes (suc key) = joined_at slots (drop 1 notes) key 
 
 -- a key with a slot is within the list
 within : (slots : List (Option Packed)) (key : ℕ) (p : Packed) → slice_index_or slots key None ≡ Some p → key < length slots
-within slots key p at = elim (cases_lt key (length slots)) [
-  | inl lt ↦ lt
-  | inr le ↦ absurd (let z : ◌≡◌ {A = Option Packed} (Some p) None = sym at ∙ get_or_past slots key None le in cc)
-]
+within slots key p at = grind (arith, get_or_past)
 
 -- the slot under the key is what this makes of what it was, and all others are as they were
 pub record TurnsAt (key : ℕ) (change : Slot → Slot) (old new : Slots) : Type 0 where
@@ -78,23 +74,11 @@ pub record TurnsAt (key : ℕ) (change : Slot → Slot) (old new : Slots) : Type
 pub turned : (slots : List (Option Packed)) (notes later : List Note) (old : Slots) (key : ℕ) (p q : Packed) (change : Slot → Slot) → joined slots notes ≡ old → slice_index_or slots key None ≡ Some p
     → slot_shown q (note_of later key) ≡ change (slot_shown p (note_of notes key)) → ((other : ℕ) → other ≢ key → note_of later other ≡ note_of notes other)
     → TurnsAt key change old (joined (slice_set slots key (Some q)) later)
-turned slots notes later old key p q change is at shows same = record {
-  here =
-      joined_at (slice_set slots key (Some q)) later key ∙ ap (option_map (λ (r : Packed). slot_shown r (note_of later key))) (get_or-set_same slots key (Some q) None (within slots key p at))
-      ∙ ap (λ (s : Slot). Some s) shows ∙ sym (ap (option_map change) (ap (λ (s : Slots). slot_at s key) (sym is) ∙ joined_at slots notes key ∙ ap (option_map (λ (r : Packed). slot_shown r (note_of notes key))) at));
-  others = λ o ne.
-      joined_at (slice_set slots key (Some q)) later o ∙ ap (option_map (λ (r : Packed). slot_shown r (note_of later o))) (get_or-set_other slots key o (Some q) None ne)
-      ∙ ap (λ (n : Note). option_map (λ (r : Packed). slot_shown r n) (slice_index_or slots o None)) (same o ne) ∙ sym (joined_at slots notes o) ∙ ap (λ (s : Slots). slot_at s o) is;
-}
+turned slots notes later old key p q change is at shows same = grind (arith, joined_at, get_or-set_same, within, get_or-set_other)
 
 -- and where there is no slot
 pub left : (slots : List (Option Packed)) (notes : List Note) (old : Slots) (key : ℕ) (change : Slot → Slot) → joined slots notes ≡ old → slice_index_or slots key None ≡ None → TurnsAt key change old (joined slots notes)
-left slots notes old key change is at =
-    let none : slot_at (joined slots notes) key ≡ None = joined_at slots notes key ∙ ap (option_map (λ (r : Packed). slot_shown r (note_of notes key))) at in
-    record {
-      here = none ∙ sym (ap (option_map change) (ap (λ (s : Slots). slot_at s key) (sym is) ∙ none));
-      others = λ o ne. ap (λ (s : Slots). slot_at s o) is;
-    }
+left slots notes old key change is at = grind (arith, joined_at)
 
 -- a node is what this makes of what it was, and all others and each slot's page are as they were
 pub record NodeTurns (key : ℕ) (change : Node → Node) (old new : Slots) : Type 0 where
@@ -112,17 +96,10 @@ spot_in change same None = refl
 spot_in change same (Some s) = ap (λ (x : Spot). Some x) (same s)
 
 spots_in : (key : ℕ) (change : Slot → Slot) (old new : Slots) → ((s : Slot) → spot_of (change s) ≡ spot_of s) → TurnsAt key change old new → (k : ℕ) → spots new k ≡ spots old k
-spots_in key change old new same t k = elim (cases_eq k key) [
-  | inl e ↦ ap (spots new) e ∙ ap (option_map spot_of) t.here ∙ spot_in change same (slot_at old key) ∙ sym (ap (spots old) e)
-  | inr ne ↦ ap (option_map spot_of) (t.others k ne)
-]
+spots_in key change old new same t k = grind arith
 
 pub node_turned : (key : ℕ) (change : Node → Node) (old new : Slots) → TurnsAt key (with_node change) old new → NodeTurns key change old new
-node_turned key change old new t = record {
-  here = ap (option_and_then (λ (s : Slot). s.node)) t.here ∙ node_in change (slot_at old key);
-  others = λ o ne. ap (option_and_then (λ (s : Slot). s.node)) (t.others o ne);
-  spots_same = spots_in key (with_node change) old new (λ s. refl) t;
-}
+node_turned key change old new t = grind arith
 
 node_put : (put : Option Node) (o : Option Slot) → o ≢ None → option_and_then (λ (s : Slot). s.node) (option_map (λ (s : Slot). record s { node = put }) o) ≡ put
 node_put put None some = absurd (some refl)
@@ -130,11 +107,7 @@ node_put put (Some s) some = refl
 
 -- a slot's node is this one now
 pub node_written : (key : ℕ) (node : Option Node) (old new : Slots) → TurnsAt key (λ (s : Slot). record s { node = node }) old new → Writes key node old new
-node_written key node old new t = record {
-  here = λ some. ap (option_and_then (λ (s : Slot). s.node)) t.here ∙ node_put node (slot_at old key) some;
-  others = λ o ne. ap (option_and_then (λ (s : Slot). s.node)) (t.others o ne);
-  spots_same = spots_in key (λ (s : Slot). record s { node = node }) old new (λ s. refl) t;
-}
+node_written key node old new t = grind arith
 
 -- the same, where nothing is noted by the write
 pub slot_turned : (slots : List (Option Packed)) (notes : List Note) (old : Slots) (key : ℕ) (p q : Packed) (change : Slot → Slot) → joined slots notes ≡ old → Some p ≡ slice_index_or slots key None
@@ -153,32 +126,21 @@ this_key : (at : Option ℕ) (key k : ℕ) → at ≡ Some key → at ≡ Some k
 this_key at key k is e = let z : ◌≡◌ {A = Option ℕ} (Some k) (Some key) = sym e ∙ is in cc
 
 pub next_set : (at next : Option ℕ) (key : ℕ) (old new : Slots) → at ≡ Some key → NodeTurns key (λ (n : Node). record n { next = next }) old new → SetsNext at next old new
-next_set at next key old new is t = record {
-  here = λ k e. subst (λ (j : ℕ). node_at new j ≡ option_map {T = Node} (λ n. record n { next = next }) (node_at old j)) (sym (this_key at key k is e)) t.here;
-  others = λ k ne. t.others k (λ e. ne (is ∙ ap (λ (j : ℕ). Some j) (sym e)));
-  spots_same = t.spots_same;
-}
+next_set at next key old new is t = grind arith
 
 pub prev_set : (at prev : Option ℕ) (key : ℕ) (old new : Slots) → at ≡ Some key → NodeTurns key (λ (n : Node). record n { prev = prev }) old new → SetsPrev at prev old new
-prev_set at prev key old new is t = record {
-  here = λ k e. subst (λ (j : ℕ). node_at new j ≡ option_map {T = Node} (λ n. record n { prev = prev }) (node_at old j)) (sym (this_key at key k is e)) t.here;
-  others = λ k ne. t.others k (λ e. ne (is ∙ ap (λ (j : ℕ). Some j) (sym e)));
-  spots_same = t.spots_same;
-}
+prev_set at prev key old new is t = grind arith
 
 -- what is read of a key is what is read of its slot and its note
 pub joined_same : (slots later : List (Option Packed)) (notes noted : List Note) (old : Slots) (key : ℕ) → joined slots notes ≡ old → slice_index_or later key None ≡ slice_index_or slots key None → note_of noted key ≡ note_of notes key
     → slot_at (joined later noted) key ≡ slot_at old key
-joined_same slots later notes noted old key is at same =
-    joined_at later noted key ∙ ap (option_map (λ (p : Packed). slot_shown p (note_of noted key))) at ∙ ap (λ (n : Note). option_map (λ (p : Packed). slot_shown p n) (slice_index_or slots key None)) same
-    ∙ sym (joined_at slots notes key) ∙ ap (λ (s : Slots). slot_at s key) is
+joined_same slots later notes noted old key is at same = grind (arith, joined_at)
 
 pub joined_none : (slots : List (Option Packed)) (notes : List Note) (key : ℕ) → slice_index_or slots key None ≡ None → slot_at (joined slots notes) key ≡ None
 joined_none slots notes key at = joined_at slots notes key ∙ ap (option_map (λ (p : Packed). slot_shown p (note_of notes key))) at
 
 pub joined_some : (slots : List (Option Packed)) (notes : List Note) (key : ℕ) (p : Packed) (note : Note) → slice_index_or slots key None ≡ Some p → note_of notes key ≡ note → slot_at (joined slots notes) key ≡ Some (slot_shown p note)
-joined_some slots notes key p note at is =
-    joined_at slots notes key ∙ ap (option_map (λ (r : Packed). slot_shown r (note_of notes key))) at ∙ ap (λ (n : Note). Some (slot_shown p n)) is
+joined_some slots notes key p note at is = grind (arith, joined_at)
 
 -- a node with another note of its key
 renoted : (p : Packed) (first second : Note) (one other : Node → Node) → ((depth : ℕ) → one (node_shown p first depth) ≡ other (node_shown p second depth)) → with_node one (slot_shown p first) ≡ with_node other (slot_shown p second)
@@ -224,8 +186,7 @@ noted_off p note = ap (λ (n : Option Node). record (slot_shown p note) { node =
     each (Some depth) = ap (λ (m : ℕ). Some (record (node_shown p no_note depth) { mark = m })) (no_mark (notes_shown p.word.notes).closed)
 
 pub unnoted_all : (slots : List (Option Packed)) (notes : List Note) (old : Slots) (key : ℕ) → joined slots notes ≡ old → slot_at (joined slots []) key ≡ option_map (with_node unnoted) (slot_at old key)
-unnoted_all slots notes old key is =
-    joined_at slots [] key ∙ each (slice_index_or slots key None) ∙ ap (option_map (with_node unnoted)) (sym (joined_at slots notes key) ∙ ap (λ (s : Slots). slot_at s key) is)
+unnoted_all slots notes old key is = grind (arith, joined_at, each)
   where
     each : (o : Option Packed) → option_map (λ (p : Packed). slot_shown p no_note) o ≡ option_map (with_node unnoted) (option_map (λ (p : Packed). slot_shown p (note_of notes key)) o)
     each None = refl

@@ -28,9 +28,7 @@ itself n = grind (arith, nat_tests)
 
 stands_has : (ss : Live) (i : ℕ) (s : Space) → slice_get ss i ≡ Some s → has ss s.0 ≡ true
 stands_has [] i s h = absurd (let e : ◌≡◌ {A = Option Space} None (Some s) = h in cc)
-stands_has (x ∷ ss) zero s h =
-    let v : x ≡ s = cc in
-    ap (λ (y : Space). nat_eq y.0 s.0 || has ss s.0) v ∙ ap (λ b. b || has ss s.0) (itself s.0)
+stands_has (x ∷ ss) zero s h = grind arith
 stands_has (x ∷ ss) (suc i) s h = ap (λ b. nat_eq x.0 s.0 || b) (stands_has ss i s h) ∙ or_true (nat_eq x.0 s.0)
 
 pub next_is : (ss : Live) (t : Tables) (from i : ℕ) → shown ss ≡ t → length ss ≤ i → (o : Option ℕ) → LeastSoFar from ss i o → MatchOption o (NoSpaceFrom t.spaces from) (IsNextSpace t.spaces from)

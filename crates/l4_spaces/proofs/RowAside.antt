@@ -17,19 +17,11 @@ place_in high low lt = omega (arith, lt)
 
 -- a table that is there is whole
 pub row_whole : (ts : Rows) (high : ℕ) → AreWhole ts → is_made ts high ≡ true → length (row ts high) ≡ table_pages
-row_whole ts high whole made = elim (whole high) [
-  | inl none ↦ absurd (let z : ◌≡◌ (is_made ts high) true = made in let e : length (row ts high) ≡ 0 = ap length none in grind (arith))
-  | inr all ↦ all
-]
+row_whole ts high whole made = grind arith
 
 module _ (s : Tables) (k high : ℕ) where
   pub row_of : (ts : Rows) → AreTablesOf s k ts → is_made ts high ≡ true → IsRowOf s k high (row ts high)
-  row_of ts a made = record {
-    keys_are = λ low lt. a.keys (high * table_pages + low)
-        ∙ ap (λ (h : ℕ). slice_index_or (row ts h) ((high * table_pages + low) % table_pages) None) (table_of high low lt)
-        ∙ ap (λ (l : ℕ). slice_index_or (row ts high) l None) (place_in high low lt);
-    whole = row_whole ts high a.whole made;
-  }
+  row_of ts a made = grind arith
 
   module _ (old : List (Option ℕ)) (a : IsRowOf s k high old) (low : ℕ) (lt : low < table_pages) where
     pub put_row : (key : ℕ) → IsRowOf (record s { pages = map.insert s.pages (k, high * table_pages + low) key }) k high (slice_set old low (Some key))

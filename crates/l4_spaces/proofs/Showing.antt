@@ -7,12 +7,12 @@ use Rattle.std.specs.FinMap as map
 use Rattle.std.specs.FinMap.{nat_cmp-IsAntisymmetric}
 use Rattle.std.specs.FinSet as set
 use Rattle.std.specs.declared.alloc.Global.{Global}
-use Rattle.std.proofs.lemmas.Bool.{cases_lt, cases_eq}
+use Rattle.std.proofs.lemmas.Bool.{cases_lt}
 use Rattle.std.proofs.lemmas.List.{get_or_past, get_or_default}
 use Rattle.l4_spaces.specs.Tables.{Tables, place_cmp, key_of, table_pages, space_tables, HasRoom, KeepsRoom, KeepsOthersRoom, Empties, IsPresent, NonePresentFrom, IsNextPresent, NonePresentIn, IsNextIn, IsTableIn}
 use Rattle.l4_spaces.specs.Rows.{Rows, row, entry, is_made, IsReady, AreWhole, AreMade, NoneIn, IsFirstIn, IsTableFrom}
 use Rattle.l4_spaces.specs.Inside.Seen.{Space, Live, numbers, has, tables_of, IsOnce, StandsAt, key_at, is_there, shown, IsLaid}
-use Rattle.l4_spaces.proofs.Below.{places_total, tie, untie, is_equal, not_both, decided}
+use Rattle.l4_spaces.proofs.Below.{places_total, tie, untie, is_equal, decided}
 use Rattle.l4_spaces.proofs.Finding.{eq_no, eq_of, ne_of, stands_tables, stands_number, stands_has, no_tables_of, written_here, written_other, written_numbers}
 use Rattle.l4_spaces.proofs.Listing.{key_shown, there_shown, has_shown, pages_are, same_shown, past_entry}
 
@@ -71,16 +71,10 @@ room_made ss k pages h i d lt =
 -- a page with a key has its table, and so has a page whose table is whole
 
 pub ready_shown : (ts : Rows) (page : ℕ) → is_some (entry ts page) ≡ true → IsReady ts page
-ready_shown ts page h = elim (cases_lt (page % table_pages) (length (row ts (page / table_pages)))) [
-  | inl lt ↦ lt
-  | inr le ↦ absurd (let e : entry ts page ≡ None = get_or_past (row ts (page / table_pages)) (page % table_pages) None le in let f : false ≡ true = sym (ap is_some e) ∙ h in cc)
-]
+ready_shown ts page h = grind (arith, get_or_past)
 
 pub ready_made : (ts : Rows) (page : ℕ) → AreWhole ts → is_made ts (page / table_pages) ≡ true → IsReady ts page
-ready_made ts page whole h = elim (whole (page / table_pages)) [
-  | inl none ↦ absurd (let e : false ≡ true = sym (ap (λ (z : List (Option ℕ)). nat_lt 0 (length z)) none) ∙ h in cc)
-  | inr all ↦ omega (arith, all)
-]
+ready_made ts page whole h = grind arith
 
 -- one space's tables were written
 
@@ -91,19 +85,10 @@ pub record Wrote (k : ℕ) (ss new : Live) (old tables : Rows) : Type 0 where
   pub same : numbers new ≡ numbers ss
 
 pub wrote : (ss : Live) (k i : ℕ) (s : Space) (v : Vec (List (Option ℕ)) Global) → StandsAt k ss i → s ≡ slice_index_or ss i s → Wrote k ss (slice_set ss i (s.0, v)) s.1.items v.items
-wrote ss k i s v h is =
-    let n : s.0 ≡ k = ap (λ (r : Space). r.0) is ∙ stands_number k ss i s h in record {
-      was = at_here ss k i s h is;
-      here = written_here k ss i (s.0, v) h n;
-      other = λ q ne. written_other k ss i (s.0, v) q h n ne;
-      same = written_numbers k ss i (s.0, v) h n;
-    }
+wrote ss k i s v h is = grind (arith, stands_number, at_here, written_here, written_other, written_numbers)
 
 pub wrote_all : {k : ℕ} {ss new : Live} {old ts : Rows} (P : ℕ → Rows → Rows → Type 0) → Wrote k ss new old ts → P k old ts → ((q : ℕ) → P q (tables_of ss q) (tables_of ss q)) → (q : ℕ) → P q (tables_of ss q) (tables_of new q)
-wrote_all {k} {ss} {new} {old} {ts} P w here other q = elim (cases_eq q k) [
-  | inl e ↦ subst (λ (j : ℕ). P j (tables_of ss j) (tables_of new j)) (sym e) (subst (λ (t : Rows). P k t (tables_of new k)) (sym w.was) (subst (λ (t : Rows). P k old t) (sym w.here) here))
-  | inr ne ↦ subst (λ (t : Rows). P q (tables_of ss q) t) (sym (w.other q ne)) (other q)
-]
+wrote_all {k} {ss} {new} {old} {ts} P w here other q = grind arith
 
 pub once_same : (ss new : Live) → numbers new ≡ numbers ss → IsOnce ss → IsOnce new
 once_same ss [] e h = tt
@@ -114,17 +99,10 @@ once_same (s ∷ ss) (n ∷ ns) e h =
     ((λ i. list_any (λ y. nat_eq y (number i)) (rest i)) ∙ h.0, once_same ss ns rest h.1)
 
 pub laid : {k : ℕ} {ss new : Live} {old ts : Rows} → Wrote k ss new old ts → IsLaid ss → (AreWhole old → AreWhole ts) → (length old ≤ space_tables → length ts ≤ space_tables) → IsLaid new
-laid {k} {ss} {new} {old} {ts} w l whole full = record {
-  once = once_same ss new w.same l.once;
-  whole = λ q. wrote_all (λ _ a b. AreWhole a → AreWhole b) w whole (λ _ h. h) q (l.whole q);
-  full = λ q. wrote_all (λ _ a b. length a ≤ space_tables → length b ≤ space_tables) w full (λ _ h. h) q (l.full q);
-}
+laid {k} {ss} {new} {old} {ts} w l whole full = grind (arith, once_same, wrote_all)
 
 pub whole_long : (old new : Rows) → ((high : ℕ) → length (row new high) ≡ length (row old high)) → AreWhole old → AreWhole new
-whole_long old new long whole high = elim (whole high) [
-  | inl none ↦ inl (no_items (row new high) (long high ∙ ap length none))
-  | inr all ↦ inr (long high ∙ all)
-]
+whole_long old new long whole high = grind (arith, no_items)
   where
     no_items : (xs : List (Option ℕ)) → length xs ≡ 0 → xs ≡ []
     no_items [] e = refl
@@ -138,22 +116,11 @@ keys_same w same p = wrote_all (λ _ a b. entry b p.1 ≡ entry a p.1) w (same p
 
 -- the page's key is what it was, and so is each other page's
 pub same_entries : (old new : Rows) (page : ℕ) → entry new page ≡ entry old page → ((other : ℕ) → other ≢ page → entry new other ≡ entry old other) → (other : ℕ) → entry new other ≡ entry old other
-same_entries old new page here others other = elim (cases_eq other page) [
-  | inl e ↦ ap (entry new) e ∙ here ∙ sym (ap (entry old) e)
-  | inr ne ↦ others other ne
-]
+same_entries old new page here others other = grind arith
 
 pub keys_put : {k : ℕ} {ss new : Live} {old ts : Rows} (page : ℕ) (key : Option ℕ) → Wrote k ss new old ts → entry ts page ≡ key → ((other : ℕ) → other ≢ page → entry ts other ≡ entry old other)
     → (p : ℕ × ℕ) → key_at new p ≡ cond (eq_by_cmp place_cmp p (k, page)) key (key_at ss p)
-keys_put {k} {ss} {new} {old} {ts} page key w here others p =
-    decided (eq_by_cmp place_cmp p (k, page))
-    (λ t. ap (key_at new) (untie p (k, page) t) ∙ ap (λ (z : Rows). entry z page) w.here ∙ here ∙ sym (ap (λ b. cond b key (key_at ss p)) t))
-    (λ f. (elim (cases_eq p.0 k) [
-      | inl e ↦
-          let ne : p.1 ≢ page = (λ g. not_both _ (tie p (k, page) (λ i. (e i, g i))) f) in
-          ap (λ (j : ℕ). entry (tables_of new j) p.1) e ∙ ap (λ (z : Rows). entry z p.1) w.here ∙ others p.1 ne ∙ sym (ap (λ (z : Rows). entry z p.1) w.was) ∙ sym (ap (λ (j : ℕ). entry (tables_of ss j) p.1) e)
-      | inr ne ↦ ap (λ (z : Rows). entry z p.1) (w.other p.0 ne)
-    ]) ∙ sym (ap (λ b. cond b key (key_at ss p)) f))
+keys_put {k} {ss} {new} {old} {ts} page key w here others p = search (untie, tie, arith)
 
 pub pages_kept : (ss new : Live) (s : Tables) → shown ss ≡ s → ((p : ℕ × ℕ) → key_at new p ≡ key_at ss p) → (shown new).pages ≡ s.pages
 pages_kept ss new s view h = pages_are new s.pages (λ p. found ss s p.0 p.1 view ∙ sym (h p))
@@ -168,10 +135,7 @@ pages_clear ss new s q view h = pages_are new (map.remove s.pages q) (λ p.
 
 -- a page that is absent is cleared by nothing
 pub pages_clear_none : (ss : Live) (s : Tables) (q : ℕ × ℕ) → shown ss ≡ s → key_at ss q ≡ None → s.pages ≡ map.remove s.pages q
-pages_clear_none ss s q view none = sym (ap (λ (t : Tables). t.pages) view) ∙ pages_clear ss ss s q view (λ p.
-    decided (eq_by_cmp place_cmp p q)
-    (λ t. ap (key_at ss) (untie p q t) ∙ none ∙ sym (ap (λ b. cond b None (key_at ss p)) t))
-    (λ f. sym (ap (λ b. cond b None (key_at ss p)) f)))
+pages_clear_none ss s q view none = grind (arith, pages_clear, untie)
 
 -- what the search of a space says
 pub told : (ss : Live) (k : ℕ) (r : Option ℕ) → MatchOption r (has ss k ≡ false) (StandsAt k ss) → is_some r ≡ has ss k
@@ -184,9 +148,7 @@ pub next_absent : (ss : Live) (s : Tables) (k page : ℕ) → shown ss ≡ s →
 next_absent ss s k page view h other le here = let e : false ≡ true = sym (ap is_some (absent_key ss s k other view h)) ∙ here in cc
 
 pub none_at : (ss : Live) (s : Tables) (k : ℕ) (ts : Rows) (other : ℕ) → shown ss ≡ s → tables_of ss k ≡ ts → entry ts other ≡ None → ¬ (IsPresent s k other)
-none_at ss s k ts other view is none here =
-    let n : key_of s k other ≡ None = found_in ss s k other ts view is ∙ none in
-    let e : false ≡ true = sym (ap is_some n) ∙ here in cc
+none_at ss s k ts other view is none here = grind (arith, found_in)
 
 pub next_found : (ss : Live) (s : Tables) (k page end : ℕ) (ts : Rows) (next key : ℕ) → shown ss ≡ s → tables_of ss k ≡ ts → IsFirstIn ts page end next key → IsNextIn s k page end next × (key_of s k next ≡ Some key)
 next_found ss s k page end ts next key view is h =
@@ -267,11 +229,7 @@ once_push (s ∷ ss) k v none h = decided (nat_eq s.0 k)
     (λ f. (has_push ss k v s.0 ∙ ap (λ b. b || nat_eq k s.0) h.0 ∙ eq_no k s.0 (λ e. ne_of s.0 k f (sym e)), once_push ss k v (sym (ap (λ b. b || has ss k) f) ∙ none) h.1))
 
 pub laid_push : (ss : Live) (k : ℕ) (v : Vec (List (Option ℕ)) Global) → has ss k ≡ false → IsLaid ss → v.items ≡ [] → IsLaid (ss ++ (k, v) ∷ [])
-laid_push ss k v new l none = record {
-  once = once_push ss k v new l.once;
-  whole = λ q. subst AreWhole (sym (tables_push ss k v none q)) (l.whole q);
-  full = λ q. subst (λ (ts : Rows). length ts ≤ space_tables) (sym (tables_push ss k v none q)) (l.full q);
-}
+laid_push ss k v new l none = grind (arith, once_push, tables_push)
 
 pub pages_push : (ss : Live) (s : Tables) (k : ℕ) (v : Vec (List (Option ℕ)) Global) → shown ss ≡ s → v.items ≡ [] → (shown (ss ++ (k, v) ∷ [])).pages ≡ s.pages
 pages_push ss s k v view none = pages_kept ss (ss ++ (k, v) ∷ []) s view (λ p. ap (λ (ts : Rows). entry ts p.1) (tables_push ss k v none p.0))
@@ -372,22 +330,10 @@ once_left (s ∷ ss) k h = decided (s.0 == k)
     (λ f. subst IsOnce (sym (ap (λ b. cond (not b) (s ∷ left k ss) (left k ss)) f)) (has_fewer ss k s.0 h.0, once_left ss k h.1))
 
 pub laid_left : (ss : Live) (k : ℕ) → IsLaid ss → IsLaid (left k ss)
-laid_left ss k l = record {
-  once = once_left ss k l.once;
-  whole = λ q. subst AreWhole (sym (tables_left ss k q)) (decided (q == k)
-      (λ t. subst (λ b. AreWhole (cond b [] (tables_of ss q))) (sym t) (λ high. inl refl))
-      (λ f. subst (λ b. AreWhole (cond b [] (tables_of ss q))) (sym f) (l.whole q)));
-  full = λ q. subst (λ (ts : Rows). length ts ≤ space_tables) (sym (tables_left ss k q)) (decided (q == k)
-      (λ t. subst (λ b. length (cond b [] (tables_of ss q)) ≤ space_tables) (sym t) (omega arith))
-      (λ f. subst (λ b. length (cond b [] (tables_of ss q)) ≤ space_tables) (sym f) (l.full q)));
-}
+laid_left ss k l = grind (arith, once_left, tables_left)
 
 pub empties_left : (ss : Live) (s : Tables) (k : ℕ) → shown ss ≡ s → Empties k s (shown (left k ss))
-empties_left ss s k view other page =
-    key_shown (left k ss) other page ∙ ap (λ (ts : Rows). entry ts page) (tables_left ss k other)
-    ∙ decided (other == k)
-    (λ t. ap (λ b. entry (cond b [] (tables_of ss other)) page) t ∙ sym (ap (λ b. cond b None (key_of s other page)) t))
-    (λ f. ap (λ b. entry (cond b [] (tables_of ss other)) page) f ∙ sym (found ss s other page view) ∙ sym (ap (λ b. cond b None (key_of s other page)) f))
+empties_left ss s k view other page = grind (arith, key_shown, tables_left, found)
 
 pub keeps_left : (ss : Live) (s : Tables) (k : ℕ) → shown ss ≡ s → KeepsOthersRoom k s (shown (left k ss))
 keeps_left ss s k view = keeps_others ss (left k ss) s k view (λ q ne. tables_left ss k q ∙ ap (λ b. cond b [] (tables_of ss q)) (eq_no q k ne))
