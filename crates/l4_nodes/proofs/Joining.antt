@@ -95,15 +95,8 @@ pub spot_in : (change : Slot → Slot) → ((s : Slot) → spot_of (change s) �
 spot_in change same None = refl
 spot_in change same (Some s) = ap (λ (x : Spot). Some x) (same s)
 
-spots_in : (key : ℕ) (change : Slot → Slot) (old new : Slots) → ((s : Slot) → spot_of (change s) ≡ spot_of s) → TurnsAt key change old new → (k : ℕ) → spots new k ≡ spots old k
-spots_in key change old new same t k = grind arith
-
 pub node_turned : (key : ℕ) (change : Node → Node) (old new : Slots) → TurnsAt key (with_node change) old new → NodeTurns key change old new
 node_turned key change old new t = grind arith
-
-node_put : (put : Option Node) (o : Option Slot) → o ≢ None → option_and_then (λ (s : Slot). s.node) (option_map (λ (s : Slot). record s { node = put }) o) ≡ put
-node_put put None some = absurd (some refl)
-node_put put (Some s) some = refl
 
 -- a slot's node is this one now
 pub node_written : (key : ℕ) (node : Option Node) (old new : Slots) → TurnsAt key (λ (s : Slot). record s { node = node }) old new → Writes key node old new
@@ -120,10 +113,6 @@ node_set slots notes old key p q change is at turns = node_turned key change old
 
 pub node_left : (slots : List (Option Packed)) (notes : List Note) (old : Slots) (key : ℕ) (change : Node → Node) → joined slots notes ≡ old → None ≡ slice_index_or slots key None → NodeTurns key change old (joined slots notes)
 node_left slots notes old key change is at = node_turned key change old (joined slots notes) (left slots notes old key (with_node change) is (sym at))
-
--- the node that is meant is the one under the key
-this_key : (at : Option ℕ) (key k : ℕ) → at ≡ Some key → at ≡ Some k → k ≡ key
-this_key at key k is e = let z : ◌≡◌ {A = Option ℕ} (Some k) (Some key) = sym e ∙ is in cc
 
 pub next_set : (at next : Option ℕ) (key : ℕ) (old new : Slots) → at ≡ Some key → NodeTurns key (λ (n : Node). record n { next = next }) old new → SetsNext at next old new
 next_set at next key old new is t = grind arith

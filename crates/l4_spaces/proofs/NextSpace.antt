@@ -1,7 +1,6 @@
 -- The least number of a space, as the list of spaces has it.
 use Rattle.std.proofs.Common.{◌≡◌, ℕ, zero, suc, ◌≤◌, ◌||◌, Bool, true, false, nat_eq, [], ◌∷◌, length, slice_get, Option, Some, None, MatchOption, refl, sym, ap, ◌∙◌, subst, inl, inr, arith}
 use Rattle.std.proofs.lemmas.Bool.{cases_eq}
-use Rattle.std.proofs.lemmas.Bool.Decides.{nat_tests}
 use Rattle.std.proofs.lemmas.Option.{slice_get_within}
 use Rattle.l4_spaces.specs.Tables.{Tables}
 use Rattle.l4_spaces.specs.Listed.{NoSpaceFrom, IsNextSpace}
@@ -22,9 +21,6 @@ has_stands (s ∷ ss) k h = elim (cases_eq s.0 k) [
 or_true : (b : Bool) → (b || true) ≡ true
 or_true true = refl
 or_true false = refl
-
-itself : (n : ℕ) → nat_eq n n ≡ true
-itself n = grind (arith, nat_tests)
 
 stands_has : (ss : Live) (i : ℕ) (s : Space) → slice_get ss i ≡ Some s → has ss s.0 ≡ true
 stands_has [] i s h = absurd (let e : ◌≡◌ {A = Option Space} None (Some s) = h in cc)

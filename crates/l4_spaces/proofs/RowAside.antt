@@ -4,20 +4,9 @@ use Rattle.std.proofs.lemmas.Bool.{cases_eq}
 use Rattle.std.proofs.lemmas.List.{get_or-set_same, get_or-set_other, length-set}
 use Rattle.std.specs.FinMap as map
 use Rattle.l4_spaces.specs.Tables.{Tables, key_of, table_pages, space_tables}
-use Rattle.l4_spaces.specs.Rows.{Rows, row, is_made, AreWhole, AreTablesOf, IsRowOf, InTable}
+use Rattle.l4_spaces.specs.Rows.{Rows, row, is_made, AreTablesOf, IsRowOf, InTable}
 use Rattle.l4_spaces.proofs.Rows.{row_here, row_other}
 use Rattle.l4_spaces.proofs.Aside.{put_here, put_other, clear_here, clear_other}
-
--- the number of a page's table, and its place there
-pub table_of : (high low : ℕ) → low < table_pages → (high * table_pages + low) / table_pages ≡ high
-table_of high low lt = omega (arith, lt)
-
-pub place_in : (high low : ℕ) → low < table_pages → (high * table_pages + low) % table_pages ≡ low
-place_in high low lt = omega (arith, lt)
-
--- a table that is there is whole
-pub row_whole : (ts : Rows) (high : ℕ) → AreWhole ts → is_made ts high ≡ true → length (row ts high) ≡ table_pages
-row_whole ts high whole made = grind arith
 
 module _ (s : Tables) (k high : ℕ) where
   pub row_of : (ts : Rows) → AreTablesOf s k ts → is_made ts high ≡ true → IsRowOf s k high (row ts high)
