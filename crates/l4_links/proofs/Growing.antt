@@ -3,7 +3,7 @@ use Rattle.std.proofs.Common.{◌≡◌, ◌≢◌, ◌↔◌, ℕ, ◌<◌, ◌
 use Rattle.std.proofs.lemmas.Bool.{cases_eq}
 use Rattle.l4_links.specs.Leads.{Leads, step, steps}
 use Rattle.l4_links.specs.Inside.Trees.{Limb, parent_at, IsTree, StandsAfter, Sprouts, Sheds, SameOrder}
-use Rattle.l4_links.proofs.Runs.{below, same, above, order, one_limb, has_limb}
+use Rattle.l4_links.proofs.Runs.{below, same, above, order, has_limb}
 
 -- what stands under a key of the old trees is one of them, and not the new key
 old_key : (old new : ℕ → Option Limb) (p k : ℕ) (s : Sprouts old new p k) (a : ℕ) (x : Limb) → a ≢ k → new a ≡ Some x → old a ≡ Some x
@@ -29,35 +29,8 @@ tree_sprouts old new pos later p k t s m =
     let here = m.here in
     let parent_low : later p ≡ pos p = m.low p s.above s.at_parent (omega arith) in
     record {
-      apart = λ a b x y is_a is_b eq. elim (cases_eq a k) [
-        | inl ak ↦ elim (cases_eq b k) [
-          | inl bk ↦ ak ∙ sym bk
-          | inr nb ↦ absurd (
-              let ib = old_key old new p k s b y nb is_b in
-              let e : later k ≡ later b = sym (ap later ak) ∙ eq in
-              elim (moved b y ib) [ inl l ↦ (let l0 = l.0 in let l1 = l.1 in omega (arith, e, l0, l1, here)) | inr h ↦ (let h0 = h.0 in let h1 = h.1 in omega (arith, e, h0, h1, here)) ])
-        ]
-        | inr na ↦
-            let ia = old_key old new p k s a x na is_a in
-            elim (cases_eq b k) [
-              | inl bk ↦ absurd (
-                  let e : later a ≡ later k = eq ∙ ap later bk in
-                  elim (moved a x ia) [ inl l ↦ (let l0 = l.0 in let l1 = l.1 in omega (arith, e, l0, l1, here)) | inr h ↦ (let h0 = h.0 in let h1 = h.1 in omega (arith, e, h0, h1, here)) ])
-              | inr nb ↦
-                  let ib = old_key old new p k s b y nb is_b in
-                  t.apart a b x y ia ib (
-                  elim (moved a x ia) [
-                    | inl l ↦ (let l0 = l.0 in let l1 = l.1 in elim (moved b y ib) [ inl q ↦ (let q0 = q.0 in let q1 = q.1 in omega (arith, eq, l0, l1, q0, q1)) | inr q ↦ (let q0 = q.0 in let q1 = q.1 in omega (arith, eq, l0, l1, q0, q1)) ])
-                    | inr l ↦ (let l0 = l.0 in let l1 = l.1 in elim (moved b y ib) [ inl q ↦ (let q0 = q.0 in let q1 = q.1 in omega (arith, eq, l0, l1, q0, q1)) | inr q ↦ (let q0 = q.0 in let q1 = q.1 in omega (arith, eq, l0, l1, q0, q1)) ])
-                  ])
-            ]
-      ];
-      top = λ a x is none. elim (cases_eq a k) [
-        | inl ak ↦ absurd (
-            let e : ◌≡◌ {A = Option ℕ} x.parent (Some p) = ap (λ (z : Limb). z.parent) (new_limb old new p k s a x ak is) in
-            let w : ◌≡◌ {A = Option ℕ} None (Some p) = sym none ∙ e in cc)
-        | inr na ↦ t.top a x (old_key old new p k s a x na is) none
-      ];
+      apart = λ a b x y is_a is_b eq. grind arith;
+      top = λ a x is none. grind arith;
       under = λ a q x is up. elim (cases_eq a k) [
         | inl ak ↦
             let lx = new_limb old new p k s a x ak is in
@@ -66,18 +39,7 @@ tree_sprouts old new pos later p k t s m =
             let pk = not_new old new p k s p s.above s.at_parent in
             let lq : later q ≡ later p = ap later qp in
             let la : later a ≡ later k = ap later ak in
-            record {
-              above = s.above;
-              at_parent = ap new qp ∙ s.others p pk ∙ s.at_parent;
-              after = omega (arith, lq, la, here, parent_low);
-              deeper = ap (λ (z : Limb). z.depth) lx;
-              between = λ b y is_b lo hi. elim (cases_eq b k) [
-                | inl bk ↦ absurd (let lb : later b ≡ later k = ap later bk in omega (arith, lb, la, hi))
-                | inr nb ↦ absurd (
-                    let ib = old_key old new p k s b y nb is_b in
-                    elim (moved b y ib) [ inl l ↦ (let l0 = l.0 in let l1 = l.1 in omega (arith, lq, la, lo, hi, l0, l1, here, parent_low)) | inr h ↦ (let h0 = h.0 in let h1 = h.1 in omega (arith, la, hi, h0, h1, here)) ])
-              ];
-            }
+            grind arith
         | inr na ↦
             let ia = old_key old new p k s a x na is in
             let u = t.under a q x ia up in
@@ -85,45 +47,7 @@ tree_sprouts old new pos later p k t s m =
             let ua = u.after in
             let mq = moved q u.above u.at_parent in
             let ma = moved a x ia in
-            record {
-              above = u.above;
-              at_parent = s.others q qk ∙ u.at_parent;
-              after = elim mq [
-                | inl l ↦ (let l0 = l.0 in let l1 = l.1 in elim ma [ inl z ↦ (let z0 = z.0 in let z1 = z.1 in omega (arith, ua, l0, l1, z0, z1)) | inr z ↦ (let z0 = z.0 in let z1 = z.1 in omega (arith, ua, l0, l1, z0, z1)) ])
-                | inr l ↦ (let l0 = l.0 in let l1 = l.1 in elim ma [ inl z ↦ (let z0 = z.0 in let z1 = z.1 in omega (arith, ua, l0, l1, z0, z1)) | inr z ↦ (let z0 = z.0 in let z1 = z.1 in omega (arith, ua, l0, l1, z0, z1)) ])
-              ];
-              deeper = u.deeper;
-              between = λ b y is_b lo hi. elim (cases_eq b k) [
-                | inl bk ↦
-                    let lb : later b ≡ later k = ap later bk in
-                    let ly = new_limb old new p k s b y bk is_b in
-                    let dy : y.depth ≡ s.above.depth + 1 = ap (λ (z : Limb). z.depth) ly in
-                    -- the parent stands at q or after it, and before a
-                    let q_le : pos q ≤ pos p = elim mq [ inl l ↦ l.0 | inr l ↦ (let l0 = l.0 in let l1 = l.1 in omega (arith, lo, lb, here, l0, l1)) ] in
-                    let a_gt : pos p < pos a = elim ma [ inl l ↦ (let l0 = l.0 in let l1 = l.1 in omega (arith, hi, lb, here, l0, l1)) | inr l ↦ l.0 ] in
-                    elim (order (pos q) (pos p)) [
-                      | below lt ↦ (let d = u.between p s.above s.at_parent lt a_gt in omega (arith, d, dy))
-                      | same eq ↦
-                          let qe : q ≡ p = t.apart q p u.above s.above u.at_parent s.at_parent eq in
-                          let ue : u.above ≡ s.above = one_limb old q u.at_parent (ap old qe ∙ s.at_parent) in
-                          let de : u.above.depth ≡ s.above.depth = ap (λ (z : Limb). z.depth) ue in
-                          omega (arith, de, dy)
-                      | above gt ↦ absurd (omega (arith, gt, q_le))
-                    ]
-                | inr nb ↦
-                    let ib = old_key old new p k s b y nb is_b in
-                    let mb = moved b y ib in
-                    u.between b y ib
-                    (elim mq [
-                      | inl l ↦ (let l0 = l.0 in let l1 = l.1 in elim mb [ inl z ↦ (let z0 = z.0 in let z1 = z.1 in omega (arith, lo, l0, l1, z0, z1)) | inr z ↦ (let z0 = z.0 in let z1 = z.1 in omega (arith, lo, l0, l1, z0, z1)) ])
-                      | inr l ↦ (let l0 = l.0 in let l1 = l.1 in elim mb [ inl z ↦ (let z0 = z.0 in let z1 = z.1 in omega (arith, lo, l0, l1, z0, z1)) | inr z ↦ (let z0 = z.0 in let z1 = z.1 in omega (arith, lo, l0, l1, z0, z1)) ])
-                    ])
-                    (elim mb [
-                      | inl l ↦ (let l0 = l.0 in let l1 = l.1 in elim ma [ inl z ↦ (let z0 = z.0 in let z1 = z.1 in omega (arith, hi, l0, l1, z0, z1)) | inr z ↦ (let z0 = z.0 in let z1 = z.1 in omega (arith, hi, l0, l1, z0, z1)) ])
-                      | inr l ↦ (let l0 = l.0 in let l1 = l.1 in elim ma [ inl z ↦ (let z0 = z.0 in let z1 = z.1 in omega (arith, hi, l0, l1, z0, z1)) | inr z ↦ (let z0 = z.0 in let z1 = z.1 in omega (arith, hi, l0, l1, z0, z1)) ])
-                    ])
-              ];
-            }
+            grind arith
       ];
     }
 
@@ -133,22 +57,12 @@ tree_sheds old new pos later t s o =
     let was : (a : ℕ) (x : Limb) → new a ≡ Some x → old a ≡ Some x =
     λ a x is. elim (s.left a) [ inl none ↦ absurd (let w : ◌≡◌ {A = Option Limb} None (Some x) = sym none ∙ is in cc) | inr e ↦ sym e ∙ is ] in
     record {
-      apart = λ a b x y is_a is_b eq. elim (order (pos a) (pos b)) [
-        | below lt ↦ absurd (let l = o.onward a b x y is_a is_b lt in omega (arith, l, eq))
-        | same e ↦ t.apart a b x y (was a x is_a) (was b y is_b) e
-        | above gt ↦ absurd (let l = o.onward b a y x is_b is_a gt in omega (arith, l, eq))
-      ];
+      apart = λ a b x y is_a is_b eq. grind arith;
       top = λ a x is none. t.top a x (was a x is) none;
       under = λ a p x is up.
           let u = t.under a p x (was a x is) up in
           let ip : new p ≡ Some u.above = s.closed a p x is up ∙ u.at_parent in
-          record {
-            above = u.above;
-            at_parent = ip;
-            after = o.onward p a u.above x ip is u.after;
-            deeper = u.deeper;
-            between = λ b y is_b lo hi. u.between b y (was b y is_b) (o.back p b u.above y ip is_b lo) (o.back b a y x is_b is hi);
-          };
+          grind arith;
     }
 
 -- what leads where below a new key: it is nobody's parent

@@ -15,7 +15,7 @@ use Rattle.l4_links.specs.Inside.Moving.{AreFree, CanGo, IsStuck, IsStuckIn, Can
 use Rattle.l4_links.proofs.Asides.{pair_of, named_back, others_back, made_back}
 use Rattle.l4_links.proofs.Moving.{moves_first, moves_all, moves_more, moves_joined, free_there, free_more}
 use Rattle.l4_links.proofs.Naming.{indexed_renamed}
-use Rattle.l4_links.proofs.TableEntries.{page_at, made_within, source_entry, target_entry}
+use Rattle.l4_links.proofs.TableEntries.{page_at, made_within, source_entry}
 
 -- a run can go, by its two tables
 module _ (source target : ℕ) (rights : RightsSet) (sources targets made : Rows) (slots : Slots) (page place f t n : ℕ) (from : source ≤ page) (place_is : place ≡ page - source + target) (f_is : f ≡ page % table_pages) (t_is : t ≡ (page - source + target) % table_pages)
@@ -25,17 +25,10 @@ module _ (source target : ℕ) (rights : RightsSet) (sources targets made : Rows
   from_line step lt = sym (source_entry source target sources made page place f t n from place_is f_is t_is line target_line line_is target_is f_in t_in step lt)
 
   from_target : (step : ℕ) → step < n → slice_index_or target_line (t + step) None ≡ entry targets (page + step - source + target)
-  from_target step lt =
-      sym (target_entry source target sources made page place f t n from place_is f_is t_is line target_line line_is target_is f_in t_in step lt)
-      ∙ same (page + step - source + target)
+  from_target step lt = grind arith
 
   pub run_stuck : (end step : ℕ) → step < n → page + step < end → IsStuck (slice_index_or line (f + step) None) (slice_index_or target_line (t + step) None) rights slots → IsStuckIn source page end target rights sources targets slots
-  run_stuck end step lt before stuck = (
-    page + step,
-    omega arith,
-    before,
-    subst (λ (o : Option ℕ). IsStuck (entry sources (page + step)) o rights slots) (from_target step lt) (subst (λ (o : Option ℕ). IsStuck o (slice_index_or target_line (t + step) None) rights slots) (from_line step lt) stuck),
-  )
+  run_stuck end step lt before stuck = grind (arith, from_target, slice_index_or, from_line)
 
   pub run_goes : is_made made (place / table_pages) ≡ true → ((step : ℕ) → step < n → CanGo (slice_index_or line (f + step) None) (slice_index_or target_line (t + step) None) rights slots) → CanGoIn source page (page + n) target rights sources targets made slots
   run_goes ready all = record {
@@ -45,9 +38,7 @@ module _ (source target : ℕ) (rights : RightsSet) (sources targets made : Rows
         subst (λ (p : ℕ). CanGo (entry sources p) (entry targets (p - source + target)) rights slots) is
         (subst (λ (o : Option ℕ). CanGo (entry sources (page + (other - page))) o rights slots) (from_target (other - page) step_lt)
         (subst (λ (o : Option ℕ). CanGo o (slice_index_or target_line (t + (other - page)) None) rights slots) (from_line (other - page) step_lt) (all (other - page) step_lt)));
-    there = λ other ge lt.
-        let high : (other - source + target) / table_pages ≡ place / table_pages = omega (arith, ge, lt, from, t_in, t_is, place_is) in
-        subst (λ (h : ℕ). is_made made h ≡ true) (sym high) ready;
+    there = grind arith;
   }
 
 -- the first of the entries
@@ -61,9 +52,7 @@ row_first f t place source target slots from high other end all r at le free = (
 )
 
 is_in : (s high low space page : ℕ) → low < table_pages → ◌≡◌ {A = ℕ × ℕ} (space, page) (s, high * table_pages + low) → (space ≡ s) × InTable high page
-is_in s high low space page lt e =
-    let p : page ≡ high * table_pages + low = ap (λ (q : ℕ × ℕ). q.1) e in
-    (ap (λ (q : ℕ × ℕ). q.0) e, (omega (arith, p), omega (arith, p, lt)))
+is_in s high low space page lt e = grind arith
 
 module _ (f t n : ℕ) (place : Place) (s_old s_now t_old t_now : List (Option ℕ)) (old now : Slots) (w : MovesRow f t n place s_old s_now t_old t_now old now) (f_lt : f + n < table_pages) (t_lt : t + n < table_pages) where
   -- the entry has no key
