@@ -1,6 +1,6 @@
 -- Items whose pages rise share none.
 use Rattle.std.proofs.Common.{◌≡◌, ◌≢◌, ℕ, ◌+◌, ◌<◌, ◌≤◌, ◌^◌, ◌⊎◌, Bool, true, false, ◌||◌, List, length, Some, refl, ap, sym, ◌∙◌, slice_get, inl, inr, arith}
-use Rattle.std.proofs.lemmas.Bool.{cases_lt, false≢true}
+use Rattle.std.proofs.lemmas.Bool.{cases_lt}
 use Rattle.l4_nodes.specs.declared.Place.{Place as LinkPlace}
 use Rattle.l4_links.specs.Entries.{Entries}
 use Rattle.l4_msg.specs.declared.items.ItemMove.{ItemMove}
@@ -8,8 +8,6 @@ use Rattle.l4_mapdb.specs.declared.sources.UsedMove.{UsedMove}
 use Rattle.l4_mapdb.specs.Inside.Messages.{IsMoved}
 use Rattle.l4_mapdb.specs.Inside.Tangles.{AreApart, Replaces, Clashes, HasTangle}
 use Rattle.l4_mapdb.proofs.Moves.{one_by, move_item}
-use Rattle.l4_mapdb.proofs.Marking.{by_key}
-use Rattle.l4_mapdb.proofs.Restored.{by_bool}
 
 -- the items before this number end before these pages, and grant only where that is said
 pub record EndBy (items : List ItemMove) (end source target : ℕ) (grants : Bool) : Type 0 where
@@ -36,40 +34,10 @@ module _ (items : List ItemMove) (item source target : ℕ) (grants : Bool) (by 
   -- one more
   pub ends_more : (own next_source next_target : ℕ) → source ≤ next_source → own ≤ next_source → own ≡ by.mv.source.first + 2 ^ by.mv.source.log → next_target ≡ by.mv.target.first + 2 ^ by.mv.target.log
       → EndBy items (item + 1) next_source next_target (grants || by.grant)
-  ends_more own next_source next_target source_on own_on source_end target_end = record {
-    sources = λ k other lt is. by_key k item
-        (λ e. let n : other.mv.source.first + 2 ^ other.mv.source.log ≡ by.mv.source.first + 2 ^ by.mv.source.log = ap (λ (x : ItemMove). x.mv.source.first + 2 ^ x.mv.source.log) (same_item k other e is) in
-        omega (arith, n, source_end, own_on))
-        (λ ne. let before = ends.sources k other (omega (arith, lt, ne)) is in omega (arith, before, source_on));
-    targets = λ k other lt is. by_key k item
-        (λ e. let n : other.mv.target.first + 2 ^ other.mv.target.log ≡ by.mv.target.first + 2 ^ by.mv.target.log = ap (λ (x : ItemMove). x.mv.target.first + 2 ^ x.mv.target.log) (same_item k other e is) in
-        omega (arith, n, target_end))
-        (λ ne. let before = ends.targets k other (omega (arith, lt, ne)) is in omega (arith, before, t, target_end));
-    none = λ no k other lt is. by_key k item
-        (λ e. ap (λ (x : ItemMove). x.grant) (same_item k other e is) ∙ (either_no grants by.grant no).1)
-        (λ ne. ends.none (either_no grants by.grant no).0 k other (omega (arith, lt, ne)) is);
-  }
+  ends_more own next_source next_target source_on own_on source_end target_end = grind arith
 
   pub apart_more : (grants || by.grant ≡ true → source ≤ by.mv.source.first) → AreApart items item → AreApart items (item + 1)
-  apart_more s apart low high a b less lt is_low is_high = by_key high item
-      (λ e.
-      let same : b ≡ by = same_item high b e is_high in
-      let sources = ends.sources low a (omega (arith, less, e)) is_low in
-      let targets = ends.targets low a (omega (arith, less, e)) is_low in
-      let source_is : b.mv.source.first ≡ by.mv.source.first = ap (λ (x : ItemMove). x.mv.source.first) same in
-      let target_is : b.mv.target.first ≡ by.mv.target.first = ap (λ (x : ItemMove). x.mv.target.first) same in
-      record {
-        source = λ one.
-            let le = s (elim one [
-              | inl first ↦ by_bool grants
-                  (λ yes. first_yes grants by.grant yes)
-                  (λ no. absurd (false≢true (sym (ends.none no low a (omega (arith, less, e)) is_low) ∙ first)))
-              | inr second ↦ either_yes grants by.grant (ap (λ (x : ItemMove). x.grant) (sym same) ∙ second)
-            ]) in
-            omega (arith, sources, le, source_is);
-        target = omega (arith, targets, t, target_is);
-      })
-      (λ ne. apart low high a b less (omega (arith, lt, ne)) is_low is_high)
+  apart_more s apart low high a b less lt is_low is_high = grind arith
 
 module _ (s : Entries) (from to : ℕ) (items : List ItemMove) (apart : AreApart items (length items)) where
   abbrev Used : UsedMove → Type 0

@@ -1,19 +1,17 @@
 -- A message whose items have brought what they bring is delivered.
-use Rattle.std.proofs.Common.{◌≡◌, ℕ, ◌+◌, ◌-◌, false, List, length, Option, Some, None, IsTrue, option_map, refl, sym, ap, ◌∙◌, subst, inl, inr, arith}
+use Rattle.std.proofs.Common.{◌≡◌, ℕ, ◌+◌, ◌-◌, false, List, length, Some, None, IsTrue, option_map, refl, sym, ap, ◌∙◌, subst, inl, inr, arith}
 use Rattle.std.proofs.lemmas.Bool.{false≢true}
 use Rattle.std.proofs.lemmas.Option.{slice_get_within}
 use Rattle.std.specs.FinSet as set
 use Rattle.l4_fpage.specs.Rights.{common}
 use Rattle.l4_nodes.specs.declared.Place.{Place as LinkPlace}
-use Rattle.l4_links.specs.declared.Standing.{Standing}
 use Rattle.l4_links.specs.declared.Entry.{Entry}
-use Rattle.l4_links.specs.Entries.{Linked, entry_at, IsAt, HavePlaces, moved_place, IsShared, source_of, target_of, end_of, IsDue, IsFilled, Brings, AreOverLeaves, LacksKey}
+use Rattle.l4_links.specs.Entries.{Linked, entry_at, IsAt, HavePlaces, IsShared, source_of, end_of, IsDue, IsFilled, Brings, AreOverLeaves, LacksKey}
 use Rattle.l4_msg.specs.declared.items.ItemMove.{ItemMove}
-use Rattle.l4_mapdb.specs.declared.Place.{Place}
 use Rattle.l4_mapdb.specs.declared.Mapping.{Mapping}
 use Rattle.l4_mapdb.specs.declared.sources.UsedMove.{UsedMove}
 use Rattle.l4_mapdb.specs.Mappings.{shown}
-use Rattle.l4_mapdb.specs.Transfer.{PageMove, IsUsed, IsEntangled, IsGone}
+use Rattle.l4_mapdb.specs.Transfer.{PageMove, IsUsed, IsGone}
 use Rattle.l4_mapdb.specs.View.{link_place, map_place, mapping_of, mappings_of}
 use Rattle.l4_mapdb.specs.Delivering.{IsClean, IsDelivered}
 use Rattle.l4_mapdb.specs.Inside.Messages.{IsMoved}

@@ -1,5 +1,5 @@
 -- What is cut below granted pages is what the transfer's definition cuts.
-use Rattle.std.proofs.Common.{◌≡◌, ◌≢◌, ℕ, ◌^◌, true, List, length, Option, Some, None, option_and_then, option_map, ◌↔◌, inl, inr, IsTrue, refl, sym, ap, ◌∙◌, subst, arith}
+use Rattle.std.proofs.Common.{◌≡◌, ◌≢◌, ℕ, true, List, length, Option, Some, None, option_and_then, option_map, ◌↔◌, inl, inr, IsTrue, refl, sym, ap, ◌∙◌, subst, arith}
 use Rattle.l4_fpage.specs.Rights.{RightsSet, Right, has, no_rights}
 use Rattle.l4_nodes.specs.declared.Place.{Place as LinkPlace}
 use Rattle.l4_links.specs.declared.Standing.{Standing}
@@ -14,7 +14,7 @@ use Rattle.l4_mapdb.specs.Mappings as map
 use Rattle.l4_mapdb.specs.Losing.{LosesRights}
 use Rattle.l4_mapdb.specs.Transfer.{PageMove, IsCut}
 use Rattle.l4_mapdb.proofs.Unique.{same_value, same_rights}
-use Rattle.l4_mapdb.specs.View.{link_place, map_place, place_at, mapping_of, mappings_of}
+use Rattle.l4_mapdb.specs.View.{link_place, map_place, mappings_of}
 use Rattle.l4_mapdb.specs.Inside.Cutting.{IsGrantedAt, IsOrBelow, LeavesRights, AtOneOf, Tidies}
 use Rattle.l4_mapdb.specs.Inside.Messages.{OfItems}
 use Rattle.l4_mapdb.specs.Inside.Placing.{IsStart, Used, Placed}
@@ -49,9 +49,7 @@ parent_settled s key = ap (λ (o : Option Entry). option_and_then (λ (t : Stand
     over (Some e) = elim e.stands as (λ (o : Option Standing). option_and_then (λ (t : Standing). t.parent) (option_map settled_standing o) ≡ option_and_then (λ (t : Standing). t.parent) o) [ None ↦ refl | Some t ↦ refl ]
 
 settled_stand : (s : Linked) (key : ℕ) (t : Standing) → standing_at s.entries key ≡ Some t → standing_at (settled s).entries key ≡ Some (settled_standing t)
-settled_stand s key t at =
-    let e = some_standing s.entries key t at in
-    ap (option_and_then (λ (x : Entry). x.stands)) (at_settled s key ∙ ap settled_entry e.1) ∙ ap (option_map settled_standing) e.2
+settled_stand s key t at = grind (arith, some_standing, ap, option_and_then, at_settled, option_map)
 
 -- so a place descends from another where its key descends from that one's
 settled_descends : (s : Linked) → HavePlaces s → AreTrees s.entries → (low high : ℕ) (p q : Place) → IsAt s.entries (link_place p) low → IsAt s.entries (link_place q) high → map.Descends (mappings_of (settled s)) p q ↔ Descends s.entries low high

@@ -1,5 +1,5 @@
 -- What is so or isn't.
-use Rattle.std.proofs.Common.{◌≡◌, ◌≢◌, ℕ, ◌<◌, ◌≤◌, ◌==◌, Bool, true, false, not, ◌⊎◌, inl, inr, refl, ap, arith}
+use Rattle.std.proofs.Common.{◌≡◌, ◌≢◌, ℕ, ◌<◌, ◌≤◌, ◌==◌, Bool, true, false, not, ◌⊎◌, inl, inr, refl, arith}
 use Rattle.std.specs.Bool.{beq}
 use Rattle.std.proofs.lemmas.Bool.Decides.{nat_tests}
 use Rattle.std.proofs.lemmas.Bool.{cases_lt}
@@ -18,12 +18,7 @@ less_or a b = cases_lt a b
 
 -- a set of rights is empty or not
 pub none_or : (a : RightsSet) → (a ≡ no_rights) ⊎ (a ≢ no_rights)
-none_or a = by_bits a.r a.w a.x where
-  by_bits : (r w x : Bool) → ◌≡◌ {A = RightsSet} (record { r = r; w = w; x = x }) no_rights ⊎ ◌≢◌ {A = RightsSet} (record { r = r; w = w; x = x }) no_rights
-  by_bits true w x = inr (λ e. let k : true ≡ false = ap (λ (a : RightsSet). a.r) e in cc)
-  by_bits false true x = inr (λ e. let k : true ≡ false = ap (λ (a : RightsSet). a.w) e in cc)
-  by_bits false false true = inr (λ e. let k : true ≡ false = ap (λ (a : RightsSet). a.x) e in cc)
-  by_bits false false false = inl refl
+none_or a = grind arith
 
 -- what a test of two truth values says
 pub truths_agree : (a b : Bool) → not (beq a b) ≡ false → a ≡ b

@@ -12,7 +12,7 @@ use Rattle.l4_mapdb.proofs.Unique.{same_value}
 use Rattle.l4_mapdb.specs.declared.sources.UsedMove.{UsedMove}
 use Rattle.l4_mapdb.specs.Delivering.{IsClean}
 use Rattle.l4_mapdb.specs.Inside.Messages.{plain, stand_at, StandAlike, IsMoved, turn, turn_of, IsNextMove, IsWaiting, Marks}
-use Rattle.l4_mapdb.proofs.Moves.{stand_of, found_of, with_place, one_by, move_at, move_page}
+use Rattle.l4_mapdb.proofs.Moves.{found_of, with_place, one_by, move_at, move_page}
 
 -- by cases on keys
 pub by_key : {A : Type 0} (a b : ℕ) → (a ≡ b → A) → (a ≢ b → A) → A
@@ -49,9 +49,7 @@ sourced_stand source (Some e) = elim e.stands as (λ (t : Option Standing). stan
 ]
 
 pub alike_sourced : (key : ℕ) (source : Bool) (old new : Entries) → SetsSource key source old new → StandAlike old new
-alike_sourced key source old new sets k = by_key k key
-    (λ e. subst (λ (x : ℕ). stand_at new x ≡ stand_at old x) (sym e) (ap stand_in sets.here ∙ sourced_stand source (entry_at old key)))
-    (λ ne. ap stand_in (sets.others k ne))
+alike_sourced key source old new sets k = grind arith
 
 -- what is the source after a mark
 marked_is : (o : Option Entry) (t : Standing) → option_and_then (λ (e : Entry). e.stands) (sourced true o) ≡ Some t
@@ -74,29 +72,17 @@ waited (Some f) e h w =
     let same : record f { stands = option_map (λ (t : Standing). record t { source = true }) f.stands } ≡ e = same_value h in (
       f,
       refl,
-      elim w [
-        | inl wanted ↦ inl (ap (λ (x : Entry). x.wanted) same ∙ wanted)
-        | inr none ↦ inr (elim f.stands as (λ (o : Option Standing). option_map (λ (t : Standing). record t { source = true }) o ≡ None → o ≡ None) [
-          | None ↦ λ _. refl
-          | Some t ↦ λ is. absurd (let k : ◌≡◌ {A = Option Standing} (Some (record t { source = true })) None = is in cc)
-        ] (ap (λ (x : Entry). x.stands) same ∙ none))
-      ],
+      grind arith,
       ap (λ (x : Entry). x.place) same,
     )
 
 -- a key that is of a source
 pub source_of : (s : Entries) (key : ℕ) → IsSource s key → (t : Standing) × (standing_at s key ≡ Some t) × (t.source ≡ true)
-source_of s key h =
-    elim (standing_at s key) as (λ (o : Option Standing). standing_at s key ≡ o → option_map (λ (t : Standing). t.source) o ≡ Some true → (t : Standing) × (standing_at s key ≡ Some t) × (t.source ≡ true)) [
-      | None ↦ λ _ is. absurd (let k : ◌≡◌ {A = Option Bool} None (Some true) = is in cc)
-      | Some t ↦ λ at is. (t, at, same_value is)
-    ] refl h
+source_of s key h = grind arith
 
 -- what stands under a key of a stand
 pub standing_of : (s : Entries) (key : ℕ) (p : LinkPlace) (t : Standing) → stand_at s key ≡ Some (p, t) → (u : Standing) × (standing_at s key ≡ Some u) × (plain u ≡ t)
-standing_of s key p t h =
-    let o = stand_of s key p t h in
-    (o.standing, ap (option_and_then (λ (e : Entry). e.stands)) o.at ∙ o.stands, o.plain_is)
+standing_of s key p t h = grind arith
 
 module _ (s : Linked) (have : HavePlaces s) (from to : ℕ) (items : List ItemMove) where
   -- there is one used move of an item out of a page
@@ -167,23 +153,7 @@ module _ (old : Linked) (have : HavePlaces old) (from to : ℕ) (items : List It
   pub marks_source : (cur new : Entries) (start : ℕ) (u : UsedMove) → IsNextMove cur from to items start u → SetsSource u.source true cur new → Marks Used old.entries cur → Marks Used old.entries new
   marks_source cur new start u is sets marks =
       let here : Used u = moved_alike old.entries cur from to items marks.alike u is.moved in
-      record {
-        alike = alike_on old.entries cur new marks.alike (alike_sourced u.source true cur new sets);
-        sources = λ key source. by_key key u.source
-            (λ e. (u, here, sym e))
-            (λ ne. marks.sources key (ap (λ (o : Option Entry). option_map (λ (t : Standing). t.source) (option_and_then (λ (x : Entry). x.stands) o)) (sym (sets.others key ne)) ∙ source));
-        targets = λ key e at waits. by_key key u.source
-            (λ same.
-            let w = waited (entry_at cur u.source) e (sym sets.here ∙ ap (entry_at new) (sym same) ∙ at) waits in
-            let t = marks.targets u.source w.0 w.1 w.2 in
-            (t.0, t.1, t.2 ∙ w.3))
-            (λ ne. marks.targets key e (sym (sets.others key ne) ∙ at) waits);
-        not_granted = λ key t stands. by_key key u.source
-            (λ same.
-            let m = marked_is (entry_at cur u.source) t (ap (option_and_then (λ (x : Entry). x.stands)) (sym sets.here ∙ ap (entry_at new) (sym same)) ∙ stands) in
-            ap (λ (x : Standing). x.granted) m.2 ∙ marks.not_granted u.source m.0 m.1)
-            (λ ne. marks.not_granted key t (ap (option_and_then (λ (x : Entry). x.stands)) (sym (sets.others key ne)) ∙ stands));
-      }
+      search (alike_on, alike_sourced, true, by_key, sym, ap, Option, option_map, option_and_then, waited, marked_is, arith)
 
   pub sources_more : (cur new : Entries) (start : ℕ) (u : UsedMove) → IsNextMove cur from to items start u → SetsSource u.source true cur new → StandAlike old.entries cur
       → ((m : UsedMove) → Used m → turn_of m < start → IsSource cur m.source) → (m : UsedMove) → Used m → turn_of m < turn u.item (u.page + 1) → IsSource new m.source

@@ -10,9 +10,9 @@ use Rattle.l4_links.specs.declared.Entry.{Entry}
 use Rattle.l4_links.specs.Entries.{IsPlain, Linked, entry_at, IsAt, HavePlaces}
 use Rattle.l4_mapdb.specs.declared.Mapping.{Mapping}
 use Rattle.l4_msg.specs.declared.items.ItemMove.{ItemMove}
-use Rattle.l4_mapdb.specs.Mappings.{Mappings, shown, child}
+use Rattle.l4_mapdb.specs.Mappings.{Mappings, shown}
 use Rattle.l4_mapdb.specs.Transfer.{PageMove, IsGone}
-use Rattle.l4_mapdb.specs.View.{link_place, map_place, place_at, mappings_of}
+use Rattle.l4_mapdb.specs.View.{link_place, map_place, mappings_of}
 use Rattle.l4_mapdb.specs.Inside.View.{IsShown}
 use Rattle.l4_mapdb.proofs.EntriesLemmas.{decided}
 use Rattle.l4_mapdb.specs.Inside.Placing.{IsStart, Used, HasGone, IsLeftAt, HasChild, Placed}

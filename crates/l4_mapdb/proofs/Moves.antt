@@ -33,11 +33,7 @@ opened e None p t is h = absurd (let k : ◌≡◌ {A = Option (LinkPlace × Sta
 opened e (Some u) p t is h = let both : (e.place, plain u) ≡ (p, t) = same_value h in (u, is, ap (λ (x : LinkPlace × Standing). x.0) both, ap (λ (x : LinkPlace × Standing). x.1) both)
 
 pub stand_of : (s : Entries) (key : ℕ) (p : LinkPlace) (t : Standing) → stand_at s key ≡ Some (p, t) → StandsAs s key p t
-stand_of s key p t h =
-    elim (entry_at s key) as (λ (o : Option Entry). entry_at s key ≡ o → option_and_then (λ (e : Entry). option_map (with_place e.place) e.stands) o ≡ Some (p, t) → StandsAs s key p t) [
-      | None ↦ λ _ is. absurd (let k : ◌≡◌ {A = Option (LinkPlace × Standing)} None (Some (p, t)) = is in cc)
-      | Some e ↦ λ at is. let o = opened e e.stands p t refl is in record { entry = e; standing = o.0; at = at; stands = o.1; place_is = o.2; plain_is = o.3 }
-    ] refl h
+stand_of s key p t h = grind arith
 
 pub stands_as : (s : Entries) (key : ℕ) (e : Entry) (t : Standing) → entry_at s key ≡ Some e → e.stands ≡ Some t → stand_at s key ≡ Some (e.place, plain t)
 stands_as s key e t at stands =
@@ -50,11 +46,7 @@ pub record Found (s : Entries) (key : ℕ) (t : Standing) : Type 0 where
   pub stands : entry.stands ≡ Some t
 
 pub found_of : (s : Entries) (key : ℕ) (t : Standing) → standing_at s key ≡ Some t → Found s key t
-found_of s key t h =
-    elim (entry_at s key) as (λ (o : Option Entry). entry_at s key ≡ o → option_and_then (λ (e : Entry). e.stands) o ≡ Some t → Found s key t) [
-      | None ↦ λ _ is. absurd (let k : ◌≡◌ {A = Option Standing} None (Some t) = is in cc)
-      | Some e ↦ λ at is. record { entry = e; at = at; stands = is }
-    ] refl h
+found_of s key t h = grind arith
 
 -- a key is of its entry's place
 pub is_at : (s : Entries) (key : ℕ) (e : Entry) (p : LinkPlace) → entry_at s key ≡ Some e → e.place ≡ p → IsAt s p key
@@ -67,11 +59,7 @@ pub stand_place : (s : Entries) (key : ℕ) (p : LinkPlace) (t : Standing) → s
 stand_place s key p t h = let o = stand_of s key p t h in ap (option_map {T = Entry} (λ x. map_place x.place)) o.at ∙ ap (λ (x : LinkPlace). Some (map_place x)) o.place_is
 
 pub entry_of : (s : Entries) (key : ℕ) (p : LinkPlace) → IsAt s p key → (e : Entry) × (entry_at s key ≡ Some e) × (e.place ≡ p)
-entry_of s key p h =
-    elim (entry_at s key) as (λ (o : Option Entry). entry_at s key ≡ o → option_map {T = Entry} (λ x. x.place) o ≡ Some p → (e : Entry) × (entry_at s key ≡ Some e) × (e.place ≡ p)) [
-      | None ↦ λ _ is. absurd (let k : ◌≡◌ {A = Option LinkPlace} None (Some p) = is in cc)
-      | Some e ↦ λ at is. (e, at, same_value is)
-    ] refl h
+entry_of s key p h = grind arith
 
 pub at_there : (s : Entries) (key : ℕ) (p : LinkPlace) → IsAt s p key → entry_at s key ≢ None
 at_there s key p h none = let k : ◌≡◌ {A = Option LinkPlace} None (Some p) = sym (ap (option_map {T = Entry} (λ x. x.place)) none) ∙ h in cc
@@ -93,13 +81,7 @@ module _ (s : Entries) (from to : ℕ) (items : List ItemMove) where
 
   pub move_block : (m : UsedMove) (used : Used m) (item : ℕ) (by : ItemMove) → slice_get items item ≡ Some by → m.item ≡ item
       → (by.mv.source.first ≤ m.page) × (m.page < by.mv.source.first + 2 ^ by.mv.source.log)
-  move_block m used item by at is =
-      let same : used.by ≡ by = one_by items item used.by by (ap (slice_get items) (sym is) ∙ used.item) at in
-      let first : used.by.mv.source.first ≡ by.mv.source.first = ap (λ (x : ItemMove). x.mv.source.first) same in
-      let size : 2 ^ used.by.mv.source.log ≡ 2 ^ by.mv.source.log = ap (λ (x : ItemMove). 2 ^ x.mv.source.log) same in
-      let i = used.pages.within in
-      let p = used.pages.source_is in
-      (omega (arith, first, p), omega (arith, first, size, i, p))
+  move_block m used item by at is = grind arith
 
   pub move_page : (m : UsedMove) → Used m → m.page < most_pages
   move_page m used = let i = used.pages.within in let p = used.pages.source_is in let f = used.by.mv.source.block.inside in omega (arith, i, p, f)
@@ -108,18 +90,7 @@ module _ (s : Entries) (from to : ℕ) (items : List ItemMove) where
   pub shares_none : (item page key : ℕ) (by : ItemMove) (t : Standing) → slice_get items item ≡ Some by
       → ((k : ℕ) → IsAt s (record { space = from; page = page }) k → k ≡ key) → standing_at s key ≡ Some t → is_none (common t.rights by.rights) ≡ true
       → (m : UsedMove) → Used m → m.item ≡ item → m.page ≢ page
-  shares_none item page key by t at one stands none m used item_is page_is =
-      let place : ◌≡◌ {A = LinkPlace} (record { space = from; page = m.page }) (record { space = from; page = page }) = λ i. record { space = from; page = page_is i } in
-      let here : m.source ≡ key = one m.source (subst (λ (p : LinkPlace). IsAt s p m.source) place (move_at m used)) in
-      let o = stand_of s m.source (record { space = from; page = m.page }) used.standing used.stands in
-      let stood : standing_at s m.source ≡ Some o.standing = ap (option_and_then (λ (e : Entry). e.stands)) o.at ∙ o.stands in
-      let same : o.standing ≡ t = same_value (sym stood ∙ ap (standing_at s) here ∙ stands) in
-      let rights : used.standing.rights ≡ t.rights = ap (λ (x : Standing). x.rights) (sym o.plain_is) ∙ ap (λ (x : Standing). x.rights) same in
-      let same_by : used.by ≡ by = one_by items item used.by by (ap (slice_get items) (sym item_is) ∙ used.item) at in
-      let both : common used.standing.rights used.by.rights ≡ common t.rights by.rights = λ i. common (rights i) (same_by i).rights in
-      let out : not (is_none (common used.standing.rights used.by.rights)) ≡ true = (none_is (common used.standing.rights used.by.rights)).1 used.some_right in
-      let k : not true ≡ true = sym (ap not (ap is_none both ∙ none)) ∙ out in
-      cc
+  shares_none item page key by t at one stands none m used item_is page_is = search (subst, move_at, stand_of, Some, ap, option_and_then, same_value, sym, one_by, slice_get, not, true, none_is, arith)
 
   -- what has one is moved
   pub shares_some : (item page key : ℕ) (by : ItemMove) (t : Standing) → slice_get items item ≡ Some by → IsAt s (record { space = from; page = page }) key
@@ -146,9 +117,7 @@ module _ (s : Entries) (from to : ℕ) (items : List ItemMove) where
   NoneBetween item page start = (m : UsedMove) → Used m → m.item ≡ item → page ≤ m.page → start ≤ m.page
 
   pub between_first : (item page start : ℕ) (by : ItemMove) → slice_get items item ≡ Some by → (start ≡ page) ⊎ (start ≡ by.mv.source.first) → NoneBetween item page start
-  between_first item page start by at is m used item_is ge =
-      let b = move_block m used item by at item_is in
-      elim is [ inl e ↦ omega (arith, e, ge) | inr e ↦ omega (arith, e, b) ]
+  between_first item page start by at is m used item_is ge = grind arith
 
   pub between_more : (item page start end next : ℕ) (by : ItemMove) → slice_get items item ≡ Some by → end ≡ by.mv.source.first + 2 ^ by.mv.source.log → IsNextKeyIn s from start end next
       → ((m : UsedMove) → Used m → m.item ≡ item → m.page ≢ next) → NoneBetween item page start → NoneBetween item page (next + 1)
@@ -185,29 +154,10 @@ module _ (s : Entries) (from to : ℕ) (items : List ItemMove) where
   NoneFrom start item page = (m : UsedMove) → Used m → start ≤ turn_of m → turn item page ≤ turn_of m
 
   pub from_more : (start item page : ℕ) → ((m : UsedMove) → Used m → m.item ≡ item → m.page < page) → NoneFrom start item page → NoneFrom start (item + 1) 0
-  from_more start item page none before m used after =
-      let here = before m used after in
-      let fits = move_page m used in
-      elim (cases_lt item m.item) [
-        | inl lt ↦ omega (arith, lt)
-        | inr ge ↦ elim (cases_lt m.item item) [
-          | inl less ↦ absurd (omega (arith, here, fits, less))
-          | inr same ↦
-              let e : m.item ≡ item = omega arith in
-              let lt = none m used e in
-              absurd (omega (arith, here, e, lt))
-        ]
-      ]
+  from_more start item page none before m used after = grind arith
 
   pub from_all : (start item page : ℕ) → length items ≤ item → NoneFrom start item page → (m : UsedMove) → Used m → turn_of m < start
-  from_all start item page all before m used = elim (cases_lt (turn_of m) start) [
-    | inl lt ↦ lt
-    | inr ge ↦
-        let here = before m used ge in
-        let lt = move_item m used in
-        let fits = move_page m used in
-        absurd (omega (arith, here, lt, fits, all))
-  ]
+  from_all start item page all before m used = grind (arith, cases_lt, inl, inr, move_item, move_page, arith)
 
   pub from_found : (start item page : ℕ) (u : UsedMove) → IsNextOfItem s from to items item page u → start ≤ turn item page → NoneFrom start item page → IsNextMove s from to items start u
   from_found start item page u is after before =
@@ -220,14 +170,5 @@ module _ (s : Entries) (from to : ℕ) (items : List ItemMove) where
         first = λ other moved from_start.
             let here = before other moved from_start in
             let other_fits = move_page other moved in
-            elim (cases_lt item other.item) [
-              | inl lt ↦ omega (arith, item_is, fits, lt)
-              | inr le ↦ elim (cases_lt other.item item) [
-                | inl less ↦ absurd (omega (arith, here, other_fits, less))
-                | inr same ↦
-                    let e : other.item ≡ item = omega arith in
-                    let first = is.first other moved e (omega (arith, here, e)) in
-                    omega (arith, item_is, e, first)
-              ]
-            ];
+            grind arith;
       }

@@ -1,7 +1,7 @@
 -- A message with one item, which grants, is delivered once the pages of its block are moved.
 use Rattle.std.proofs.Common.{◌≡◌, ℕ, zero, suc, ◌+◌, ◌-◌, ◌^◌, ◌⊎◌, Bool, true, false, ◌&&◌, List, [], ◌∷◌, length, Option, Some, None, IsTrue, refl, sym, ap, ◌∙◌, subst, slice_get, inl, inr, arith}
 use Rattle.std.specs.FinSet as set
-use Rattle.l4_fpage.specs.Rights.{RightsSet, Right, Read, Write, Execute, has, Within, common}
+use Rattle.l4_fpage.specs.Rights.{RightsSet, Read, Write, Execute, has, Within, common}
 use Rattle.l4_nodes.specs.declared.Place.{Place as LinkPlace}
 use Rattle.l4_links.specs.declared.Standing.{Standing}
 use Rattle.l4_links.specs.declared.Entry.{Entry}
@@ -11,7 +11,7 @@ use Rattle.l4_msg.specs.declared.items.ItemMove.{ItemMove}
 use Rattle.l4_mapdb.specs.declared.Mapping.{Mapping}
 use Rattle.l4_mapdb.specs.declared.sources.UsedMove.{UsedMove}
 use Rattle.l4_mapdb.specs.Mappings.{shown}
-use Rattle.l4_mapdb.specs.Transfer.{PageMove, IsUsed, IsGone, IsCut}
+use Rattle.l4_mapdb.specs.Transfer.{PageMove, IsUsed, IsGone}
 use Rattle.l4_mapdb.specs.View.{link_place, map_place, mapping_of, mappings_of}
 use Rattle.l4_mapdb.specs.Delivering.{IsClean, IsDelivered}
 use Rattle.l4_mapdb.specs.Inside.Messages.{plain, IsMoved}

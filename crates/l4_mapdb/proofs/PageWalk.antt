@@ -7,7 +7,6 @@ use Rattle.l4_links.specs.declared.Standing.{Standing}
 use Rattle.l4_links.specs.Entries.{Linked, entry_at, IsAt, HasKey, HavePlaces}
 use Rattle.l4_msg.specs.declared.items.ItemMove.{ItemMove}
 use Rattle.l4_mapdb.specs.Transfer.{PageMove, IsGone}
-use Rattle.l4_mapdb.proofs.Single.{one_grant}
 use Rattle.l4_mapdb.proofs.UsedMoves.{known_moves}
 use Rattle.l4_mapdb.specs.View.{link_place, map_place, mappings_of}
 use Rattle.l4_mapdb.specs.Inside.Placing.{IsStart, Used, blank_for, HasGone, IsBefore, earlier, same, IsDone, MapsPage, GrantsPage, MovesPage, MovesNone, HasBlank, Placed}
@@ -34,23 +33,11 @@ module _ (start now : Linked) (from to : ℕ) (items : List ItemMove) (ready : I
   kind_of v used item_is = used.grant ∙ ap (λ (x : ItemMove). x.grant) (same_by v used item_is)
 
   block_of : (v : PageMove) → ItemMoves v → v.item ≡ item → (by.mv.source.first ≤ v.source.page) × (v.source.page < by.mv.source.first + 2 ^ by.mv.source.log)
-  block_of v used item_is =
-      let by_is = same_by v used item_is in
-      let f : used.by.mv.source.first ≡ by.mv.source.first = ap (λ (x : ItemMove). x.mv.source.first) by_is in
-      let l : 2 ^ used.by.mv.source.log ≡ 2 ^ by.mv.source.log = ap (λ (x : ItemMove). 2 ^ x.mv.source.log) by_is in
-      let w = used.pages.within in
-      let s = used.pages.source_is in
-      (omega (arith, f, s), omega (arith, f, l, s, w))
+  block_of v used item_is = grind arith
 
   -- of a move that is still to be done the source is as it was
   not_gone : (v : PageMove) → ItemMoves v → v.item ≡ item → begin ≤ v.source.page → ¬ (HasGone start from to items (IsDone start from to items kind item begin) (link_place v.source))
-  not_gone v used item_is le g = elim g.done [
-    | inl d ↦ d.1 g.grant
-    | inr d ↦
-        let g_is : v.grant ≡ true = kind_of v used item_is ∙ of_kind ∙ sym d.0 ∙ g.grant in
-        let e : v ≡ g.move = one_grant ItemMoves (mappings_of start) (known_moves (mappings_of start) from to items) ready.free v g.move used g.used g_is (sym (same_link g.move.source v.source g.source)) in
-        undone v (kind_of v used item_is ∙ of_kind) item_is le (subst (λ (x : PageMove). IsDone start from to items kind item begin x) (sym e) g.done)
-  ]
+  not_gone v used item_is le g = grind arith
 
   has_key : (v : PageMove) → ItemMoves v → v.item ≡ item → begin ≤ v.source.page → HasKey now.entries from v.source.page
   has_key v used item_is le =

@@ -46,10 +46,7 @@ clean_at old clean b alike place key at =
 
 -- nothing stands in an entry that shows nothing
 stand_none : (s : Entries) (key : ℕ) (e : Entry) → entry_at s key ≡ Some e → stand_at s key ≡ None → e.stands ≡ None
-stand_none s key e at none = elim e.stands as (λ (o : Option Standing). e.stands ≡ o → o ≡ None) [
-  | None ↦ λ _. refl
-  | Some t ↦ λ is. absurd (let k : ◌≡◌ {A = Option (LinkPlace × Standing)} None (Some (e.place, plain t)) = sym none ∙ stands_as s key e t at is in cc)
-] refl
+stand_none s key e at none = grind arith
 
 -- an entry that is cut off and wanted is a blank
 wanted_cut : (e : Entry) → e.wanted ≡ true → cut_off (Some e) ≡ Some (record { place = e.place; wanted = true; stands = None })
@@ -60,13 +57,7 @@ unwanted_cut e unwanted = ap (λ (b : Bool). if b then Some (record e { stands =
 
 -- a mark is all that differs
 marked_is : (t u : Standing) → plain t ≡ plain u → t.granted ≡ None → u.granted ≡ None → t ≡ record u { source = t.source }
-marked_is t u same granted was = λ i. record {
-  frame = (same i).frame;
-  rights = (same i).rights;
-  source = t.source;
-  granted = (granted ∙ sym was) i;
-  parent = (same i).parent;
-}
+marked_is t u same granted was = grind arith
 
 module _ (old : Linked) (clean : IsClean old) (from to : ℕ) (items : List ItemMove) (cur : Entries) (room : Roomed (IsMoved old.entries from to items) old.entries cur) where
   abbrev Moves : UsedMove → Type 0
@@ -88,10 +79,7 @@ module _ (old : Linked) (clean : IsClean old) (from to : ℕ) (items : List Item
   pub room_stay : AreTrees cur → ¬ (HasTangle Moves old.entries) → (m : UsedMove) → IsMoved cur from to items m → ¬ (Goes (IsMoved cur from to items) cur m.source)
   room_stay trees free m used g =
       let o = stand_of cur m.source (record { space = from; page = m.page }) used.standing used.stands in
-      let stands : IsStanding cur g.top = elim g.below [
-        | inl e ↦ λ none. (let k : ◌≡◌ {A = Option Standing} None (Some o.standing) = sym none ∙ ap (standing_at cur) (sym e) ∙ ap (option_and_then (λ (x : Entry). x.stands)) o.at ∙ o.stands in cc)
-        | inr d ↦ leads_stands cur trees d
-      ] in
+      let stands : IsStanding cur g.top = grind (arith, inl, Option, None, Some, sym, ap, option_and_then, inr, leads_stands) in
       free (tangle_alike old.entries cur room.marked.marks.alike from to items (record {
         move = g.move;
         used = g.used;
@@ -160,10 +148,7 @@ module _ (old : Linked) (clean : IsClean old) (have : HavePlaces old) (trees : A
   gone_of key e at g =
       let b = became key e at in
       let m = was g.move g.used in
-      let stands : IsStanding cur.entries g.top = elim g.below [
-        | inl same ↦ λ none. (let k : ◌≡◌ {A = Option Standing} None (Some b.now) = sym none ∙ ap (standing_at cur.entries) (sym same) ∙ ap (option_and_then (λ (x : Entry). x.stands)) b.at ∙ b.stands in cc)
-        | inr d ↦ leads_stands cur.entries trees_cur d
-      ] in
+      let stands : IsStanding cur.entries g.top = grind (arith, inl, Option, None, Some, sym, ap, option_and_then, inr, leads_stands) in
       let top = alike_at old.entries cur.entries room.marked.marks.alike g.move.target g.top g.at stands in
       record {
         move = page_move old have trees from to items g.move m;

@@ -16,7 +16,7 @@ use Rattle.l4_mapdb.specs.Inside.Cutting.{bare, tidied, IsGrantedAt, Tidies}
 use Rattle.l4_mapdb.proofs.Caps.{bare_tidied}
 use Rattle.l4_mapdb.specs.Inside.Tangles.{Clashes, Tangles, HasTangle}
 use Rattle.l4_mapdb.proofs.Leading.{leads_along}
-use Rattle.l4_mapdb.proofs.Moves.{stand_of, stands_as, with_place, found_of, is_at, entry_of}
+use Rattle.l4_mapdb.proofs.Moves.{stand_of, stands_as, with_place, is_at}
 use Rattle.l4_mapdb.proofs.Marking.{moved_alike, alike_on}
 use Rattle.l4_mapdb.proofs.Rooming.{wants_alike}
 
@@ -31,10 +31,7 @@ plain_is t source granted = λ i. record { frame = t.frame; rights = t.rights; s
 
 -- an entry without a mark
 pub unmarked_is : (e : Entry) (t : Standing) → e.wanted ≡ false → e.stands ≡ Some t → t.source ≡ false → t.granted ≡ None → Some e ≡ tidied (Some e)
-unmarked_is e t unwanted stands source granted =
-    let one : e ≡ record { place = e.place; wanted = false; stands = Some (plain t) } =
-    λ i. record { place = e.place; wanted = unwanted i; stands = (stands ∙ ap (λ (x : Standing). Some x) (sym (plain_is t source granted))) i } in
-    ap (λ (x : Entry). Some x) one ∙ sym (ap (option_map (λ (x : Standing). record e { wanted = false; stands = Some (plain x) })) stands)
+unmarked_is e t unwanted stands source granted = grind arith
 
 -- clean entries are what they are without their marks
 clean_none : (old : Linked) → IsClean old → (key : ℕ) → stand_at old.entries key ≡ None → entry_at old.entries key ≡ None
@@ -57,14 +54,7 @@ clean_some old clean key place t is =
 
 -- what is left of an entry without its marks is what was there
 tidied_was : (old : Linked) → IsClean old → (cur : Entries) (key : ℕ) → stand_at cur key ≡ stand_at old.entries key → tidied (entry_at cur key) ≡ entry_at old.entries key
-tidied_was old clean cur key alike =
-    elim (entry_at cur key) as (λ (o : Option Entry). option_and_then (λ (e : Entry). option_map (with_place e.place) e.stands) o ≡ stand_at old.entries key → tidied o ≡ entry_at old.entries key) [
-      | None ↦ λ is. sym (clean_none old clean key (sym is))
-      | Some e ↦ λ is. elim e.stands as (λ (o : Option Standing). option_map (with_place e.place) o ≡ stand_at old.entries key → option_map (λ (t : Standing). record e { wanted = false; stands = Some (plain t) }) o ≡ entry_at old.entries key) [
-        | None ↦ λ none. sym (clean_none old clean key (sym none))
-        | Some t ↦ λ some. sym (clean_some old clean key e.place (plain t) (sym some))
-      ] is
-    ] alike
+tidied_was old clean cur key alike = grind (arith, Option, option_and_then, option_map, with_place, None, sym, clean_none, Some, false, clean_some)
 
 -- entries that are the same apart from rights, and have the same rights, are one
 by_rights : (o n : Option Standing) → option_map (λ (t : Standing). record t { rights = no_rights }) n ≡ option_map (λ (t : Standing). record t { rights = no_rights }) o → ((t u : Standing) → o ≡ Some t → n ≡ Some u → u.rights ≡ t.rights) → n ≡ o
@@ -86,11 +76,7 @@ bare_exact (Some e) (Some f) same rights =
 
 tidied_stands : (o : Option Entry) (t : Standing) → option_and_then (λ (e : Entry). e.stands) (tidied o) ≡ Some t → (u : Standing) × (option_and_then (λ (e : Entry). e.stands) o ≡ Some u) × (u.rights ≡ t.rights)
 tidied_stands None t at = absurd (let z : ◌≡◌ {A = Option Standing} None (Some t) = at in cc)
-tidied_stands (Some e) t at =
-    elim e.stands as (λ (o : Option Standing). option_and_then (λ (x : Entry). x.stands) (tidied (Some (record e { stands = o }))) ≡ Some t → (u : Standing) × (o ≡ Some u) × (u.rights ≡ t.rights)) [
-      | None ↦ λ none. absurd (let z : ◌≡◌ {A = Option Standing} None (Some t) = none in cc)
-      | Some u ↦ λ is. (u, refl, ap (λ (x : Standing). x.rights) (same_value is))
-    ] at
+tidied_stands (Some e) t at = grind arith
 
 -- a used move is of pages that the items name
 pub target_in : (from to : ℕ) (items : List ItemMove) (item : ℕ) (by : ItemMove) (source : ℕ) (place : LinkPlace) → slice_get items item ≡ Some by → place.space ≡ to → MovePairs (Some by.mv) source place.page → OfItems from to items (length items) place
@@ -170,18 +156,10 @@ module _ (old : Linked) (clean : IsClean old) (from to : ℕ) (items : List Item
 
   -- what is only looked at keeps its marks
   marks_same : (a b : Entries) → ((key : ℕ) → entry_at b key ≡ entry_at a key) → Marks Used old.entries a → Marks Used old.entries b
-  marks_same a b same marks = record {
-    alike = λ key. ap (option_and_then (λ (e : Entry). option_map (with_place e.place) e.stands)) (same key) ∙ marks.alike key;
-    sources = λ key source. marks.sources key (ap (λ (o : Option Entry). option_map (λ (x : Standing). x.source) (option_and_then (λ (x : Entry). x.stands) o)) (sym (same key)) ∙ source);
-    targets = λ key e at waits. marks.targets key e (sym (same key) ∙ at) waits;
-    not_granted = λ key t stands. marks.not_granted key t (ap (option_and_then (λ (x : Entry). x.stands)) (sym (same key)) ∙ stands);
-  }
+  marks_same a b same marks = grind arith
 
   pub marked_same : (a b : Entries) → ((key : ℕ) → entry_at b key ≡ entry_at a key) → AreMarked Used old.entries a → AreMarked Used old.entries b
-  marked_same a b same marked = record {
-    marks = marks_same a b same marked.marks;
-    sources = λ m used. ap (λ (o : Option Entry). option_map (λ (x : Standing). x.source) (option_and_then (λ (x : Entry). x.stands) o)) (same m.source) ∙ marked.sources m used;
-  }
+  marked_same a b same marked = grind arith
 
   pub wants_stands : (A : LinkPlace → Type 0) (o n : Option Entry) → Wants A o n → option_and_then (λ (x : Entry). x.stands) n ≡ option_and_then (λ (x : Entry). x.stands) o
   wants_stands A o n (inl same) = ap (option_and_then (λ (x : Entry). x.stands)) same
@@ -230,19 +208,7 @@ alike_descends a b alike low high d = leads_along (parent_of b) (parent_of a) (a
 
 -- a key where something stands is of the same page
 pub alike_at : (a b : Entries) → StandAlike a b → (place : LinkPlace) (key : ℕ) → IsAt b place key → IsStanding b key → IsAt a place key × IsStanding a key
-alike_at a b alike place key at stands =
-    elim (standing_at b key) as (λ (o : Option Standing). standing_at b key ≡ o → IsAt a place key × IsStanding a key) [
-      | None ↦ λ none. absurd (stands none)
-      | Some t ↦ λ is.
-          let f = found_of b key t is in
-          let e = entry_of b key place at in
-          let same : f.entry ≡ e.0 = same_value (sym f.at ∙ e.1) in
-          let here : stand_at a key ≡ Some (place, plain t) = sym (alike key) ∙ stands_as b key f.entry t f.at f.stands ∙ ap (λ (p : LinkPlace). Some (p, plain t)) (ap (λ (x : Entry). x.place) same ∙ e.2) in
-          let o = stand_of a key place (plain t) here in (
-            is_at a key o.entry place o.at o.place_is,
-            λ none. let k : ◌≡◌ {A = Option Standing} None (Some o.standing) = sym none ∙ ap (option_and_then (λ (x : Entry). x.stands)) o.at ∙ o.stands in cc,
-          )
-    ] refl
+alike_at a b alike place key at stands = grind arith
 
 -- a message that is entangled is where the same stands
 module _ (a b : Entries) (alike : StandAlike a b) (from to : ℕ) (items : List ItemMove) where

@@ -1,19 +1,18 @@
 -- Targets are wanted, one used move after another, once the sources are marked.
-use Rattle.std.proofs.Common.{◌≡◌, ℕ, false, List, Option, Some, None, option_and_then, option_map, sym, ap, ◌∙◌, inl, inr}
+use Rattle.std.proofs.Common.{◌≡◌, ℕ, List, Option, Some, None, option_map, sym, ap, ◌∙◌, inl, inr}
 use Rattle.l4_nodes.specs.declared.Place.{Place as LinkPlace}
 use Rattle.l4_links.specs.declared.Standing.{Standing}
 use Rattle.l4_links.specs.declared.Entry.{Entry}
 use Rattle.l4_links.specs.Entries.{Entries, Linked, entry_at, IsAt}
 use Rattle.l4_msg.specs.declared.items.ItemMove.{ItemMove}
-use Rattle.l4_mapdb.specs.declared.Cause.{Cause}
-use Rattle.l4_mapdb.specs.declared.Cause.TheVariants.{Entangled, NoMemory}
+use Rattle.l4_mapdb.specs.declared.Cause.TheVariants.{NoMemory}
 use Rattle.l4_mapdb.specs.declared.sources.UsedMove.{UsedMove}
 use Rattle.l4_mapdb.specs.Delivering.{IsClean}
-use Rattle.l4_mapdb.specs.Inside.Messages.{StandAlike, IsMoved, IsWanted, IsFilled, Wants, AreMarked, Roomed, LacksKey}
+use Rattle.l4_mapdb.specs.Inside.Messages.{IsMoved, IsWanted, IsFilled, Wants, AreMarked, Roomed, LacksKey}
 use Rattle.l4_mapdb.specs.Inside.Tangles.{HasTangle}
 use Rattle.l4_mapdb.proofs.Marking.{moved_alike, moved_still}
 use Rattle.l4_mapdb.proofs.Rooming.{wants_on, wants_alike}
-use Rattle.l4_mapdb.proofs.Restored.{marks_wanted, wants_stands, tangle_alike}
+use Rattle.l4_mapdb.proofs.Restored.{marks_wanted, wants_stands}
 use Rattle.l4_mapdb.proofs.Prepared.{clean_at}
 
 -- the target of one more used move is wanted

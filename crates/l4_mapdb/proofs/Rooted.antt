@@ -1,5 +1,5 @@
 -- Clean entries whose roots are known show a forest.
-use Rattle.std.proofs.Common.{◌≡◌, ◌≢◌, ℕ, zero, suc, ◌+◌, ◌<◌, ◌≤◌, ◌⊎◌, inl, inr, List, length, Option, Some, None, IsTrue, option_and_then, option_map, refl, sym, ap, ◌∙◌, subst, slice_get, arith}
+use Rattle.std.proofs.Common.{◌≡◌, ℕ, zero, suc, ◌<◌, ◌≤◌, ◌⊎◌, inl, inr, List, length, Option, Some, None, IsTrue, option_and_then, option_map, refl, sym, ap, ◌∙◌, subst, slice_get, arith}
 use Rattle.std.proofs.lemmas.Bool.{cases_lt}
 use Rattle.std.proofs.lemmas.List.{get_or_past}
 use Rattle.std.specs.FinSet as set
@@ -81,10 +81,7 @@ module _ (s : Linked) (have : HavePlaces s) (trees : AreTrees s.entries) (clean 
     below : (key ≡ top) ⊎ links.Descends s.entries key top
 
   within : (key : ℕ) (t : Standing) → standing_at s.entries key ≡ Some t → key < length s.entries
-  within key t at = elim (cases_lt key (length s.entries)) [
-    | inl lt ↦ lt
-    | inr le ↦ absurd (let z : ◌≡◌ {A = Option Standing} None (Some t) = sym (ap (option_and_then (λ (e : Entry). e.stands)) (get_or_past s.entries key None le)) ∙ at in cc)
-  ]
+  within key t at = grind (arith, cases_lt, length, inl, inr, Option, None, Some, sym, ap, option_and_then, get_or_past)
 
   root_of : (fuel key : ℕ) (t : Standing) → standing_at s.entries key ≡ Some t → above_count key (length s.entries) < fuel → HasRoot key t
   root_of zero key t at lt = absurd (omega (arith, lt))
@@ -120,10 +117,7 @@ module _ (s : Linked) (have : HavePlaces s) (trees : AreTrees s.entries) (clean 
       let e = some_standing s.entries r.top r.root r.at in
       let place_is : map_place u.entry.place ≡ place = ap map_place u.place_is in (
         map_place e.0.place,
-        elim r.below [
-          | inl same ↦ inl (sym place_is ∙ ap map_place (ap (λ (x : Entry). x.place) (same_value (sym u.at ∙ ap (entry_at s.entries) same ∙ e.1))))
-          | inr d ↦ inr ((descends_by_key s have trees u.key r.top place (map_place e.0.place) (at_place s.entries u.key u.entry u.at ∙ ap (λ (p : LinkPlace). Some p) u.place_is) (at_place s.entries r.top e.0 e.1)).1 d)
-        ],
+        grind (arith, inl, sym, ap, same_value, inr, descends_by_key, at_place, Some),
         record {
           mapping = mapping_of s.entries r.root;
           at = key_shows s have r.top e.0 r.root e.1 e.2;

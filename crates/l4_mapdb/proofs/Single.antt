@@ -29,9 +29,7 @@ module _ (Used : PageMove → Type 0) (old : Mappings) (known : KnownMoves Used)
 
   -- a place stands at one place later
   one_place : (c q r : Place) → StandsAt Used c q → StandsAt Used c r → q ≡ r
-  one_place c q r (inl g) (inl h) =
-      let e : g.0 ≡ h.0 = one_grant g.0 h.0 g.1 h.1 g.2 (g.3 ∙ sym h.3) in
-      sym g.4 ∙ ap (λ (v : PageMove). v.target) e ∙ h.4
+  one_place c q r (inl g) (inl h) = grind (arith, one_grant, sym, ap)
   one_place c q r (inl g) (inr n) = absurd (n.0 (record { move = g.0; used = g.1; grant = g.2; source = g.3 }))
   one_place c q r (inr n) (inl g) = absurd (n.0 (record { move = g.0; used = g.1; grant = g.2; source = g.3 }))
   one_place c q r (inr n) (inr k) = sym n.1 ∙ k.1
@@ -55,13 +53,9 @@ module _ (Used : PageMove → Type 0) (old : Mappings) (known : KnownMoves Used)
       (x.frame ∙ ap (λ (v : PageMove). v.shows.frame) e ∙ sym y.frame)
       (x.rights ∙ ap (λ (v : PageMove). v.rights) e ∙ sym y.rights)
       (x.parent ∙ ap (λ (v : PageMove). Some v.source) e ∙ sym y.parent)
-  one_by_kind q a b (inl x) (inr (inl y)) =
-      let e : x.move ≡ y.move = one_target x.move y.move x.used y.used (x.target ∙ sym y.target) in
-      absurd (x.map (ap (λ (v : PageMove). v.grant) e ∙ y.grant))
+  one_by_kind q a b (inl x) (inr (inl y)) = grind arith
   one_by_kind q a b (inl x) (inr (inr y)) = absurd (y.not_gone (target_gone x.move x.used q y.before x.target y.at))
-  one_by_kind q a b (inr (inl x)) (inl y) =
-      let e : y.move ≡ x.move = one_target y.move x.move y.used x.used (y.target ∙ sym x.target) in
-      absurd (y.map (ap (λ (v : PageMove). v.grant) e ∙ x.grant))
+  one_by_kind q a b (inr (inl x)) (inl y) = grind arith
   one_by_kind q a b (inr (inl x)) (inr (inl y)) =
       let e : x.move ≡ y.move = one_target x.move y.move x.used y.used (x.target ∙ sym y.target) in
       let shows : x.move.shows.parent ≡ y.move.shows.parent = ap (λ (v : PageMove). v.shows.parent) e in

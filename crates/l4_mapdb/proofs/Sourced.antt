@@ -65,11 +65,7 @@ module _ (start now : Linked) (from to : ℕ) (items : List ItemMove) (ready : I
             let same : e ≡ granted_for t.move t.used.by.rights p.standing = one_here key p.key e (granted_for t.move t.used.by.rights p.standing) at (granted_place t.move t.used d g) (sym t.target) in
             let z : ◌≡◌ {A = Option RightsSet} None (Some t.used.by.rights) = sym plain ∙ ap (option_and_then (λ (x : Standing). x.granted)) (sym stands) ∙ ap note same in
             cc
-        | false ↦ λ g.
-            let c = placed.mapped t.move t.used d (λ h. let z : false ≡ true = sym g ∙ h in cc) in
-            let same : e ≡ child_for t.move c.parent = one_here key c.key e (child_for t.move c.parent) at c.at (sym t.target) in
-            let z : ◌≡◌ {A = Option Bool} (Some true) (Some false) = ap Some (sym source) ∙ ap (option_map (λ (x : Standing). x.source)) (sym stands) ∙ ap mark same in
-            cc
+        | false ↦ search (false, true, sym, one_here, Option, Bool, Some, ap, option_map, arith)
       ] refl
 
   -- what stands at a page as a source that is not granted, stood there before the message
@@ -103,17 +99,7 @@ module _ (start now : Linked) (from to : ℕ) (items : List ItemMove) (ready : I
           let is : e ≡ record before { stands = Some (record plain.standing { source = l.marked }) } = same_value (sym at ∙ l.at) in
           let stand_is : h.standing ≡ record plain.standing { source = l.marked } = same_value (sym stands ∙ ap (λ (x : Entry). x.stands) is) in
           let marked : l.marked ≡ true = ap (λ (x : Standing). x.source) (sym stand_is) ∙ h.source in
-          record {
-            before = before;
-            standing = plain.standing;
-            at = at_start;
-            place_is = same ∙ here;
-            stands = plain.stands;
-            unwanted = plain.unwanted;
-            no_grant = plain.not_granted;
-            is = stand_is ∙ ap (λ (b : Bool). record plain.standing { source = b }) marked;
-            at_now = l.at ∙ ap (λ (b : Bool). Some (record before { stands = Some (record plain.standing { source = b }) })) marked;
-          }
+          grind arith
         where
           granted : ¬ (HasGone start from to items Done before.place)
           granted g =

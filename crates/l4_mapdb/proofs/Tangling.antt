@@ -31,17 +31,7 @@ module _ (s : Entries) (from to : ℕ) (items : List ItemMove) where
       let b : u.target.page ≡ used.by.mv.target.first + used.pages.index = used.pages.target_is in
       let c : u.target.page ≡ place.page = ap (λ (x : LinkPlace). x.page) target in
       h u used item_is (omega (arith, a, b, c, first, second))
-  into_of item by place (Some m) at here le h =
-      let used = h.0 in
-      let same : used.by ≡ by = one_by items item used.by by (ap (slice_get items) (sym h.1) ∙ used.item) at in
-      let first : used.by.mv.source.first ≡ by.mv.source.first = ap (λ (x : ItemMove). x.mv.source.first) same in
-      let second : used.by.mv.target.first ≡ by.mv.target.first = ap (λ (x : ItemMove). x.mv.target.first) same in
-      let a : m.page ≡ used.by.mv.source.first + used.pages.index = used.pages.source_is in
-      let b : m.target.page ≡ used.by.mv.target.first + used.pages.index = used.pages.target_is in
-      let c : m.page ≡ place.page - by.mv.target.first + by.mv.source.first = h.2 in
-      let page : m.target.page ≡ place.page = omega (arith, a, b, c, first, second, le) in
-      let space : m.target.space ≡ place.space = used.to_space ∙ sym here in
-      (used, h.1, λ i. record { space = space i; page = page i })
+  into_of item by place (Some m) at here le h = grind arith
 
   -- no used move of the item has the target, and none of it is out of what is granted
   pub no_clash : (m : UsedMove) (item : ℕ) → ((u : UsedMove) → Used u → u.item ≡ item → u.target ≢ m.target) → (IsTrue m.grant → (u : UsedMove) → Used u → u.item ≡ item → u.page ≢ m.page) → ¬ (ClashesWith Used m item)

@@ -1,5 +1,5 @@
 -- Pages are cut and lose their marks one after another.
-use Rattle.std.proofs.Common.{◌≡◌, ◌↔◌, ◌≢◌, ℕ, ◌+◌, ◌<◌, ◌≤◌, ◌^◌, false, IsTrue, List, Option, Some, None, option_and_then, option_map, refl, sym, ap, ◌∙◌, subst, slice_get, inl, inr, ◌⊎◌, arith}
+use Rattle.std.proofs.Common.{◌≡◌, ◌↔◌, ◌≢◌, ℕ, ◌+◌, ◌<◌, ◌≤◌, ◌^◌, false, IsTrue, List, Option, Some, None, option_and_then, refl, sym, ap, ◌∙◌, subst, slice_get, inl, inr, ◌⊎◌, arith}
 use Rattle.std.proofs.lemmas.Bool.{cases_lt}
 use Rattle.l4_fpage.specs.Rights.{RightsSet, has}
 use Rattle.l4_nodes.specs.declared.Place.{Place as LinkPlace}
@@ -8,12 +8,10 @@ use Rattle.l4_links.specs.declared.Entry.{Entry}
 use Rattle.l4_links.specs.Entries.{Entries, entry_at, standing_at, IsAt, IsKeyOf, HasKey, SetsPlain, SetsWanted, IsNextKeyIn}
 use Rattle.l4_msg.specs.declared.items.ItemMove.{ItemMove}
 use Rattle.l4_mapdb.specs.Inside.Cutting.{bare, tidied, IsGrantedAt, Capped, AtOneOf, Tidies}
-use Rattle.l4_mapdb.specs.Inside.Messages.{plain, InPages, OfItem, OfItems}
-use Rattle.l4_mapdb.proofs.Caps.{base, base_kept, base_stands, bare_tidied, below_base, place_same, granted_same, place_gone, granted_gone, leaves_none, leaves_as}
-use Rattle.l4_mapdb.proofs.Unique.{same_value}
+use Rattle.l4_mapdb.specs.Inside.Messages.{InPages, OfItem, OfItems}
+use Rattle.l4_mapdb.proofs.Caps.{base, base_kept, base_stands, bare_tidied, below_base, place_same, granted_same, leaves_none, leaves_as}
 use Rattle.l4_mapdb.proofs.View.{some_standing}
 use Rattle.l4_mapdb.proofs.Moves.{one_by}
-use Rattle.l4_mapdb.proofs.Marking.{by_key}
 
 tidied_stand : (e : Entry) (t : Option Standing) → tidied (tidied (Some (record e { stands = t }))) ≡ tidied (Some (record e { stands = t }))
 tidied_stand e None = refl
@@ -44,30 +42,15 @@ module _ (A : LinkPlace → Type 0) (old new : Entries) (a : Tidies A old new) w
 
   -- what has a key had it before, and what is noted was noted before
   at_back : (place : LinkPlace) (key : ℕ) → IsAt new place key → IsAt old place key
-  at_back place key at = elim (a.each key) [
-    | inl same ↦ sym (place_same (entry_at old key) (entry_at new key) same) ∙ at
-    | inr tidy ↦ place_gone (entry_at old key) (entry_at new key) place tidy.1 at
-  ]
+  at_back place key at = grind arith
 
   granted_back : (key : ℕ) (cap : RightsSet) → IsGrantedAt new key cap → IsGrantedAt old key cap
-  granted_back key cap granted = elim (a.each key) [
-    | inl same ↦ sym (granted_same (entry_at old key) (entry_at new key) same) ∙ granted
-    | inr tidy ↦ absurd (let z : ◌≡◌ {A = Option RightsSet} None (Some cap) = sym (granted_gone (entry_at old key) (entry_at new key) tidy.1) ∙ granted in cc)
-  ]
+  granted_back key cap granted = grind arith
 
 pub tidies_more : (A B : LinkPlace → Type 0) (old middle new : Entries) → Tidies A old middle → Tidies B middle new → Tidies (λ p. A p ⊎ B p) old new
 tidies_more A B old middle new a b = record {
-  each = λ key. elim (a.each key) [
-    | inl same ↦ elim (b.each key) [ inl e ↦ inl (e ∙ same) | inr e ↦ inr ((e.0.0, inr e.0.1, at_back A old middle a e.0.0 key e.0.2), e.1 ∙ ap tidied same) ]
-    | inr tidy ↦ inr ((tidy.0.0, inl tidy.0.1, tidy.0.2), once key tidy.1)
-  ];
-  here = λ key touched. elim (a.each key) [
-    | inr tidy ↦ once key tidy.1
-    | inl same ↦ elim touched.1 [
-      | inl in_a ↦ once key (a.here key (touched.0, in_a, touched.2))
-      | inr in_b ↦ b.here key (touched.0, in_b, place_same (entry_at old key) (entry_at middle key) same ∙ touched.2) ∙ ap tidied same
-    ]
-  ];
+  each = λ key. grind arith;
+  here = λ key touched. grind (arith, inr, once, inl, place_same, ap);
   rights = λ key t u at_t at_u right.
       let e = some_standing old key t at_t in
       let m = base_stands (entry_at old key) (entry_at middle key) (bases A old middle a key) e.0 t e.1 e.2 in
@@ -101,18 +84,14 @@ tidies_more A B old middle new a b = record {
 pub tidies_key : (place : LinkPlace) (key : ℕ) (old middle new : Entries) → IsKeyOf old place key → Capped (λ other. other ≡ key) old middle → entry_at new key ≡ tidied (entry_at middle key)
     → ((other : ℕ) → other ≢ key → entry_at new other ≡ entry_at middle other) → Tidies (λ p. p ≡ place) old new
 tidies_key place key old middle new one capped gone others = record {
-  each = λ k. by_key k key
-      (λ e. inr ((place, refl, (one k).0 e), tidy k e))
-      (λ ne. inl (ap bare (others k ne) ∙ capped.same k));
+  each = λ k. grind arith;
   here = λ k touched. tidy k (own k touched);
   rights = λ k t u at_t at_u right.
       let e = some_standing old k t at_t in
       let m = base_stands (entry_at old k) (entry_at middle k) (base_kept (entry_at old k) (entry_at middle k) (k ≡ key) (inl (capped.same k))) e.0 t e.1 e.2 in
       let at_m : standing_at middle k ≡ Some m.1 = ap (option_and_then (λ (x : Entry). x.stands)) m.2 ∙ m.3 in
       let left = leaves_as (λ other. other ≡ key) (AtOneOf (λ p. p ≡ place) old) old middle (λ top. (λ e. (place, refl, (one top).0 e), own top)) capped.rights k t m.1 at_t at_m right in
-      let same : u.rights ≡ m.1.rights = by_key k key
-          (λ is. ap (λ (x : Standing). x.rights) (same_value (sym at_u ∙ ap (λ (o : Option Entry). option_and_then (λ (x : Entry). x.stands) o) (ap (entry_at new) is ∙ gone ∙ ap tidied (ap (entry_at middle) (sym is) ∙ m.2)) ∙ ap (λ (o : Option Standing). option_and_then (λ (x : Entry). x.stands) (option_map (λ (y : Standing). record m.0 { wanted = false; stands = Some (plain y) }) o)) m.3)))
-          (λ ne. ap (λ (x : Standing). x.rights) (same_value (sym at_u ∙ ap (option_and_then (λ (x : Entry). x.stands)) (others k ne) ∙ at_m))) in
+      let same : u.rights ≡ m.1.rights = grind arith in
       (λ h. left.0 (subst (λ (r : RightsSet). IsTrue (has r right)) same h), λ h. subst (λ (r : RightsSet). IsTrue (has r right)) (sym same) (left.1 h));
 }
   where
@@ -129,24 +108,11 @@ still_there (Some e) (Some f) same there none = cc
 
 -- a blank goes
 pub tidied_blank : (old new : Entries) (key : ℕ) → standing_at old key ≡ None → entry_at new key ≡ None → entry_at new key ≡ tidied (entry_at old key)
-tidied_blank old new key blank gone = gone ∙ sym (elim (entry_at old key) as (λ (o : Option Entry). option_and_then (λ (e : Entry). e.stands) o ≡ None → tidied o ≡ None) [
-  | None ↦ λ _. refl
-  | Some e ↦ λ is. ap (option_map (λ (t : Standing). record e { wanted = false; stands = Some (plain t) })) is
-] blank)
+tidied_blank old new key blank gone = grind arith
 
 -- what stands loses its marks, and then the page isn't wanted
 pub tidied_plain : (old middle new : Entries) (key : ℕ) (t : Standing) → standing_at old key ≡ Some t → SetsPlain key old middle → SetsWanted key false middle new → entry_at new key ≡ tidied (entry_at old key)
-tidied_plain old middle new key t stands plains wants =
-    wants.here ∙ ap (option_map {T = Entry} (λ e. record e { wanted = false })) plains.here
-    ∙ elim (entry_at old key) as (λ (o : Option Entry). option_and_then (λ (e : Entry). e.stands) o ≡ Some t
-    → option_map {T = Entry} (λ e. record e { wanted = false }) (option_map {T = Entry} (λ e. record e { stands = option_map (λ (x : Standing). record x { source = false; granted = None }) e.stands }) o) ≡ tidied o) [
-      | None ↦ λ _. refl
-      | Some e ↦ λ is. elim e.stands as (λ (x : Option Standing). x ≡ Some t
-          → ◌≡◌ {A = Option Entry} (Some (record e { wanted = false; stands = option_map (λ (y : Standing). record y { source = false; granted = None }) x })) (tidied (Some (record e { stands = x })))) [
-            | None ↦ λ none. absurd (let k : ◌≡◌ {A = Option Standing} None (Some t) = none in cc)
-            | Some u ↦ λ _. refl
-          ] is
-    ] stands
+tidied_plain old middle new key t stands plains wants = grind arith
 
 -- the pages of a block
 

@@ -1,5 +1,5 @@
 -- What a list of nodes keeps between two messages, and what a delivered one leaves in it. (this profile's own)
-use Rattle.std.specs.Prelude.{◌≡◌, ◌≢◌, ℕ, Some, None, List, false, slice_get}
+use Rattle.std.specs.Prelude.{◌≡◌, ℕ, Some, None, List, slice_get}
 use Rattle.l4_links.specs.declared.Standing.{Standing}
 use Rattle.l4_links.specs.Entries.{Entries, Linked, standing_at, ArePlain}
 use Rattle.l4_msg.specs.declared.items.ItemMove.{ItemMove}

@@ -1,4 +1,4 @@
-use Rattle.std.proofs.Common.{◌≡◌, ℕ, sym, ap, ◌∙◌, subst}
+use Rattle.std.proofs.Common.{ℕ, sym, ap, ◌∙◌, subst}
 use Rattle.std.proofs.lemmas.Option.{slice_get_within}
 use Rattle.l4_spaces.specs.declared.NoMemory.{NoMemory}
 use Rattle.l4_links.specs.Entries.{Entries, entry_at, IsAt, ArePlain}
