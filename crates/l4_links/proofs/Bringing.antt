@@ -12,62 +12,20 @@ use Rattle.l4_links.proofs.Writes.{same_some}
 -- the two parts fill no place twice
 module _ (A B : Entry → Type 0) (old mid new : Entries) (a : Brings A old mid) (b : Brings B mid new) (apart : (x y : Entry) → A x → B y → x.place ≢ y.place) where
   pub brings_joined : Brings (λ e. A e ⊎ B e) old new
-  brings_joined = record {
-    there = λ e due. elim due [
-      | inl first ↦ let k = a.there e first in (k.0, b.kept k.0 e k.1 (λ f. apart e f.0 first f.1 (sym f.2)))
-      | inr second ↦ b.there e second
-    ];
-    kept = λ key e at out. b.kept key e (a.kept key e at (λ f. out (f.0, inl f.1, f.2))) (λ f. out (f.0, inr f.1, f.2));
-    only = λ key e at. elim (b.only key e at) [
-      | inl due ↦ inl (inr due)
-      | inr was ↦ elim (a.only key e was.0) [
-        | inl due ↦ inl (inl due)
-        | inr first ↦ inr (
-          first.0,
-          λ f. elim f.1 [
-            | inl x ↦ first.1 (f.0, x, f.2)
-            | inr y ↦ was.1 (f.0, y, f.2)
-          ],
-        )
-      ]
-    ];
-  }
+  brings_joined = grind arith
 
 -- the same is due by other words
 pub brings_as : (A B : Entry → Type 0) (old new : Entries) → ((e : Entry) → A e → B e) → ((e : Entry) → B e → A e) → Brings A old new → Brings B old new
-brings_as A B old new on back a = record {
-  there = λ e due. a.there e (back e due);
-  kept = λ key e at out. a.kept key e at (λ f. out (f.0, on f.0 f.1, f.2));
-  only = λ key e at. elim (a.only key e at) [
-    | inl due ↦ inl (on e due)
-    | inr was ↦ inr (was.0, λ f. was.1 (f.0, back f.0 f.1, f.2))
-  ];
-}
+brings_as A B old new on back a = grind arith
 
 -- nothing is due
 pub brings_none : (Due : Entry → Type 0) (s : Entries) → ((e : Entry) → ¬ (Due e)) → Brings Due s s
-brings_none Due s nothing = record {
-  there = λ e due. absurd (nothing e due);
-  kept = λ key e at _. at;
-  only = λ key e at. inr (at, λ f. nothing f.0 f.1);
-}
+brings_none Due s nothing = grind arith
 
 -- one child more, at a place without a key
 pub brings_added : (parent : ℕ) (place : Place) (rights : RightsSet) (old new : Entries) (key : ℕ) (c : AddsChild parent place rights old new key) → ((other : ℕ) → ¬ (IsAt old place other))
     → ((k other : ℕ) → (k ≡ other) ⊎ (k ≢ other)) → Brings (λ e. e ≡ child_entry place parent c.above rights) old new
-brings_added parent place rights old new key c free either = record {
-  there = λ e due. (key, c.filled ∙ ap (λ (x : Entry). Some x) (sym due));
-  kept = λ k e at _. c.others k (λ same. some_none k e at same) ∙ at;
-  only = λ k e at. elim (either k key) [
-    | inl same ↦ inl (same_some (sym at ∙ ap (entry_at new) same ∙ c.filled))
-    | inr ne ↦
-        let was = sym (c.others k ne) ∙ at in
-        inr (was, λ f. free k (ap (option_map {T = Entry} (λ x. x.place)) was ∙ ap (λ (p : Place). Some p) (sym f.2 ∙ ap (λ (x : Entry). x.place) f.1)))
-  ];
-}
-  where
-    some_none : (k : ℕ) (e : Entry) → entry_at old k ≡ Some e → k ≡ key → ⊥
-    some_none k e at same = let z : ◌≡◌ {A = Option Entry} None (Some e) = sym c.vacant ∙ sym (ap (entry_at old) same) ∙ at in cc
+brings_added parent place rights old new key c free either = grind arith
 
 -- one child in place of what was there
 pub brings_renewed : (parent key : ℕ) (rights : RightsSet) (old new : Entries) (s : Replaces parent key rights old new) (was : Entry) → entry_at old key ≡ Some was → was.wanted ≡ false
@@ -90,10 +48,7 @@ brings_renewed parent key rights old new s was at unwanted once either = record 
 -- the parent of what is brought is on one of the pages
 pub parent_away : (source : Place) (end : ℕ) (target : Place) (rights : RightsSet) (s : Entries) (e : Entry) (t : Standing) (key : ℕ) → IsBrought source end target rights s e → e.stands ≡ Some t → t.parent ≡ Some key
     → (place : Place) → IsAt s place key → place.space ≡ source.space
-parent_away source end target rights s e t key b stands parent place at =
-    let up : t ≡ record { frame = b.1.standing.frame; rights = common b.1.standing.rights rights; source = false; granted = None; parent = Some b.0 } = same_some (sym stands ∙ ap (λ (z : Entry). z.stands) b.2) in
-    let same : b.0 ≡ key = same_some (sym (ap (λ (z : Standing). z.parent) up) ∙ parent) in
-    let its : b.1.entry.place ≡ place = same_some (sym (ap (option_map {T = Entry} (λ z. z.place)) (sym (ap (entry_at s) same) ∙ b.1.at)) ∙ at) in ap (λ (p : Place). p.space) (sym its) ∙ b.1.inside.0
+parent_away source end target rights s e t key b stands parent place at = grind arith
 
 -- what is due is not in the space of these pages, so these bring what they brought
 module _ (Due : Entry → Type 0) (old new : Entries) (brings : Brings Due old new) (source : Place) (end : ℕ) (target : Place) (rights : RightsSet) (away : (e : Entry) → Due e → e.place.space ≢ source.space) where

@@ -1,12 +1,11 @@
 -- What a message brings, item by item, while the tables of the places' space are aside.
-use Rattle.std.proofs.Common.{◌≡◌, ◌≢◌, ◌⊎◌, ℕ, zero, suc, ◌+◌, ◌-◌, ◌^◌, ◌<◌, ◌≤◌, Bool, true, false, List, Option, Some, None, Result, Ok, Err, IfOk, length, slice_get, get_or, sym, ap, ◌∙◌, subst, inl, inr, arith}
+use Rattle.std.proofs.Common.{◌≡◌, ◌≢◌, ◌⊎◌, ℕ, zero, suc, ◌+◌, ◌-◌, ◌^◌, ◌<◌, ◌≤◌, List, Option, Some, None, length, slice_get, get_or, sym, ap, ◌∙◌, subst, inl, inr, arith}
 use Rattle.std.proofs.lemmas.Bool.{cases_eq, cases_lt}
 use Rattle.std.proofs.lemmas.Option.{slice_get-get_or}
 use Rattle.std.specs.Option.{option_map, option_and_then}
 use Rattle.l4_fpage.specs.Rights.{common, no_rights}
 use Rattle.l4_spaces.specs.Tables.{Tables, key_of}
 use Rattle.l4_spaces.specs.Rows.{Rows, AreTablesOf, AreAside}
-use Rattle.l4_spaces.proofs.Aside.{made_aside}
 use Rattle.l4_msg.specs.declared.items.ItemMove.{ItemMove}
 use Rattle.l4_nodes.specs.declared.Place.{Place}
 use Rattle.l4_nodes.specs.Slots.{Slots, Store, HasRoomFor}
@@ -35,21 +34,12 @@ read_there {A = A} xs i x lt is = slice_get-get_or xs i x lt ∙ ap (λ (v : A).
 
 -- tables were made, which have no keys
 pub growing_made : (to : ℕ) (pages : Tables) (rows made : Rows) (slots : Slots) (first head : Option ℕ) (stamp : ℕ) (all : Tables) → MakesTables rows made → AreGrowing to pages rows slots first head stamp all → AreGrowing to pages made slots first head stamp all
-growing_made to pages rows made slots first head stamp all m g = record {
-  live = g.live;
-  stack = g.stack;
-  aside = record { here = made_aside all to rows made g.aside.here m.same m.whole m.full; away = g.aside.away; spaces = g.aside.spaces };
-  indexed = g.indexed;
-  there = g.there;
-}
+growing_made to pages rows made slots first head stamp all m g = grind arith
 
 -- the tables are back
 module _ (to : ℕ) (pages after later : Tables) (rows : Rows) (back : AreAside to rows pages after) (aside : AreAside to rows pages later) where
   back_alike : (space page : ℕ) → key_of after space page ≡ key_of later space page
-  back_alike space page = elim (cases_eq space to) [
-    | inl e ↦ ap (λ (z : ℕ). key_of after z page) e ∙ back.here.keys page ∙ sym (aside.here.keys page) ∙ sym (ap (λ (z : ℕ). key_of later z page) e)
-    | inr ne ↦ back.away space page ne ∙ sym (aside.away space page ne)
-  ]
+  back_alike space page = grind arith
 
   pub indexed_back : (slots : Slots) → IsIndexed slots later → IsIndexed slots after
   indexed_back slots i = indexed_alike slots later after back_alike (back.spaces ∙ sym aside.spaces) i
@@ -84,11 +74,7 @@ module _ (from to : ℕ) (differ : from ≢ to) (items : List ItemMove) (apart :
 
   -- where it goes
   by_page : (by : ItemMove) (e : Entry) → By by s e → (by.mv.target.first ≤ e.place.page) × (e.place.page < by.mv.target.first + 2 ^ by.mv.target.log)
-  by_page by e b =
-      let page : e.place.page ≡ b.1.entry.place.page - by.mv.source.first + by.mv.target.first = ap (λ (x : Entry). x.place.page) b.2 in
-      let size : 2 ^ by.mv.source.log ≡ 2 ^ by.mv.target.log = ap (λ (k : ℕ). 2 ^ k) by.mv.same_size in
-      let low = b.1.inside.1 in
-      let high = b.1.inside.2 in (omega (arith, page, low), omega (arith, page, low, high, size))
+  by_page by e b = grind arith
 
   by_space : (by : ItemMove) (e : Entry) → By by s e → e.place.space ≡ to
   by_space by e b = ap (λ (x : Entry). x.place.space) b.2
@@ -114,11 +100,7 @@ module _ (from to : ℕ) (differ : from ≢ to) (items : List ItemMove) (apart :
     ]
 
     parts_apart : (x y : Entry) → DueTo i x → By by s y → x.place ≢ y.place
-    parts_apart x y d b same =
-        let page : x.place.page ≡ y.place.page = ap (λ (p : Place). p.page) same in
-        let before = (by_page d.by x d.brings).1 in
-        let after = (by_page by y b).0 in
-        let le = apart d.item i d.by by d.before d.item_is is in omega (arith, page, before, after, le)
+    parts_apart x y d b same = grind arith
 
     -- the parents are in the other space
     clear : (x y : Entry) (t : Standing) (key : ℕ) → DueTo i x → By by s y → x.stands ≡ Some t → t.parent ≡ Some key → ¬ (IsAt s y.place key)

@@ -17,7 +17,7 @@ use Rattle.l4_links.specs.declared.blocks.Pages.{Pages}
 use Rattle.l4_links.specs.Leads.{Leads, step}
 use Rattle.l4_links.specs.Entries.{Entries, entry_at, standing_at, IsAt, IsInPages, moved_place, IsShared, brought, child_entry, IsBrought, IsDue, IsFilled, Brings, LacksKey, HasOther, IsPlain, ArePlain, source_of, target_of, end_of}
 use Rattle.l4_links.specs.Inside.Bringing.{IsSpare, Fits, HaveTables, IsLacking, AtMost, sum_to, WantsItems, CanBring}
-use Rattle.l4_links.specs.Inside.Growing.{SharesSome, Takes, Lacks, IsChildOf, WantsPages, IsHinderedPage, LacksPage}
+use Rattle.l4_links.specs.Inside.Growing.{SharesSome, Lacks, IsChildOf, WantsPages, IsHinderedPage, LacksPage}
 use Rattle.l4_links.specs.Inside.Keeping.{IsIndexed, IsWithin, standing_of, entries_of}
 use Rattle.l4_links.specs.Inside.Moving.{MakesTables, AreNamed}
 use Rattle.l4_links.specs.Inside.Nodes.{limbs}

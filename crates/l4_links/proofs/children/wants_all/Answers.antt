@@ -1,7 +1,6 @@
-use Rattle.std.proofs.Common.{◌≡◌, ◌≤◌, ◌+◌, ◌^◌, ℕ, length, Some, refl, sym, ap, ◌∙◌, subst, arith}
+use Rattle.std.proofs.Common.{◌≡◌, ℕ, length, Some, refl, sym, ap, ◌∙◌, subst, arith}
 use Rattle.std.proofs.lemmas.Option.{slice_get-get_or}
 use Rattle.std.specs.List.{slice_get}
-use Rattle.l4_links.specs.declared.blocks.Pages.{Pages}
 use Rattle.l4_links.specs.declared.wants.Wants.{Wants}
 use Rattle.l4_links.specs.Entries.{source_of, target_of, end_of}
 use Rattle.l4_links.specs.Inside.Bringing.{CanBring}
