@@ -1,4 +1,4 @@
-use Rattle.std.proofs.Common.{◌≡◌, ◌<◌, ◌≤◌, ◌-◌, ◌+◌, ℕ, Option, Some, None, refl, ◌∙◌, subst, arith}
+use Rattle.std.proofs.Common.{◌<◌, ◌≤◌, ◌-◌, ◌+◌, refl, ◌∙◌, arith}
 use Rattle.l4_spaces.specs.Rows.{entry, AreTablesOf}
 use Rattle.l4_spaces.proofs.Aside.{none_present, made_aside}
 use Rattle.l4_links.specs.Inside.Moving.{IsStuckIn, CanGoIn}
