@@ -131,8 +131,8 @@ module _ (start now : Linked) (from to : ℕ) (items : List ItemMove) (ready : I
         let b = ready.clean key o.0 o.1 in
         let stays = λ (g : IsGone Moves before_all (map_place o.0.place)). o.3 (subst (λ (q : LinkPlace). IsGone Moves before_all (map_place q)) o.2 g) in
         let not_granted : ¬ (IsGranted Moves (map_place o.0.place)) = λ g.
-            let there = arrived.granted g.move g.used g.grant key o.0 b.standing o.1 b.stands (ap link_place (sym g.source)) in
-            stays (goes g.move g.used key o.0 b.standing o.1 b.stands (ap (λ (x : LinkPlace × Standing). x.0) (same_value (sym there ∙ at)) ∙ sym o.2)) in
+        let there = arrived.granted g.move g.used g.grant key o.0 b.standing o.1 b.stands (ap link_place (sym g.source)) in
+        stays (goes g.move g.used key o.0 b.standing o.1 b.stands (ap (λ (x : LinkPlace × Standing). x.0) (same_value (sym there ∙ at)) ∙ sym o.2)) in
         let left = arrived.kept key o.0 b.standing o.1 b.stands stays not_granted in
         inr (inr (record { before = o.0; standing = b.standing; at = o.1; stands = b.stands; place = o.2; stays = stays; not_granted = not_granted; is = ap (λ (x : LinkPlace × Standing). x.1) (same_value (sym at ∙ left)) }))
   ]

@@ -73,8 +73,7 @@ module _ (start : Linked) (from to : ℕ) (items : List ItemMove) (ground : IsGr
       let h = d.brings.1 in
       let first = h.inside.1 in
       let before = h.inside.2 in
-      let place : record { space = from; page = h.entry.place.page } ≡ h.entry.place = λ i. record { space = sym h.inside.0 i; page = h.entry.place.page } in
-      (
+      let place : record { space = from; page = h.entry.place.page } ≡ h.entry.place = λ i. record { space = sym h.inside.0 i; page = h.entry.place.page } in (
         record {
           item = d.item;
           source = record { space = from; page = h.entry.place.page };

@@ -55,8 +55,8 @@ settled_stand s key t at = grind (arith, some_standing, ap, option_and_then, at_
 settled_descends : (s : Linked) → HavePlaces s → AreTrees s.entries → (low high : ℕ) (p q : Place) → IsAt s.entries (link_place p) low → IsAt s.entries (link_place q) high → map.Descends (mappings_of (settled s)) p q ↔ Descends s.entries low high
 settled_descends s have trees low high p q at_low at_high =
     let both = descends_by_parents (settled s) (places_settled s have)
-        (λ k up is. let t = parents_stand s.entries trees k up (sym (parent_settled s k) ∙ is) in (settled_standing t.0, settled_stand s up t.0 t.1))
-        low high p q ((is_at_settled s (link_place p) low).1 at_low) ((is_at_settled s (link_place q) high).1 at_high) in (
+    (λ k up is. let t = parents_stand s.entries trees k up (sym (parent_settled s k) ∙ is) in (settled_standing t.0, settled_stand s up t.0 t.1))
+    low high p q ((is_at_settled s (link_place p) low).1 at_low) ((is_at_settled s (link_place q) high).1 at_high) in (
       λ d. leads_along (links_parent (settled s).entries) (links_parent s.entries) (parent_settled s) (both.0 d),
       λ d. both.1 (leads_along (links_parent s.entries) (links_parent (settled s).entries) (λ k. sym (parent_settled s k)) d),
     )

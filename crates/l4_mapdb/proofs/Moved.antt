@@ -145,13 +145,13 @@ module _ (start now : Linked) (from to : ℕ) (items : List ItemMove) (ready : I
         let shows : t.rights ≡ u.shows.rights = ap (λ (x : Mapping). x.rights) (same_value (sym (key_shows start ready.places key e t at stands) ∙ ap (λ (p : LinkPlace). shown before_all (map_place p)) place ∙ used.present)) in
         let rights : common t.rights used.by.rights ≡ u.rights = ap (λ (r : RightsSet). common r used.by.rights) shows ∙ sym used.rights in
         settled_stand key (granted_for u used.by.rights t) (record t { source = true; granted = Some used.by.rights }) (placed.granted u used.by used (all u used) grant used.item key e t at place stands) refl
-            ∙ ap (λ (r : RightsSet). Some (link_place u.target, record (plain t) { rights = r })) rights;
+        ∙ ap (λ (r : RightsSet). Some (link_place u.target, record (plain t) { rights = r })) rights;
     kept = λ key e t at stands stays out.
         let p = ready.clean key e at in
         let l = placed.kept key e t at stands stays (λ g. out (record { move = g.move; used = g.used; grant = g.grant; source = ap map_place g.source })) in
         let granted : t.granted ≡ None = ap (λ (x : Standing). x.granted) (same_value (sym stands ∙ p.stands)) ∙ p.not_granted in
         settled_stand key (record e { stands = Some (record t { source = l.marked }) }) (record t { source = l.marked }) l.at refl
-            ∙ ap (λ (o : Option RightsSet). Some (e.place, record (plain t) { rights = left_by o t.rights })) granted;
+        ∙ ap (λ (o : Option RightsSet). Some (e.place, record (plain t) { rights = left_by o t.rights })) granted;
     only = λ key p t at.
         let o = stand_of (settled now).entries key p t at in
         let w = was_settled (entry_at now.entries key) o.entry (sym (at_settled now key) ∙ o.at) in

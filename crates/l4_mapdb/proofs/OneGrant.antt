@@ -123,10 +123,14 @@ module _ (start : Linked) (from to : ℕ) (items : List ItemMove) (ground : IsGr
       where
         go : (o : Option Entry) → entry_at start.entries key ≡ o → (was : Entry) × (entry_at start.entries key ≡ Some was) × ((InBlock was.place × (e ≡ record was { place = goes_to was.place })) ⊎ (e ≡ was))
         go None at = absurd (let w : ◌≡◌ {A = Option Entry} None (Some e) = sym (m.vacant key at) ∙ here in cc)
-        go (Some was) at = (was, at, elim (decide_in (source_of from by) (end_of by) was.place) [
-          | inl h ↦ inl (h, same_value (sym here ∙ m.moved key was at h))
-          | inr out ↦ inr (same_value (sym here ∙ m.kept key was at out))
-        ])
+        go (Some was) at = (
+          was,
+          at,
+          elim (decide_in (source_of from by) (end_of by) was.place) [
+            | inl h ↦ inl (h, same_value (sym here ∙ m.moved key was at h))
+            | inr out ↦ inr (same_value (sym here ∙ m.kept key was at out))
+          ],
+        )
 
     block_arrived : Arrived start from to items now
     block_arrived = record {

@@ -21,8 +21,8 @@ pub returns : goal.returns
 returns c = record {
   tidies = tidies_as (OfItems c.args.from c.args.to c.args.items.now c.loop-item.item) (OfItems c.args.from c.args.to c.args.items.now (length c.args.items.now)) c.args.links.now.entries c.loop-item.links.entries
       (λ key. (
-      λ h. (h.0, (h.1.0, h.1.1, slice_get_within c.args.items.now h.1.0 h.1.1 h.1.3, h.1.3, h.1.4), h.2),
-      λ h. (let lt = h.1.2 in (h.0, (h.1.0, h.1.1, omega (arith, lt, c.loop-item-test.false), h.1.3, h.1.4), h.2)),
+        λ h. (h.0, (h.1.0, h.1.1, slice_get_within c.args.items.now h.1.0 h.1.1 h.1.3, h.1.3, h.1.4), h.2),
+        λ h. (let lt = h.1.2 in (h.0, (h.1.0, h.1.1, omega (arith, lt, c.loop-item-test.false), h.1.3, h.1.4), h.2)),
       )) c.loop-item.invariant.tidies;
   spaces = c.loop-item.invariant.spaces;
 }
