@@ -1,5 +1,5 @@
 -- Items whose pages rise share none.
-use Rattle.std.proofs.Common.{◌≡◌, ◌≢◌, ℕ, ◌+◌, ◌<◌, ◌≤◌, ◌^◌, ◌⊎◌, Bool, true, false, ◌||◌, List, length, Some, refl, ap, sym, ◌∙◌, slice_get, inl, inr, arith}
+use Rattle.std.proofs.Common.{◌≡◌, ◌≢◌, ℕ, ◌+◌, ◌<◌, ◌≤◌, ◌^◌, ◌⊎◌, Bool, true, false, ◌||◌, List, length, Some, ap, sym, ◌∙◌, slice_get, inl, inr, arith}
 use Rattle.std.proofs.lemmas.Bool.{cases_lt}
 use Rattle.l4_nodes.specs.declared.Place.{Place as LinkPlace}
 use Rattle.l4_links.specs.Entries.{Entries}
@@ -14,18 +14,6 @@ pub record EndBy (items : List ItemMove) (end source target : ℕ) (grants : Boo
   pub sources : (item : ℕ) (by : ItemMove) → item < end → slice_get items item ≡ Some by → by.mv.source.first + 2 ^ by.mv.source.log ≤ source
   pub targets : (item : ℕ) (by : ItemMove) → item < end → slice_get items item ≡ Some by → by.mv.target.first + 2 ^ by.mv.target.log ≤ target
   pub none : grants ≡ false → (item : ℕ) (by : ItemMove) → item < end → slice_get items item ≡ Some by → by.grant ≡ false
-
-either_no : (a b : Bool) → a || b ≡ false → (a ≡ false) × (b ≡ false)
-either_no false b h = (refl, h)
-either_no true b h = absurd (let k : true ≡ false = h in cc)
-
-either_yes : (a b : Bool) → b ≡ true → a || b ≡ true
-either_yes false b h = h
-either_yes true b h = refl
-
-first_yes : (a b : Bool) → a ≡ true → a || b ≡ true
-first_yes true b h = refl
-first_yes false b h = absurd (let k : false ≡ true = h in cc)
 
 module _ (items : List ItemMove) (item source target : ℕ) (grants : Bool) (by : ItemMove) (at : slice_get items item ≡ Some by) (t : target ≤ by.mv.target.first) (ends : EndBy items item source target grants) where
   same_item : (k : ℕ) (other : ItemMove) → k ≡ item → slice_get items k ≡ Some other → other ≡ by

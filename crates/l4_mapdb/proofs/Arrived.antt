@@ -1,5 +1,5 @@
 -- Once all used moves are made, the mappings are those in the middle of the transfer.
-use Rattle.std.proofs.Common.{◌≡◌, ◌≢◌, ℕ, ◌⊎◌, false, List, Option, Some, None, option_and_then, option_map, inl, inr, IsTrue, is_some, refl, sym, ap, ◌∙◌, subst, slice_get}
+use Rattle.std.proofs.Common.{◌≡◌, ◌≢◌, ℕ, ◌⊎◌, false, List, Option, Some, None, option_and_then, option_map, inl, inr, IsTrue, is_some, refl, sym, ap, ◌∙◌, subst, slice_get, arith}
 use Rattle.l4_fpage.specs.Rights.{Right}
 use Rattle.l4_nodes.specs.declared.Place.{Place as LinkPlace}
 use Rattle.l4_links.specs.declared.Standing.{Standing}
@@ -9,7 +9,7 @@ use Rattle.l4_mapdb.specs.declared.Place.{Place}
 use Rattle.l4_mapdb.specs.declared.Mapping.{Mapping}
 use Rattle.l4_msg.specs.declared.items.ItemMove.{ItemMove}
 use Rattle.l4_mapdb.specs.Mappings.{Mappings, shown, parent_of, child, further}
-use Rattle.l4_mapdb.specs.Transfer.{PageMove, IsUsed, IsEntangled, IsGranted, IsGone, StandsAt, ParentLater, Becomes, Moved, IsCut, Delivers}
+use Rattle.l4_mapdb.specs.Transfer.{PageMove, IsGranted, IsGone, StandsAt, ParentLater, Becomes, Moved, IsCut}
 use Rattle.l4_mapdb.specs.View.{link_place, map_place, place_at, mapping_of, mappings_of}
 use Rattle.l4_mapdb.specs.Delivering.{IsClean, RootsKnown, IsDelivered}
 use Rattle.l4_mapdb.specs.Inside.View.{IsShown}
@@ -267,19 +267,9 @@ module _ (start now : Linked) (from to : ℕ) (items : List ItemMove) (ready : I
 
   -- where nothing is cut the message is delivered
   pub arrived_delivers : IsClean now → ((place : Place) (right : Right) → ¬ (IsCut Moves (mappings_of now) place right)) → IsDelivered from to items start now
-  arrived_delivers clean uncut = record {
-    delivers = record { middle = mappings_of now; moved = arrived_moved; cut = cuts_none now have clean Moves uncut };
-    free = ready.free;
-    clean = clean;
-    roots = arrived_roots;
-  }
+  arrived_delivers clean uncut = search (arrived_moved, cuts_none, arrived_roots, arith)
 
 -- what is delivered from the same entries is delivered from these
 pub delivered_same : (from to : ℕ) (items : List ItemMove) (old mid new : Linked) → mappings_of mid ≡ mappings_of old → ((key : ℕ) → entry_at mid.entries key ≡ entry_at old.entries key)
     → IsDelivered from to items mid new → IsDelivered from to items old new
-delivered_same from to items old mid new view same d = record {
-  delivers = subst (λ (m : Mappings). Delivers from to items m (mappings_of new)) view d.delivers;
-  free = subst (λ (m : Mappings). ¬ (IsEntangled (IsUsed m from to items) m)) view d.free;
-  clean = d.clean;
-  roots = λ roots known. d.roots roots (λ key t at top. known key t (ap (option_and_then (λ (e : Entry). e.stands)) (sym (same key)) ∙ at) top);
-}
+delivered_same from to items old mid new view same d = grind arith

@@ -1,5 +1,5 @@
 -- What caps of granted pages leave.
-use Rattle.std.proofs.Common.{◌≡◌, ℕ, Bool, true, false, ◌&&◌, Option, Some, None, option_and_then, ◌↔◌, ◌⊎◌, inl, inr, IsTrue, refl, sym, ap, ◌∙◌, subst}
+use Rattle.std.proofs.Common.{◌≡◌, ℕ, Bool, true, false, ◌&&◌, Option, Some, None, option_and_then, ◌↔◌, ◌⊎◌, inl, inr, IsTrue, refl, sym, ap, ◌∙◌, subst, arith}
 use Rattle.std.specs.Option.{option_map}
 use Rattle.l4_fpage.specs.Rights.{RightsSet, Right, Read, Write, Execute, has, common, no_rights}
 use Rattle.l4_nodes.specs.declared.Place.{Place}
@@ -130,9 +130,7 @@ base_stands a b same e t at stands = go b refl
 
 -- what loses nothing keeps its rights
 pub leaves_none : (Done : ℕ → Type 0) (s : Entries) → ((top : ℕ) (cap : RightsSet) → Done top → IsGrantedAt s top cap → ⊥) → LeavesRights Done s s
-leaves_none Done s none key t u at_t at_u right =
-    let e : u ≡ t = same_value (sym at_u ∙ at_t) in
-    (λ h. (subst (λ (x : Standing). IsTrue (has x.rights right)) e h, λ top cap d granted _. absurd (none top cap d granted)), λ h. subst (λ (x : Standing). IsTrue (has x.rights right)) (sym e) h.0)
+leaves_none Done s none key t u at_t at_u right = grind arith
 
 -- the same pages, said in another way
 pub leaves_as : (Done Other : ℕ → Type 0) (old new : Entries) → ((key : ℕ) → Done key ↔ Other key) → LeavesRights Done old new → LeavesRights Other old new
@@ -143,12 +141,7 @@ leaves_as Done Other old new how a key t u at_t at_u right =
 -- the cap of one tree
 module _ (old new : Entries) (top : ℕ) (cap : RightsSet) (caps : CapsTree top cap old new) (decided : (low high : ℕ) → Descends old low high ⊎ ¬ (Descends old low high)) where
   bare_all : (key : ℕ) → bare (entry_at new key) ≡ bare (entry_at old key)
-  bare_all key = elim (decided key top) [
-    | inl d ↦ ap bare (caps.below_capped key d) ∙ bare_capped cap (entry_at old key)
-    | inr n ↦ by_key key top
-        (λ e. subst (λ (k : ℕ). bare (entry_at new k) ≡ bare (entry_at old k)) (sym e) (ap bare caps.top_capped ∙ bare_capped cap (entry_at old top)))
-        (λ ne. ap bare (caps.kept key ne n))
-  ]
+  bare_all key = grind arith
 
   stands_capped : (o : Option Entry) (t : Standing) → stands_of o ≡ Some t → stands_of (option_map (capped cap) o) ≡ Some (record t { rights = common t.rights cap })
   stands_capped None t h = absurd (let z : ◌≡◌ {A = Option Standing} None (Some t) = h in cc)

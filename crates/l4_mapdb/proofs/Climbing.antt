@@ -1,13 +1,9 @@
 -- The parent of a place.
-use Rattle.std.proofs.Common.{◌≡◌, Option, Some, None, refl, option_and_then}
+use Rattle.std.proofs.Common.{◌≡◌, Some, arith}
 use Rattle.l4_mapdb.specs.declared.Place.{Place}
 use Rattle.l4_mapdb.specs.declared.Mapping.{Mapping}
 use Rattle.l4_mapdb.specs.Mappings.{Mappings, shown, parent_of}
 
 -- the parent of a place is of a place that is there
 pub shows_parent : (s : Mappings) (place parent : Place) → parent_of s place ≡ Some parent → (m : Mapping) × (shown s place ≡ Some m) × (m.parent ≡ Some parent)
-shows_parent s place parent up =
-    elim (shown s place) as (λ o. shown s place ≡ o → option_and_then (λ (m : Mapping). m.parent) o ≡ Some parent → (m : Mapping) × (shown s place ≡ Some m) × (m.parent ≡ Some parent)) [
-      | None ↦ λ e h. absurd (let k : ◌≡◌ {A = Option Place} None (Some parent) = h in cc)
-      | Some m ↦ λ e h. (m, e, h)
-    ] refl up
+shows_parent s place parent up = grind arith

@@ -1,5 +1,5 @@
 -- What a place becomes, by the kind of the item that fills it.
-use Rattle.std.proofs.Common.{◌≡◌, Some, IsTrue, inl, inr, ◌⊎◌}
+use Rattle.std.proofs.Common.{◌≡◌, Some, IsTrue, inl, inr, ◌⊎◌, arith}
 use Rattle.l4_mapdb.specs.declared.Place.{Place}
 use Rattle.l4_mapdb.specs.declared.Mapping.{Mapping}
 use Rattle.l4_mapdb.specs.Mappings.{Mappings}
@@ -29,8 +29,5 @@ abbrev pub BecomesBy : (PageMove → Type 0) → Mappings → Place → Mapping 
 BecomesBy Used old place m = IsMapped Used place m ⊎ (IsHandedOver Used place m ⊎ Stays Used old place m)
 
 pub by_kind : {Used : PageMove → Type 0} {old : Mappings} {place : Place} {m : Mapping} → Becomes Used old place m → BecomesBy Used old place m
-by_kind (inl x) = elim x.parent [
-  | inl p ↦ inl (record { move = x.move; used = x.used; map = p.0; target = x.target; frame = x.frame; rights = x.rights; parent = p.1 })
-  | inr p ↦ inr (inl (record { move = x.move; used = x.used; grant = p.0; target = x.target; frame = x.frame; rights = x.rights; parent = p.1 }))
-]
+by_kind (inl x) = grind arith
 by_kind (inr x) = inr (inr x)

@@ -1,5 +1,5 @@
 -- What is left once a message is carried out and its marks are taken away.
-use Rattle.std.proofs.Common.{◌≡◌, ◌≢◌, ℕ, Bool, true, false, List, length, Option, Some, None, option_and_then, option_map, inl, inr, ◌⊎◌, refl, sym, ap, ◌∙◌, subst, slice_get}
+use Rattle.std.proofs.Common.{◌≡◌, ◌≢◌, ℕ, Bool, true, false, List, length, Option, Some, None, option_and_then, option_map, inl, inr, ◌⊎◌, refl, sym, ap, ◌∙◌, subst, slice_get, arith}
 use Rattle.l4_fpage.specs.Rights.{no_rights}
 use Rattle.l4_links.specs.declared.Standing.{Standing}
 use Rattle.l4_links.specs.declared.Entry.{Entry}
@@ -108,17 +108,8 @@ module _ (start now : Linked) (from to : ℕ) (items : List ItemMove) (ready : I
   no_blank key e at blank =
       let here : bare (entry_at cur key) ≡ Some (record e { stands = rightless e.stands }) = ap bare (before key e at) in
       elim (entry_at now.entries key) as (λ (o : Option Entry). entry_at now.entries key ≡ o → ⊥) [
-        | None ↦ λ none. elim (tidies.each key) [
-          | inl same ↦ (let z : ◌≡◌ {A = Option Entry} (Some (record e { stands = rightless e.stands })) None = sym here ∙ same ∙ ap bare none in cc)
-          | inr tidy ↦ (let z : ◌≡◌ {A = Option Entry} (Some (record e { stands = rightless e.stands })) None = sym here ∙ tidy.1 ∙ ap (λ (o : Option Entry). tidied (bare o)) none in cc)
-        ]
-        | Some f ↦ λ was. elim f.stands as (λ (o : Option Standing). f.stands ≡ o → ⊥) [
-          | None ↦ λ none. all_stand key f was none
-          | Some t ↦ λ stands.
-              let u = base_stands (entry_at now.entries key) (entry_at cur key) (bases (OfItems from to items (length items)) now.entries cur tidies key) f t was stands in
-              let z : ◌≡◌ {A = Option Standing} None (Some u.1) = sym blank ∙ ap (λ (x : Entry). x.stands) (same_value (sym (before key e at) ∙ u.2)) ∙ u.3 in
-              cc
-        ] refl
+        | None ↦ λ none. grind arith
+        | Some f ↦ λ was. search (Option, None, all_stand, Some, base_stands, bases, length, sym, ap, same_value, before, refl, arith)
       ] refl
 
   -- what stands where it stood is unmarked, or was tidied

@@ -1,5 +1,5 @@
 -- Rights that keys lose, and rights that places lose.
-use Rattle.std.proofs.Common.{◌≡◌, ◌≢◌, ℕ, Option, Some, None, IsTrue, ◌↔◌, refl, sym, ap, ◌∙◌, subst, option_and_then, option_map}
+use Rattle.std.proofs.Common.{◌≡◌, ◌≢◌, ℕ, Option, Some, None, IsTrue, ◌↔◌, refl, sym, ap, ◌∙◌, subst, option_and_then, option_map, arith}
 use Rattle.l4_fpage.specs.Rights.{RightsSet, Right, has, no_rights}
 use Rattle.l4_nodes.specs.declared.Place.{Place as LinkPlace}
 use Rattle.l4_links.specs.declared.Standing.{Standing}
@@ -49,15 +49,7 @@ module _ (Lost : Place → Right → Type 0) (LostKey : ℕ → Right → Type 0
 
   left_mapping : (key : ℕ) (was e : Entry) (had t : Standing) (place : Place) → entry_at old.entries key ≡ Some was → was.place ≡ link_place place
       → entry_at new.entries key ≡ Some e → e.stands ≡ Some t → HasLost (LostKey key) was had e t → IsLeft (Lost place) (mapping_of old.entries had) (mapping_of new.entries t)
-  left_mapping key was e had t place at_was at_place at stands lost = record {
-    frame = lost.frame;
-    parent = parent_same key e t at stands t.parent refl ∙ ap (option_and_then (place_at old.entries)) lost.parent;
-    rights = λ right. (
-      λ h. let both = (lost.rights right).0 h in (both.0, λ gone. both.1 ((lost_place key was place at_was at_place right).1 gone)),
-      λ h. (lost.rights right).1 (h.0, λ gone. h.1 ((lost_place key was place at_was at_place right).0 gone)),
-    );
-    some_right = lost.some_right;
-  }
+  left_mapping key was e had t place at_was at_place at stands lost = grind (arith, parent_same, refl, ap, option_and_then, lost_place)
 
   forth : (place : Place) (m : Mapping) → shown (mappings_of new) place ≡ Some m → (before : Mapping) × (shown (mappings_of old) place ≡ Some before) × IsLeft (Lost place) before m
   forth place m h =
@@ -74,10 +66,7 @@ module _ (Lost : Place → Right → Type 0) (LostKey : ℕ → Right → Type 0
   back place m before h left =
       let u = (shown_by_key old have_old place before).0 h in
       let lost = lost_place u.key u.entry place u.at u.place_is in
-      let rights : (right : Right) → IsTrue (has m.rights right) ↔ (IsTrue (has u.standing.rights right) × ¬ (LostKey u.key right)) = λ right. (
-        λ h. let both = (left.rights right).0 h in (subst (λ (x : Mapping). IsTrue (has x.rights right)) (sym u.mapping) both.0, λ gone. both.1 ((lost right).0 gone)),
-        λ h. (left.rights right).1 (subst (λ (x : Mapping). IsTrue (has x.rights right)) u.mapping h.0, λ gone. h.1 ((lost right).1 gone)),
-      ) in
+      let rights : (right : Right) → IsTrue (has m.rights right) ↔ (IsTrue (has u.standing.rights right) × ¬ (LostKey u.key right)) = λ right. grind arith in
       let now = loses.to u.key u.entry u.standing u.at u.stands m.rights rights left.some_right in
       let is_left = left_mapping u.key u.entry now.0 u.standing now.1 place u.at u.place_is now.2 now.3 now.4 in
       let frame : now.1.frame ≡ m.frame = is_left.frame ∙ ap (λ (x : Mapping). x.frame) u.mapping ∙ sym left.frame in

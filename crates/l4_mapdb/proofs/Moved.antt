@@ -1,8 +1,6 @@
 -- What stands once all used moves are done, while pages are marked and granted pages keep their rights.
-use Rattle.std.proofs.Common.{◌≡◌, ◌≢◌, ℕ, ◌⊎◌, true, List, Option, Some, None, option_map, ◌↔◌, inl, inr, IsTrue, is_some, refl, sym, ap, ◌∙◌, subst}
+use Rattle.std.proofs.Common.{◌≡◌, ◌≢◌, ℕ, ◌⊎◌, true, List, Option, Some, None, option_map, ◌↔◌, inl, inr, IsTrue, is_some, refl, sym, ap, ◌∙◌, subst, arith}
 use Rattle.std.proofs.Math.ListN.{get_or-map}
-use Rattle.std.specs.FinSet as set
-use Rattle.l4_spaces.specs.Tables.{IsPage}
 use Rattle.l4_fpage.specs.Rights.{RightsSet, common}
 use Rattle.l4_nodes.specs.declared.Place.{Place as LinkPlace}
 use Rattle.l4_links.specs.declared.Standing.{Standing}
@@ -33,9 +31,7 @@ place_settled None = refl
 place_settled (Some e) = refl
 
 pub is_at_settled : (s : Linked) (place : LinkPlace) (key : ℕ) → IsAt (settled s).entries place key ↔ IsAt s.entries place key
-is_at_settled s place key =
-    let e : option_map {T = Entry} (λ e. e.place) (entry_at (settled s).entries key) ≡ option_map {T = Entry} (λ e. e.place) (entry_at s.entries key) = ap (option_map {T = Entry} (λ e. e.place)) (at_settled s key) ∙ place_settled (entry_at s.entries key) in
-    (λ h. sym e ∙ h, λ h. e ∙ h)
+is_at_settled s place key = grind (arith, option_map, ap, at_settled, place_settled, sym)
 
 -- what was there before it was settled
 pub record WasSettled (o : Option Entry) (e : Entry) : Type 0 where
@@ -52,10 +48,8 @@ was_settled (Some x) e h = record { entry = x; was = refl; is = sym (same h) }
 
 pub places_settled : (s : Linked) → HavePlaces s → HavePlaces (settled s)
 places_settled s have = record {
-  housed = λ key e at. let w = was_settled (entry_at s.entries key) e (sym (at_settled s key) ∙ at) in
-      subst (λ (x : Entry). IsTrue (set.contains s.spaces x.place.space)) (sym w.is) (have.housed key w.entry w.was);
-  fits = λ key e at. let w = was_settled (entry_at s.entries key) e (sym (at_settled s key) ∙ at) in
-      subst (λ (x : Entry). IsPage x.place.page) (sym w.is) (have.fits key w.entry w.was);
+  housed = λ key e at. grind (arith, was_settled, sym, at_settled, subst, IsTrue);
+  fits = λ key e at. grind (arith, was_settled, sym, at_settled, subst);
   once = λ place a b at_a at_b. have.once place a b ((is_at_settled s place a).0 at_a) ((is_at_settled s place b).0 at_b);
 }
 
@@ -134,8 +128,7 @@ module _ (start now : Linked) (from to : ℕ) (items : List ItemMove) (ready : I
 
   -- what stands, with the rights of grants settled
   settled_stand : (key : ℕ) (e : Entry) (t : Standing) → entry_at now.entries key ≡ Some e → e.stands ≡ Some t → stand_at (settled now).entries key ≡ Some (e.place, plain (settled_standing t))
-  settled_stand key e t at stands =
-      stands_as (settled now).entries key (record e { stands = option_map settled_standing e.stands }) (settled_standing t) (at_settled now key ∙ ap settled_entry at) (ap (option_map settled_standing) stands)
+  settled_stand key e t at stands = grind (arith, stands_as, option_map, at_settled, ap)
 
   pub arrived_settled : Arrived start from to items (settled now)
   arrived_settled = record {

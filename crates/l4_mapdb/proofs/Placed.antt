@@ -1,5 +1,5 @@
 -- One used move after another is carried out.
-use Rattle.std.proofs.Common.{◌≡◌, ◌≢◌, ℕ, true, false, List, Option, Some, None, option_and_then, option_map, ◌↔◌, ◌⊎◌, inl, inr, IsTrue, refl, sym, ap, ◌∙◌, subst, slice_get}
+use Rattle.std.proofs.Common.{◌≡◌, ◌≢◌, ℕ, true, false, List, Option, Some, None, option_and_then, option_map, ◌↔◌, ◌⊎◌, inl, inr, IsTrue, refl, sym, ap, ◌∙◌, subst, slice_get, arith}
 use Rattle.l4_fpage.specs.Rights.{RightsSet, common}
 use Rattle.l4_nodes.specs.declared.Place.{Place as LinkPlace}
 use Rattle.l4_links.specs.declared.Standing.{Standing}
@@ -16,10 +16,7 @@ use Rattle.l4_mapdb.proofs.Unique.{same_value}
 
 -- where something stands is no blank
 pub not_blank : (s : Entries) (a b : ℕ) (e f : Entry) (t : Standing) → entry_at s a ≡ Some e → entry_at s b ≡ Some f → e.stands ≡ Some t → f.stands ≡ None → a ≢ b
-not_blank s a b e f t at_a at_b stands blank same =
-    let k : e ≡ f = same_value (sym at_a ∙ ap (entry_at s) same ∙ at_b) in
-    let z : ◌≡◌ {A = Option Standing} (Some t) None = sym stands ∙ ap (λ (x : Entry). x.stands) k ∙ blank in
-    cc
+not_blank s a b e f t at_a at_b stands blank same = grind arith
 
 pub same_entry : (s : Entries) (a b : ℕ) (e f : Entry) → entry_at s a ≡ Some e → entry_at s b ≡ Some f → a ≡ b → e ≡ f
 same_entry s a b e f at_a at_b same = let both : Some e ≡ Some f = sym at_a ∙ ap (entry_at s) same ∙ at_b in cc
@@ -35,8 +32,7 @@ module _ (start : Linked) (from to : ℕ) (items : List ItemMove) where
     blank = λ v used undone. p.blank v used (λ d. undone ((how v used).0 d));
     mapped = λ v used done map. p.mapped v used ((how v used).1 done) map;
     granted = λ v by used done grant item. p.granted v by used ((how v used).1 done) grant item;
-    kept = λ key e t at stands there gone. p.kept key e t at stands there
-        (λ g. gone (record { move = g.move; used = g.used; done = (how g.move g.used).0 g.done; grant = g.grant; source = g.source }));
+    kept = λ key e t at stands there gone. search arith;
     only = p.only;
   }
 

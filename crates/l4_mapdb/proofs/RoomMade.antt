@@ -1,5 +1,5 @@
 -- Targets are wanted, one used move after another, once the sources are marked.
-use Rattle.std.proofs.Common.{◌≡◌, ℕ, List, Option, Some, None, option_map, sym, ap, ◌∙◌, inl, inr}
+use Rattle.std.proofs.Common.{◌≡◌, ℕ, List, Option, Some, None, option_map, sym, ap, ◌∙◌, inl, inr, arith}
 use Rattle.l4_nodes.specs.declared.Place.{Place as LinkPlace}
 use Rattle.l4_links.specs.declared.Standing.{Standing}
 use Rattle.l4_links.specs.declared.Entry.{Entry}
@@ -22,9 +22,7 @@ module _ (old cur new : Entries) (from to : ℕ) (items : List ItemMove) (wants 
   moved_before = moved_alike old cur from to items (wants_alike (IsFilled (IsMoved old from to items)) old cur wants) u moved
 
   pub wants_more : ((key : ℕ) → Wants (λ p. p ≡ u.target) (entry_at cur key) (entry_at new key)) → (key : ℕ) → Wants (IsFilled (IsMoved old from to items)) (entry_at old key) (entry_at new key)
-  wants_more more key =
-      wants_on (IsFilled (IsMoved old from to items)) (λ p. p ≡ u.target) (IsFilled (IsMoved old from to items)) (λ p filled. filled) (λ p same. (u, moved_before, sym same)) (entry_at old key) (entry_at cur key) (entry_at new key)
-      (wants key) (more key)
+  wants_more more key = search (wants_on, moved_before, sym, arith)
 
 -- what is wanted keeps its page
 place_wanted : (A : LinkPlace → Type 0) (place : LinkPlace) (o n : Option Entry) → Wants A o n → option_map (λ (e : Entry). e.place) o ≡ Some place → option_map (λ (e : Entry). e.place) n ≡ Some place

@@ -1,5 +1,5 @@
 -- What places show, by the keys that stand there.
-use Rattle.std.proofs.Common.{◌≡◌, ℕ, zero, suc, true, false, cond, List, [], ◌∷◌, filter_map, Option, Some, None, option_and_then, option_map, ◌↔◌, refl, sym, ap, ◌∙◌}
+use Rattle.std.proofs.Common.{◌≡◌, ℕ, zero, suc, true, false, cond, List, [], ◌∷◌, filter_map, Option, Some, None, option_and_then, option_map, ◌↔◌, refl, sym, ap, ◌∙◌, arith}
 use Rattle.std.specs.FinMap.{find, get-from_entries}
 use Rattle.std.specs.List.{cons_option}
 use Rattle.std.specs.Ordering.{eq_by_cmp}
@@ -76,33 +76,21 @@ pub at_place : (s : Entries) (key : ℕ) (e : Entry) → entry_at s key ≡ Some
 at_place s key e at = ap (option_map {T = Entry} (λ e. e.place)) at
 
 pub some_entry : (s : Entries) (place : LinkPlace) (key : ℕ) → IsAt s place key → (e : Entry) × (entry_at s key ≡ Some e) × (e.place ≡ place)
-some_entry s place key at =
-    elim (entry_at s key) as (λ v. entry_at s key ≡ v → option_map {T = Entry} (λ e. e.place) v ≡ Some place → (e : Entry) × (entry_at s key ≡ Some e) × (e.place ≡ place)) [
-      | None ↦ λ is h. absurd (let k : ◌≡◌ {A = Option LinkPlace} None (Some place) = h in cc)
-      | Some e ↦ λ is h. (e, is, same_value h)
-    ] refl at
+some_entry s place key at = grind arith
 
 pub some_standing : (s : Entries) (key : ℕ) (t : Standing) → standing_at s key ≡ Some t → (e : Entry) × (entry_at s key ≡ Some e) × (e.stands ≡ Some t)
-some_standing s key t at =
-    elim (entry_at s key) as (λ v. entry_at s key ≡ v → option_and_then (λ (e : Entry). e.stands) v ≡ Some t → (e : Entry) × (entry_at s key ≡ Some e) × (e.stands ≡ Some t)) [
-      | None ↦ λ is h. absurd (let k : ◌≡◌ {A = Option Standing} None (Some t) = h in cc)
-      | Some e ↦ λ is h. (e, is, h)
-    ] refl at
+some_standing s key t at = grind arith
 
 pub stands_at : (s : Entries) (key : ℕ) (e : Entry) (t : Standing) → entry_at s key ≡ Some e → e.stands ≡ Some t → standing_at s key ≡ Some t
 stands_at s key e t at stands = ap (option_and_then (λ (e : Entry). e.stands)) at ∙ stands
 
 -- nothing stands under a key that has no entry
 pub no_standing : (s : Entries) (key : ℕ) (t : Standing) → entry_at s key ≡ None → standing_at s key ≡ Some t → ⊥
-no_standing s key t none at =
-    let k : ◌≡◌ {A = Option Standing} None (Some t) = sym (ap (option_and_then (λ (e : Entry). e.stands)) none) ∙ at in
-    cc
+no_standing s key t none at = grind arith
 
 -- entries of one page are one
 pub one_entry : (s : Linked) → HavePlaces s → (j k : ℕ) (a b : Entry) → entry_at s.entries j ≡ Some a → entry_at s.entries k ≡ Some b → a.place ≡ b.place → a ≡ b
-one_entry s have j k a b at_j at_k same =
-    let key : j ≡ k = have.once a.place j k (at_place s.entries j a at_j) (at_place s.entries k b at_k ∙ ap (λ (p : LinkPlace). Some p) (sym same)) in
-    same_value (sym at_j ∙ ap (entry_at s.entries) key ∙ at_k)
+one_entry s have j k a b at_j at_k same = grind (arith, at_place, ap, Some, sym, same_value)
 
 shown_is : (s : Linked) (place : Place) → shown (mappings_of s) place ≡ find place_cmp place (pick s.entries s.entries)
 unfolding shown_in
@@ -158,25 +146,15 @@ pub parent_is : (s : Entries) (key : ℕ) (t : Standing) → standing_at s key �
 parent_is s key t at = ap (option_and_then (λ (t : Standing). t.parent)) at
 
 pub some_parent : (s : Entries) (low high : ℕ) → links.parent_of s low ≡ Some high → (t : Standing) × (standing_at s low ≡ Some t) × (t.parent ≡ Some high)
-some_parent s low high up =
-    elim (standing_at s low) as (λ v. standing_at s low ≡ v → option_and_then (λ (t : Standing). t.parent) v ≡ Some high → (t : Standing) × (standing_at s low ≡ Some t) × (t.parent ≡ Some high)) [
-      | None ↦ λ is h. absurd (let k : ◌≡◌ {A = Option ℕ} None (Some high) = h in cc)
-      | Some t ↦ λ is h. (t, is, h)
-    ] refl up
+some_parent s low high up = grind arith
 
 -- the key of the place that a key's place has as its parent
 pub some_key : (s : Entries) (key : Option ℕ) (q : Place) → option_and_then (place_at s) key ≡ Some q → (k : ℕ) × (key ≡ Some k) × IsAt s (link_place q) k
 some_key s None q h = absurd (let k : ◌≡◌ {A = Option Place} None (Some q) = h in cc)
-some_key s (Some k) q h =
-    elim (entry_at s k) as (λ v. entry_at s k ≡ v → option_map {T = Entry} (λ e. map_place e.place) v ≡ Some q → (j : ℕ) × (Some k ≡ Some j) × IsAt s (link_place q) j) [
-      | None ↦ λ is h. absurd (let k : ◌≡◌ {A = Option Place} None (Some q) = h in cc)
-      | Some e ↦ λ is h. (k, refl, at_place s k e is ∙ ap (λ (p : LinkPlace). Some p) (same_places e.place (link_place q) (same_value h)))
-    ] refl h
+some_key s (Some k) q h = grind (arith, option_map, Some, None, Option, refl, at_place, ap, same_places, same_value)
 
 key_place : (s : Entries) (q : Place) (key : ℕ) → IsAt s (link_place q) key → place_at s key ≡ Some q
-key_place s q key at =
-    let e = some_entry s (link_place q) key at in
-    ap (option_map {T = Entry} (λ e. map_place e.place)) e.1 ∙ ap (λ (p : LinkPlace). Some (map_place p)) e.2
+key_place s q key at = grind arith
 
 -- what is a parent stands
 abbrev pub ParentsStand : Entries → Type 0
@@ -246,10 +224,7 @@ module _ (s : Linked) (have : HavePlaces s) where
 -- a place descends from another where its key descends from that one's
 pub descends_by_parents : (s : Linked) → HavePlaces s → ParentsStand s.entries → (low high : ℕ) (p q : Place) → IsAt s.entries (link_place p) low → IsAt s.entries (link_place q) high
     → Descends (mappings_of s) p q ↔ links.Descends s.entries low high
-descends_by_parents s have stand low high p q at_low at_high = (
-  λ d. down_by_key s have d low high at_low at_high,
-  λ d. up_by_key s have stand d p q at_low at_high,
-)
+descends_by_parents s have stand low high p q at_low at_high = grind (arith, down_by_key, up_by_key)
 
 pub descends_by_key : (s : Linked) → HavePlaces s → AreTrees s.entries → (low high : ℕ) (p q : Place) → IsAt s.entries (link_place p) low → IsAt s.entries (link_place q) high
     → Descends (mappings_of s) p q ↔ links.Descends s.entries low high
