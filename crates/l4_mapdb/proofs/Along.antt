@@ -1,5 +1,5 @@
 -- The effect of a delivery depends on which moves are used, and not on how that is said.
-use Rattle.std.proofs.Common.{Option, Some, None, inl, inr}
+use Rattle.std.proofs.Common.{Option, Some, None, inl, inr, arith}
 use Rattle.l4_fpage.specs.Rights.{Right}
 use Rattle.l4_mapdb.specs.declared.Place.{Place}
 use Rattle.l4_mapdb.specs.declared.Mapping.{Mapping}
@@ -26,23 +26,8 @@ module _ (Used Other : PageMove → Type 0) (to : (move : PageMove) → Used mov
   parent_along (Some parent) later h = (h.0, stands_along parent h.0 h.1, h.2)
 
   becomes_along : (old : Mappings) (place : Place) (m : Mapping) → Becomes Used old place m → Becomes Other old place m
-  becomes_along old place m (inl x) = inl (record {
-    move = x.move;
-    used = to x.move x.used;
-    target = x.target;
-    frame = x.frame;
-    rights = x.rights;
-    parent = elim x.parent [ inl p ↦ inl p | inr p ↦ inr (p.0, parent_along x.move.shows.parent m.parent p.1) ];
-  })
-  becomes_along old place m (inr x) = inr (record {
-    before = x.before;
-    at = x.at;
-    not_gone = λ g. x.not_gone (gone_along old place g);
-    not_granted = λ g. x.not_granted (granted_along place g);
-    frame = x.frame;
-    rights = x.rights;
-    parent = parent_along x.before.parent m.parent x.parent;
-  })
+  becomes_along old place m (inl x) = grind (arith, inl, inr, parent_along)
+  becomes_along old place m (inr x) = grind (arith, inr, gone_along, granted_along, parent_along)
 
   cut_along : (middle : Mappings) (place : Place) (right : Right) → IsCut Used middle place right → IsCut Other middle place right
   cut_along middle place right c = record { move = c.move; used = to c.move c.used; grant = c.grant; had = c.had; lacks = c.lacks; below = c.below }
@@ -62,10 +47,7 @@ loses_along Lost Other old new to back l = record {
   left_along Lost Other to back place old new x = record {
     frame = x.frame;
     parent = x.parent;
-    rights = λ k. (
-      λ h. let b = (x.rights k).0 h in (b.0, λ o. b.1 (back place k o)),
-      λ b. (x.rights k).1 (b.0, λ o. b.1 (to place k o)),
-    );
+    rights = λ k. grind arith;
     some_right = x.some_right;
   }
 
@@ -81,6 +63,5 @@ transfers_along Used Other to back old new t = record {
       λ b. (t.moved.places place m).1 (becomes_along Other Used back to old place m b),
     );
   };
-  cut = loses_along (IsCut Used t.middle) (IsCut Other t.middle) t.middle new
-      (λ p k c. cut_along Used Other to back t.middle p k c) (λ p k c. cut_along Other Used back to t.middle p k c) t.cut;
+  cut = search (loses_along, cut_along, arith);
 }

@@ -40,11 +40,6 @@ place_bare : (o : Option Entry) → option_map {T = Entry} (λ e. e.place) (bare
 place_bare None = refl
 place_bare (Some e) = refl
 
--- a capped entry says the same apart from rights
-bare_capped : (cap : RightsSet) (o : Option Entry) → bare (option_map (capped cap) o) ≡ bare o
-bare_capped cap None = refl
-bare_capped cap (Some e) = elim e.stands as (λ (o : Option Standing). ◌≡◌ {A = Option Entry} (Some (record e { stands = rightless (option_map (λ (t : Standing). record t { rights = common t.rights cap }) o) })) (Some (record e { stands = rightless o }))) [ None ↦ refl | Some t ↦ refl ]
-
 -- what stands there apart from marks and rights, with its page
 abbrev pub base : Option Entry → Option (Place × Standing)
 base o = option_and_then (λ (e : Entry). option_map (λ (t : Standing). (let p : Place × Standing = (e.place, record t { source = false; granted = None; rights = no_rights }) in p)) e.stands) o
@@ -81,24 +76,6 @@ place_same o n same = sym (place_bare n) ∙ ap (option_map {T = Entry} (λ e. e
 
 pub granted_same : (o n : Option Entry) → bare n ≡ bare o → granted_of n ≡ granted_of o
 granted_same o n same = sym (granted_bare n) ∙ ap granted_of same ∙ granted_bare o
-
--- and without its marks it has its page, if something stands there, and no note
-place_tidied : (o : Option Entry) (place : Place) → option_map {T = Entry} (λ e. e.place) (tidied o) ≡ Some place → option_map {T = Entry} (λ e. e.place) o ≡ Some place
-place_tidied None place h = h
-place_tidied (Some e) place h = elim e.stands as (λ (o : Option Standing). option_map {T = Entry} (λ e. e.place) (tidied (Some (record e { stands = o }))) ≡ Some place → Some e.place ≡ Some place) [
-  | None ↦ λ is. absurd (let z : ◌≡◌ {A = Option Place} None (Some place) = is in cc)
-  | Some t ↦ λ is. is
-] h
-
-granted_tidied : (o : Option Entry) → granted_of (tidied o) ≡ None
-granted_tidied None = refl
-granted_tidied (Some e) = elim e.stands as (λ (o : Option Standing). granted_of (tidied (Some (record e { stands = o }))) ≡ None) [ None ↦ refl | Some t ↦ refl ]
-
-pub place_gone : (o n : Option Entry) (place : Place) → bare n ≡ tidied (bare o) → option_map {T = Entry} (λ e. e.place) n ≡ Some place → option_map {T = Entry} (λ e. e.place) o ≡ Some place
-place_gone o n place tidy h = sym (place_bare o) ∙ place_tidied (bare o) place (ap (option_map {T = Entry} (λ e. e.place)) (sym tidy) ∙ place_bare n ∙ h)
-
-pub granted_gone : (o n : Option Entry) → bare n ≡ tidied (bare o) → granted_of n ≡ None
-granted_gone o n tidy = sym (granted_bare n) ∙ ap granted_of tidy ∙ granted_tidied (bare o)
 
 -- what stands there stands here, at the same page, with the same frame and the same parent
 pub record IsSameBase (e f : Entry) (t u : Standing) : Type 0 where

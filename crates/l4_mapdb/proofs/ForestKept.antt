@@ -1,5 +1,5 @@
 -- A forest stays a forest where places lose rights, and with them all that they passed on.
-use Rattle.std.proofs.Common.{◌≡◌, ◌≢◌, ℕ, ◌<◌, Bool, true, false, Option, Some, None, IsTrue, refl, sym, ap, ◌∙◌, ◌↔◌, subst, inl, inr, ◌⊎◌, option_and_then}
+use Rattle.std.proofs.Common.{◌≡◌, ◌≢◌, ℕ, ◌<◌, Bool, true, false, Option, Some, None, IsTrue, refl, sym, ap, ◌∙◌, ◌↔◌, subst, inl, inr, ◌⊎◌, option_and_then, arith}
 use Rattle.std.specs.FinSet as set
 use Rattle.l4_fpage.specs.Rights.{RightsSet, Right, Read, Write, Execute, has, no_rights}
 use Rattle.l4_mapdb.specs.declared.Place.{Place}
@@ -60,9 +60,7 @@ module _ (Lost : Place → Right → Type 0) (old new : Mappings)
   -- a right is kept by the parent where its child keeps it
   kept_above : (q p : Place) (b a : Mapping) (m : Mapping) → shown old q ≡ Some b → b.parent ≡ Some p → ((k : Right) → IsTrue (has b.rights k) → ¬ (Lost q k) → IsTrue (has a.rights k)) → IsLeft (Lost q) b m
       → (k : Right) → IsTrue (has m.rights k) → IsTrue (has a.rights k) × ¬ (Lost p k)
-  kept_above q p b a m at up within left k h =
-      let both = (left.rights k).0 h in
-      (within k both.0 both.1, λ lost. both.1 (down q p k (parent_is old q b at ∙ up) lost))
+  kept_above q p b a m at up within left k h = grind arith
 
   -- unless a place that is to keep a right is absent, whatever is lost there can be told from what isn't
   not_absent : (p : Place) (a : Mapping) → shown old p ≡ Some a → (keeps : RightsSet) → keeps ≢ no_rights
@@ -93,12 +91,7 @@ module _ (Lost : Place → Right → Type 0) (old new : Mappings)
             let it = (loses.places p a).0 h in
             let same : it.0 ≡ holds.above = same_value (sym it.1 ∙ holds.at) in
             let l : IsLeft (Lost p) holds.above a = subst (λ (x : Mapping). IsLeft (Lost p) x a) same it.2 in
-            record {
-              above = a;
-              at = h;
-              same_frame = l.frame ∙ holds.same_frame ∙ sym left.frame;
-              within = λ k t. (l.rights k).1 (keeps k t);
-            }
+            grind arith
       ] refl
 
   -- each ancestor of a place that stays is there, by the same chain
@@ -119,12 +112,7 @@ module _ (Lost : Place → Right → Type 0) (old new : Mappings)
   root_kept frame r root a at =
       let was = (loses.places r a).0 at in
       let same : was.0 ≡ root.mapping = same_value (sym was.1 ∙ root.at) in
-      record {
-        mapping = a;
-        at = at;
-        frame_is = was.2.frame ∙ ap (λ (x : Mapping). x.frame) same ∙ root.frame_is;
-        top = was.2.parent ∙ ap (λ (x : Mapping). x.parent) same ∙ root.top;
-      }
+      grind arith
 
   root_was : (frame : ℕ) (r : Place) → IsRoot new frame r → IsRoot old frame r
   root_was frame r root =

@@ -41,13 +41,6 @@ stand_in o = option_and_then (λ (e : Entry). option_map (with_place e.place) e.
 abbrev pub sourced : Bool → Option Entry → Option Entry
 sourced source o = option_map {T = Entry} (λ e. record e { stands = option_map (λ (t : Standing). record t { source = source }) e.stands }) o
 
-sourced_stand : (source : Bool) (o : Option Entry) → stand_in (sourced source o) ≡ stand_in o
-sourced_stand source None = refl
-sourced_stand source (Some e) = elim e.stands as (λ (t : Option Standing). stand_in (sourced source (Some (record e { stands = t }))) ≡ stand_in (Some (record e { stands = t }))) [
-  | None ↦ refl
-  | Some t ↦ refl
-]
-
 pub alike_sourced : (key : ℕ) (source : Bool) (old new : Entries) → SetsSource key source old new → StandAlike old new
 alike_sourced key source old new sets k = grind arith
 

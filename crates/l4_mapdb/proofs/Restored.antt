@@ -175,8 +175,7 @@ module _ (old : Linked) (clean : IsClean old) (from to : ℕ) (items : List Item
   pub marks_wanted : (a b : Entries) → ((key : ℕ) → Wants (IsFilled (IsMoved a from to items)) (entry_at a key) (entry_at b key)) → Marks Used old.entries a → Marks Used old.entries b
   marks_wanted a b wants marks = record {
     alike = alike_on old.entries a b marks.alike (wants_alike (IsFilled (IsMoved a from to items)) a b wants);
-    sources = λ key source.
-        marks.sources key (ap (option_map (λ (x : Standing). x.source)) (sym (wants_stands (IsFilled (IsMoved a from to items)) (entry_at a key) (entry_at b key) (wants key))) ∙ source);
+    sources = grind arith;
     targets = λ key e at waits. elim (wants_waits (IsFilled (IsMoved a from to items)) (entry_at a key) (entry_at b key) e (wants key) at) [
       | inl was ↦ marks.targets key e was waits
       | inr f ↦ (f.0, moved_alike old.entries a from to items marks.alike f.0 f.1, f.2)

@@ -1,5 +1,5 @@
 -- Targets are wanted one after another.
-use Rattle.std.proofs.Common.{◌≡◌, ℕ, true, Option, Some, None, refl, sym, ap, ◌∙◌, inl, inr, arith}
+use Rattle.std.proofs.Common.{◌≡◌, ℕ, true, Option, Some, None, sym, ap, ◌∙◌, inl, inr, arith}
 use Rattle.l4_nodes.specs.declared.Place.{Place as LinkPlace}
 use Rattle.l4_links.specs.declared.Entry.{Entry}
 use Rattle.l4_links.specs.Entries.{Entries, entry_at, IsAt, AddsBlank, SetsWanted}
@@ -39,12 +39,6 @@ wants_stand A old new (inr (inr w)) = ap stand_in w.3 ∙ sym (ap stand_in w.1)
 
 pub wants_alike : (A : LinkPlace → Type 0) (old new : Entries) → ((key : ℕ) → Wants A (entry_at old key) (entry_at new key)) → StandAlike old new
 wants_alike A old new wants key = wants_stand A (entry_at old key) (entry_at new key) (wants key)
-
--- what is wanted stays so
-still_wanted : (A : LinkPlace → Type 0) (o n : Option Entry) (e : Entry) → Wants A o n → o ≡ Some e → e.wanted ≡ true → (f : Entry) × (n ≡ Some f) × (f.place ≡ e.place) × (f.wanted ≡ true)
-still_wanted A o n e (inl same) at is = (e, same ∙ at, refl, is)
-still_wanted A o n e (inr (inl w)) at is = grind arith
-still_wanted A o n e (inr (inr w)) at is = absurd (let k : ◌≡◌ {A = Option Entry} None (Some e) = sym w.1 ∙ at in cc)
 
 pub wanted_on : (A : LinkPlace → Type 0) (old new : Entries) (place : LinkPlace) → ((key : ℕ) → Wants A (entry_at old key) (entry_at new key)) → IsWanted old place → IsWanted new place
 wanted_on A old new place wants w = grind arith

@@ -1,5 +1,5 @@
 -- What is known of the used moves of a message.
-use Rattle.std.proofs.Common.{◌≡◌, ℕ, ◌+◌, List, arith}
+use Rattle.std.proofs.Common.{◌≡◌, ℕ, List, arith}
 use Rattle.l4_msg.specs.declared.items.ItemMove.{ItemMove}
 use Rattle.l4_mapdb.specs.Mappings.{Mappings}
 use Rattle.l4_mapdb.specs.Transfer.{PageMove, IsUsed}
@@ -14,10 +14,6 @@ module _ (old : Mappings) (sender receiver : ℕ) (items : List ItemMove) where
 
   one_move : (u v : PageMove) → Used u → Used v → u.item ≡ v.item → u.source ≡ v.source → u.target ≡ v.target → u ≡ v
   one_move u v a b item source target = grind arith
-
-  -- an item's targets are as far from one another as its sources
-  one_distance : (u v : PageMove) → Used u → Used v → u.item ≡ v.item → u.source.page + v.target.page ≡ v.source.page + u.target.page
-  one_distance u v a b item = grind arith
 
   -- an item has one move out of a place
   same_source : (u v : PageMove) → Used u → Used v → u.item ≡ v.item → u.source ≡ v.source → u ≡ v
