@@ -118,7 +118,8 @@ pub fn set_wanted(nodes: &mut Slots, key: usize, wanted: bool)
 /// Gives the slot under the key this page. Changes nothing if there is no slot.
 pub fn set_place(nodes: &mut Slots, key: usize, place: Place)
     requires { IsPage place.page }
-    ensures { SetsPlace key place nodes.old.slots nodes.new.slots }
+    ensures sets { SetsPlace key place nodes.old.slots nodes.new.slots }
+    ensures room { (more : ℕ) → HasRoomFor nodes.old more → HasRoomFor nodes.new more }
 {
     let Some(slot) = nodes.packed.get_mut(key) else {
         return;
