@@ -1,141 +1,154 @@
 -- What is due comes part by part.
-use Rattle.std.proofs.Common.{◌≡◌, ◌≢◌, ℕ, ◌+◌, ◌≤◌, ◌⊎◌, Option, Some, None, false, refl, sym, ap, ◌∙◌, inl, inr, arith}
+use Rattle.std.proofs.Common.{◌≡◌, ◌≢◌, ℕ, ◌-◌, ◌<◌, ◌≤◌, ◌⊎◌, Option, Some, None, refl, sym, ap, ◌∙◌, inl, inr, arith}
 use Rattle.std.specs.Option.{option_map, option_and_then}
-use Rattle.l4_fpage.specs.Rights.{RightsSet, common}
 use Rattle.l4_nodes.specs.declared.Place.{Place}
 use Rattle.l4_links.specs.declared.Standing.{Standing}
 use Rattle.l4_links.specs.declared.Entry.{Entry}
-use Rattle.l4_links.specs.Entries.{Entries, entry_at, IsAt, AddsChild, IsShared, child_entry, IsBrought, IsFilled, Brings}
-use Rattle.l4_links.specs.Inside.Bringing.{Replaces, IsSpare, Fits, IsLacking, AtMost, none, one, pass}
+use Rattle.l4_links.specs.declared.blocks.Pages.{Pages}
+use Rattle.l4_links.specs.Entries.{Entries, entry_at, parent_of, IsAt, IsShared, IsBrought, Stays, IsUnder, Brings}
+use Rattle.l4_links.specs.Inside.Bringing.{Fits, one}
 use Rattle.l4_links.proofs.Writes.{same_some}
 
--- the two parts fill no place twice
-module _ (A B : Entry → Type 0) (old mid new : Entries) (a : Brings A old mid) (b : Brings B mid new) (apart : (x y : Entry) → A x → B y → x.place ≢ y.place) where
-  pub brings_joined : Brings (λ e. A e ⊎ B e) old new
-  brings_joined = grind arith
+-- two parts, of which the second leaves what the first brought
+module _ (A B : Option ℕ → Entry → Type 0) (old mid new : Entries) (a : Brings A old mid) (b : Brings B mid new)
+    (still : (own : Option ℕ) (e : Entry) (key : ℕ) → A own e → entry_at mid key ≡ Some e → Stays B key e.place) where
+  pub brings_joined : Brings (λ own e. A own e ⊎ B own e) old new
+  brings_joined = record {
+    there = λ own e due. elim due [
+      | inl first ↦ let k = a.there own e first in (k.0, k.1, b.kept k.0 e k.2 (still own e k.0 first k.2))
+      | inr second ↦ b.there own e second
+    ];
+    kept = λ key e at s. b.kept key e
+        (a.kept key e at (record { unfilled = λ f. s.unfilled (f.0, f.1, inl f.2, f.3); not_given = λ x due. s.not_given x (inl due) }))
+        (record { unfilled = λ f. s.unfilled (f.0, f.1, inr f.2, f.3); not_given = λ x due. s.not_given x (inr due) });
+    only = λ key e at. elim (b.only key e at) [
+      | inl due ↦ inl (due.0, inr due.1, due.2)
+      | inr was ↦ elim (a.only key e was.0) [
+        | inl due ↦ inl (due.0, inl due.1, due.2)
+        | inr first ↦ grind arith
+      ]
+    ];
+  }
 
 -- the same is due by other words
-pub brings_as : (A B : Entry → Type 0) (old new : Entries) → ((e : Entry) → A e → B e) → ((e : Entry) → B e → A e) → Brings A old new → Brings B old new
-brings_as A B old new on back a = grind arith
-
--- nothing is due
-pub brings_none : (Due : Entry → Type 0) (s : Entries) → ((e : Entry) → ¬ (Due e)) → Brings Due s s
-brings_none Due s nothing = grind arith
-
--- one child more, at a place without a key
-pub brings_added : (parent : ℕ) (place : Place) (rights : RightsSet) (old new : Entries) (key : ℕ) (c : AddsChild parent place rights old new key) → ((other : ℕ) → ¬ (IsAt old place other))
-    → ((k other : ℕ) → (k ≡ other) ⊎ (k ≢ other)) → Brings (λ e. e ≡ child_entry place parent c.above rights) old new
-brings_added parent place rights old new key c free either = grind arith
-
--- one child in place of what was there
-pub brings_renewed : (parent key : ℕ) (rights : RightsSet) (old new : Entries) (s : Replaces parent key rights old new) (was : Entry) → entry_at old key ≡ Some was → was.wanted ≡ false
-    → ((a b : ℕ) → IsAt old was.place a → IsAt old was.place b → a ≡ b) → ((k other : ℕ) → (k ≡ other) ⊎ (k ≢ other)) → Brings (λ e. e ≡ child_entry was.place parent s.above rights) old new
-brings_renewed parent key rights old new s was at unwanted once either = record {
-  there = λ e due. (key, here ∙ ap (λ (x : Entry). Some x) (sym due));
-  kept = λ k e is out. s.stands.others k (λ same. out (child_entry was.place parent s.above rights, refl, ap (λ (x : Entry). x.place) (same_some (sym at ∙ ap (entry_at old) (sym same) ∙ is)))) ∙ is;
-  only = λ k e is. elim (either k key) [
-    | inl same ↦ inl (same_some (sym is ∙ ap (entry_at new) same ∙ here))
-    | inr ne ↦
-        let before = sym (s.stands.others k ne) ∙ is in
-        inr (before, λ f. ne (once k key (ap (option_map {T = Entry} (λ x. x.place)) before ∙ ap (λ (p : Place). Some p) (sym f.2 ∙ ap (λ (x : Entry). x.place) f.1)) (ap (option_map {T = Entry} (λ x. x.place)) at)))
+pub brings_as : (A B : Option ℕ → Entry → Type 0) (old new : Entries) → ((own : Option ℕ) (e : Entry) → A own e → B own e) → ((own : Option ℕ) (e : Entry) → B own e → A own e) → Brings A old new → Brings B old new
+brings_as A B old new on back a = record {
+  there = λ own e due. a.there own e (back own e due);
+  kept = λ key e at s. a.kept key e at (record { unfilled = λ f. s.unfilled (f.0, f.1, on f.0 f.1 f.2, f.3); not_given = λ x due. s.not_given x (on (Some key) x due) });
+  only = λ key e at. elim (a.only key e at) [
+    | inl due ↦ inl (due.0, on due.0 e due.1, due.2)
+    | inr was ↦ inr (was.0, record { unfilled = λ f. was.1.unfilled (f.0, f.1, back f.0 f.1 f.2, f.3); not_given = λ x due. was.1.not_given x (back (Some key) x due) })
   ];
 }
-  where
-    here : entry_at new key ≡ Some (child_entry was.place parent s.above rights)
-    here = s.stands.here ∙ ap (option_map {T = Entry} (λ e. record e { stands = Some (record { frame = s.above.frame; rights = common s.above.rights rights; source = false; granted = None; parent = Some parent }) })) at
-        ∙ (λ i. Some (record { place = was.place; wanted = unwanted i; stands = Some (record { frame = s.above.frame; rights = common s.above.rights rights; source = false; granted = None; parent = Some parent }) }))
 
--- the parent of what is brought is on one of the pages
-pub parent_away : (source : Place) (end : ℕ) (target : Place) (rights : RightsSet) (s : Entries) (e : Entry) (t : Standing) (key : ℕ) → IsBrought source end target rights s e → e.stands ≡ Some t → t.parent ≡ Some key
-    → (place : Place) → IsAt s place key → place.space ≡ source.space
-parent_away source end target rights s e t key b stands parent place at = grind arith
+-- nothing is due
+pub brings_none : (Due : Option ℕ → Entry → Type 0) (s : Entries) → ((own : Option ℕ) (e : Entry) → ¬ (Due own e)) → Brings Due s s
+brings_none Due s nothing = grind arith
 
--- what is due is not in the space of these pages, so these bring what they brought
-module _ (Due : Entry → Type 0) (old new : Entries) (brings : Brings Due old new) (source : Place) (end : ℕ) (target : Place) (rights : RightsSet) (away : (e : Entry) → Due e → e.place.space ≢ source.space) where
-  pub entry_on : (key : ℕ) (e : Entry) → entry_at old key ≡ Some e → e.place.space ≡ source.space → entry_at new key ≡ Some e
-  entry_on key e at in_space = brings.kept key e at (λ f. away f.0 f.1 (ap (λ (p : Place). p.space) f.2 ∙ in_space))
+-- One entry more: it is under the key now, and no other key was of its place. If it is to be under its own key, that was the key.
+module _ (key : ℕ) (own : Option ℕ) (under : IsUnder own key) (e : Entry) (old new : Entries) (here : entry_at new key ≡ Some e) (others : (k : ℕ) → k ≢ key → entry_at new k ≡ entry_at old k)
+    (leaves : (x : Entry) → entry_at old key ≡ Some x → (own ≡ Some key) ⊎ (x.place ≡ e.place)) (alone : (k : ℕ) → IsAt old e.place k → k ≡ key) (either : (a b : ℕ) → (a ≡ b) ⊎ (a ≢ b)) where
+  pub brings_one : Brings (λ o x. (o ≡ own) × (x ≡ e)) old new
+  brings_one = grind arith
 
-  pub entry_back : (key : ℕ) (e : Entry) → entry_at new key ≡ Some e → e.place.space ≡ source.space → entry_at old key ≡ Some e
-  entry_back key e at in_space = elim (brings.only key e at) [
-    | inl due ↦ absurd (away e due in_space)
-    | inr was ↦ was.0
-  ]
+-- what one of these keys brings is of another part's pages, if those are
+abbrev pub rebound : (of : Pages) (first end low high : ℕ) (s : Entries) (own : Option ℕ) (e : Entry) (b : IsBrought of first end s own e) → low ≤ b.shared.entry.place.page → b.shared.entry.place.page < high → IsBrought of low high s own e
+rebound of first end low high s own e b from before = record {
+  key = b.key;
+  shared = record { entry = b.shared.entry; at = b.shared.at; space = b.shared.space; from = from; before = before; standing = b.shared.standing; stands = b.shared.stands; shares = b.shared.shares };
+  place = b.place;
+  how = b.how;
+}
 
-  abbrev on : (key : ℕ) → IsShared source end rights old key → IsShared source end rights new key
-  on key h = record { entry = h.entry; at = entry_on key h.entry h.at h.inside.0; inside = h.inside; standing = h.standing; stands = h.stands; shares = h.shares }
+-- some item that moves pages from the one space to the other brings the entry
+pub record Comes (from to : ℕ) (s : Entries) (own : Option ℕ) (e : Entry) : Type 0 where
+  pub of : Pages
+  pub first : ℕ
+  pub end : ℕ
+  pub source : of.source.space ≡ from
+  pub target : of.target.space ≡ to
+  pub brought : IsBrought of first end s own e
 
-  abbrev back : (key : ℕ) → IsShared source end rights new key → IsShared source end rights old key
-  back key h = record { entry = h.entry; at = entry_back key h.entry h.at h.inside.0; inside = h.inside; standing = h.standing; stands = h.stands; shares = h.shares }
+-- some has come, and more pages are to move
+module _ (from to : ℕ) (differ : from ≢ to) (old now : Entries) (A : Option ℕ → Entry → Type 0) (a : Brings A old now) (comes : (own : Option ℕ) (e : Entry) → A own e → Comes from to old own e) where
+  pub came_to : (own : Option ℕ) (e : Entry) → A own e → e.place.space ≡ to
+  came_to own e due = let c = comes own e due in ap (λ (p : Place). p.space) c.brought.place ∙ c.target
 
-  abbrev pub brought_on : (e : Entry) → IsBrought source end target rights old e → IsBrought source end target rights new e
-  brought_on e b = (b.0, on b.0 b.1, b.2)
+  module _ (of : Pages) (first end : ℕ) (source : of.source.space ≡ from) (target : of.target.space ≡ to)
+      (apart : (own other : Option ℕ) (e f : Entry) → A own e → IsBrought of first end old other f → e.place ≢ f.place) (keys : (key : ℕ) (e : Entry) → A (Some key) e → ¬ (IsShared of first end old key)) where
+    abbrev shared_on : (key : ℕ) → IsShared of first end old key → IsShared of first end now key
+    shared_on key h = record {
+      entry = h.entry;
+      at = a.kept key h.entry h.at (record { unfilled = λ f. differ (sym source ∙ sym h.space ∙ ap (λ (p : Place). p.space) (sym f.3) ∙ came_to f.0 f.1 f.2); not_given = λ x due. keys key x due h });
+      space = h.space;
+      from = h.from;
+      before = h.before;
+      standing = h.standing;
+      stands = h.stands;
+      shares = h.shares;
+    }
 
-  abbrev pub brought_back : (e : Entry) → IsBrought source end target rights new e → IsBrought source end target rights old e
-  brought_back e b = (b.0, back b.0 b.1, b.2)
+    pub was_there : (key : ℕ) (e : Entry) → entry_at now key ≡ Some e → e.place.space ≡ of.source.space → entry_at old key ≡ Some e
+    was_there key e at space = grind arith
 
-  -- a place with a key keeps one, so no more places lack one than before
-  pub lacking_back : (page : ℕ) → IsLacking source end target rights new page → IsLacking source end target rights old page
-  lacking_back page l = record {
-    entry = l.entry;
-    due = brought_back l.entry l.due;
-    page_is = l.page_is;
-    absent = λ key at. over key (entry_at old key) refl at;
-  }
-    where
-      over : (key : ℕ) (o : Option Entry) → entry_at old key ≡ o → option_map {T = Entry} (λ x. x.place) o ≡ Some l.entry.place → ⊥
-      over key None was z = absurd (let w : ◌≡◌ {A = Option Place} None (Some l.entry.place) = z in cc)
-      over key (Some e) was z = still key e was (same_some z)
-        where
-          at_new : (k : ℕ) (x : Entry) → entry_at new k ≡ Some x → x.place ≡ l.entry.place → ⊥
-          at_new k x is same = l.absent k (ap (option_map {T = Entry} (λ y. y.place)) is ∙ ap (λ (p : Place). Some p) same)
+    abbrev shared_back : (key : ℕ) → IsShared of first end now key → IsShared of first end old key
+    shared_back key h = record { entry = h.entry; at = was_there key h.entry h.at h.space; space = h.space; from = h.from; before = h.before; standing = h.standing; stands = h.stands; shares = h.shares }
 
-          still : (k : ℕ) (x : Entry) → entry_at old k ≡ Some x → x.place ≡ l.entry.place → ⊥
-          still k x is same =
-              let out : ¬ (IsFilled Due x.place) = λ f. (let t = brings.there f.0 f.1 in at_new t.0 f.0 t.1 (f.2 ∙ same)) in
-              at_new k x (brings.kept k x is out) same
+    abbrev pub part_on : (own : Option ℕ) (e : Entry) → IsBrought of first end old own e → IsBrought of first end now own e
+    part_on own e b = record { key = b.key; shared = shared_on b.key b.shared; place = b.place; how = b.how }
 
--- what fits still fits, where the parts fill no place twice and the parents of the first are at no place of the second
-module _ (A B : Entry → Type 0) (old new : Entries) (a : Brings A old new) (apart : (x y : Entry) → A x → B y → x.place ≢ y.place)
-    (clear : (x y : Entry) (t : Standing) (key : ℕ) → A x → B y → x.stands ≡ Some t → t.parent ≡ Some key → ¬ (IsAt old y.place key)) where
-  pub fits_on : Fits B old → Fits B new
-  fits_on fits y due key was at place = elim (a.only key was at) [
-    | inl came ↦ absurd (apart was y came due place)
-    | inr kept ↦
-        let spare = fits y due key was kept.0 place in
-        record {
-          plain = spare.plain;
-          parent = spare.parent;
-          leaf = λ low up. over low (entry_at new low) refl up kept.0 spare;
-        }
-  ]
-    where
-      over : (low : ℕ) (o : Option Entry) → entry_at new low ≡ o → option_and_then (λ (t : Standing). t.parent) (option_and_then (λ (e : Entry). e.stands) o) ≡ Some key → entry_at old key ≡ Some was → IsSpare old key was → ⊥
-      over low None is up at_old spare = let w : ◌≡◌ {A = Option ℕ} None (Some key) = up in cc
-      over low (Some x) is up at_old spare = elim (a.only low x is) [
-        | inl came ↦ under x.stands refl up
-        | inr kept ↦ spare.leaf low (ap (λ (o : Option Entry). option_and_then (λ (t : Standing). t.parent) (option_and_then (λ (e : Entry). e.stands) o)) kept.0 ∙ up)
-      ]
-        where
-          under : (o : Option Standing) → x.stands ≡ o → option_and_then (λ (t : Standing). t.parent) o ≡ Some key → ⊥
-          under None s up_here = let w : ◌≡◌ {A = Option ℕ} None (Some key) = up_here in cc
-          under (Some t) s up_here = elim (a.only low x is) [
-            | inl came ↦ clear x y t key came due s up_here (ap (option_map {T = Entry} (λ e. e.place)) at_old ∙ ap (λ (p : Place). Some p) place)
-            | inr kept ↦ spare.leaf low (ap (λ (o : Option Entry). option_and_then (λ (z : Standing). z.parent) (option_and_then (λ (e : Entry). e.stands) o)) kept.0 ∙ up)
-          ]
+    abbrev pub part_back : (own : Option ℕ) (e : Entry) → IsBrought of first end now own e → IsBrought of first end old own e
+    part_back own e b = record { key = b.key; shared = shared_back b.key b.shared; place = b.place; how = b.how }
 
--- no more than before, if fewer numbers are of these
-pub at_most_back : {P Q : ℕ → Type 0} {next end most : ℕ} → ((n : ℕ) → Q n → P n) → AtMost P next end most → AtMost Q next end most
-at_most_back was none = none
-at_most_back was (one fewer lt rest) = one fewer lt (at_most_back was rest)
-at_most_back was (pass other rest) = pass (λ q. other (was _ q)) (at_most_back was rest)
+    -- what comes next leaves what has come
+    next_leaves : (own : Option ℕ) (e : Entry) (key : ℕ) → A own e → entry_at now key ≡ Some e → Stays (IsBrought of first end old) key e.place
+    next_leaves own e key due at = record {
+      unfilled = λ f. apart own f.0 e f.1 due f.2 (sym f.3);
+      not_given = λ x b. elim b.how [
+        | inl child ↦ (let z : ◌≡◌ {A = Option ℕ} (Some key) None = child.1 in cc)
+        | inr given ↦
+            let h = shared_on b.key b.shared in
+            let same : b.shared.entry ≡ e = same_some (sym h.at ∙ ap (entry_at now) (sym (same_some given.1)) ∙ at) in
+            differ (sym source ∙ sym b.shared.space ∙ ap (λ (y : Entry). y.place.space) same ∙ came_to own e due)
+      ];
+    }
 
-pub at_most_more : {P : ℕ → Type 0} {next end a b : ℕ} → a ≤ b → AtMost P next end a → AtMost P next end b
-at_most_more le none = none
-at_most_more le (one fewer lt rest) = one fewer (omega (arith, le, lt)) rest
-at_most_more le (pass other rest) = pass other (at_most_more le rest)
+    -- with it, all of it has come
+    pub next_brings : (new : Entries) → Brings (IsBrought of first end now) now new → Brings (λ own e. A own e ⊎ IsBrought of first end old own e) old new
+    next_brings new b = brings_joined A (IsBrought of first end old) old now new a (brings_as (IsBrought of first end now) (IsBrought of first end old) now new part_back part_on b) next_leaves
 
--- up to a number, and from it on
-pub at_most_joined : {P : ℕ → Type 0} {next mid end a : ℕ} (b : ℕ) → AtMost P next mid a → AtMost P mid end b → AtMost P next end (a + b)
-at_most_joined b none more = at_most_more (omega arith) more
-at_most_joined b (one fewer lt rest) more = one (fewer + b) (omega (arith, lt)) (at_most_joined b rest more)
-at_most_joined b (pass other rest) more = pass other (at_most_joined b rest more)
+    -- it still fits
+    pub next_fits : Fits (IsBrought of first end old) old → Fits (IsBrought of first end now) now
+    next_fits fits own y b key was at place = elim (a.only key was at) [
+      | inl came ↦ absurd (apart came.0 own was y came.1 (part_back own y b) place)
+      | inr kept ↦
+          let f = fits own y (part_back own y b) key was kept.0 place in (
+            f.0,
+            record {
+              plain = f.1.plain;
+              parent = f.1.parent;
+              leaf = λ low up. under low up (f.1.leaf low) (λ z at_z. ap (λ (x : Entry). x.place.space) (same_some (sym at_z ∙ kept.0)) ∙ ap (λ (p : Place). p.space) (place ∙ b.place));
+            },
+          )
+    ]
+      where
+        under : (low : ℕ) → parent_of now low ≡ Some key → parent_of old low ≢ Some key → ((z : Entry) → entry_at old key ≡ Some z → z.place.space ≡ of.target.space) → ⊥
+        under low up leaf at_key = over (entry_at now low) refl up
+          where
+            over : (o : Option Entry) → entry_at now low ≡ o → option_and_then (λ (t : Standing). t.parent) (option_and_then (λ (x : Entry). x.stands) o) ≡ Some key → ⊥
+            over None is z = let w : ◌≡◌ {A = Option ℕ} None (Some key) = z in cc
+            over (Some x) is z = elim (a.only low x is) [
+              | inl came ↦ grind arith
+              | inr kept ↦ leaf (ap (λ (w : Option Entry). option_and_then (λ (t : Standing). t.parent) (option_and_then (λ (y : Entry). y.stands) w)) kept.0 ∙ z)
+            ]
+
+    -- a place with a key keeps one, so no more places lack one than before
+    pub next_lacking : (own : Option ℕ) (e : Entry) → IsBrought of first end now own e → ((key : ℕ) → ¬ (IsAt now e.place key)) → (key : ℕ) → ¬ (IsAt old e.place key)
+    next_lacking own e b absent key at = over (entry_at old key) refl at
+      where
+        over : (o : Option Entry) → entry_at old key ≡ o → option_map {T = Entry} (λ x. x.place) o ≡ Some e.place → ⊥
+        over None was z = let w : ◌≡◌ {A = Option Place} None (Some e.place) = z in cc
+        over (Some x) was z =
+            let same : x.place ≡ e.place = same_some z in
+            let stays : Stays A key x.place = grind arith in
+            absent key (ap (option_map {T = Entry} (λ w. w.place)) (a.kept key x was stays) ∙ ap (λ (p : Place). Some p) same)

@@ -1,117 +1,93 @@
--- What a part of a block's pages brings, once the pages before it have brought their children.
-use Rattle.std.proofs.Common.{◌≡◌, ◌≢◌, ℕ, ◌+◌, ◌-◌, ◌<◌, ◌≤◌, ◌⊎◌, Some, true, sym, ap, ◌∙◌, subst, inl, inr, arith}
+-- What the pages of an item bring, part by part, and what the items of a message bring, one after another.
+use Rattle.std.proofs.Common.{◌≡◌, ◌≢◌, ℕ, ◌+◌, ◌-◌, ◌^◌, ◌<◌, ◌≤◌, ◌⊎◌, Bool, true, false, List, length, Option, Some, None, refl, sym, ap, ◌∙◌, subst, slice_get, inl, inr, arith}
 use Rattle.std.proofs.lemmas.Bool.{cases_lt, cases_eq}
-use Rattle.std.specs.Option.{option_map}
-use Rattle.l4_fpage.specs.Rights.{RightsSet, common, no_rights}
+use Rattle.std.proofs.lemmas.Option.{slice_get_within}
+use Rattle.l4_fpage.specs.Rights.{common, no_rights}
 use Rattle.l4_spaces.specs.Rows.{Rows, is_made}
+use Rattle.l4_msg.specs.declared.items.ItemMove.{ItemMove}
 use Rattle.l4_nodes.specs.declared.Place.{Place}
 use Rattle.l4_nodes.specs.Slots.{Store, HasRoomFor}
+use Rattle.l4_links.specs.Leads.{Leads, step, steps}
 use Rattle.l4_links.specs.declared.Standing.{Standing}
 use Rattle.l4_links.specs.declared.Entry.{Entry}
-use Rattle.l4_links.specs.Entries.{Entries, entry_at, IsAt, moved_place, child_entry, Brings}
-use Rattle.l4_links.specs.Inside.Bringing.{IsBroughtFrom, Fits, HaveTables, IsLacking, AtMost, none, one, pass}
-use Rattle.l4_links.proofs.Bringing.{brings_joined, brings_as, parent_away, brought_on, brought_back, lacking_back, fits_on, at_most_more}
+use Rattle.l4_links.specs.declared.blocks.Pages.{Pages}
+use Rattle.l4_links.specs.Entries.{Entries, entry_at, parent_of, IsAt, pages_of, place_for, IsShared, child_entry, IsBrought, BroughtBy, IsDue, Brings, AreOverLeaves, AreApart}
+use Rattle.l4_links.specs.Inside.Bringing.{Fits, HaveTables, IsLacking, AtMost, none, one, pass}
+use Rattle.l4_links.specs.Inside.Growing.{HaveRoom}
+use Rattle.l4_links.proofs.Bringing.{Comes, rebound, brings_as, part_back, next_brings, next_fits, next_lacking}
+use Rattle.l4_links.proofs.TableEntries.{entry_of_page}
 use Rattle.l4_links.proofs.Writes.{same_some}
 
--- no page shares a right
-pub nothing_brought : (source : Place) (page end : ℕ) (target : Place) (rights : RightsSet) (s : Entries)
-    → ((k : ℕ) (e : Entry) (t : Standing) → entry_at s k ≡ Some e → e.place.space ≡ source.space → page ≤ e.place.page → e.place.page < end → e.stands ≡ Some t → common t.rights rights ≡ no_rights) → (e : Entry) → ¬ (IsBroughtFrom source page end target rights s e)
-nothing_brought source page end target rights s shares_none e b =
-    let h = b.0.1 in
-    h.shares (shares_none b.0.0 h.entry h.standing h.at h.inside.0 b.1 h.inside.2 h.stands)
-
--- one page, on which something stands
-module _ (source : Place) (page : ℕ) (target : Place) (rights : RightsSet) (s : Entries) (from : source.page ≤ page) (key : ℕ) (here : Entry) (at : entry_at s key ≡ Some here) (place_is : here.place ≡ record { space = source.space; page = page })
-    (above : Standing) (stands : here.stands ≡ Some above) where
-  pub one_on : ((k : ℕ) → IsAt s (record { space = source.space; page = page }) k → k ≡ key) → (e : Entry) → IsBroughtFrom source page (page + 1) target rights s e → e ≡ child_entry (moved_place source target (record { space = source.space; page = page })) key above rights
-  one_on alone e b =
-      let h = b.0.1 in
-      let le = b.1 in
-      let lt = h.inside.2 in
-      let page_is : h.entry.place.page ≡ page = omega (arith, le, lt) in
-      let place : h.entry.place ≡ record { space = source.space; page = page } = (λ i. record { space = h.inside.0 i; page = page_is i }) in
-      let same : b.0.0 ≡ key = alone b.0.0 (ap (option_map {T = Entry} (λ x. x.place)) h.at ∙ ap (λ (p : Place). Some p) place) in
-      let entry : h.entry ≡ here = same_some (sym h.at ∙ ap (entry_at s) same ∙ at) in
-      let standing : h.standing ≡ above = same_some (sym h.stands ∙ ap (λ (x : Entry). x.stands) entry ∙ stands) in
-      b.0.2 ∙ (λ i. child_entry (moved_place source target (place i)) (same i) (standing i) rights)
-
-  abbrev pub one_back : (end : ℕ) → page < end → common above.rights rights ≢ no_rights → (e : Entry) → e ≡ child_entry (moved_place source target (record { space = source.space; page = page })) key above rights → IsBroughtFrom source page end target rights s e
-  one_back end before shares e is = (
-    (
-      key,
-      record {
-        entry = here;
-        at = at;
-        inside = (ap (λ (q : Place). q.space) place_is, (let p : here.place.page ≡ page = ap (λ (q : Place). q.page) place_is in omega (arith, p, from)), (let p : here.place.page ≡ page = ap (λ (q : Place). q.page) place_is in omega (arith, p, before)));
-        standing = above;
-        stands = stands;
-        shares = shares;
-      },
-      is ∙ (λ i. child_entry (moved_place source target (sym place_is i)) key above rights),
-    ),
-    (let p : here.place.page ≡ page = ap (λ (q : Place). q.page) place_is in omega (arith, p)),
-  )
+-- a page that is given was at another place
+given_key : (of : Pages) (first end : ℕ) (s : Entries) (key : ℕ) (e : Entry) → (b : IsBrought of first end s (Some key) e) → (of.grant ≡ true) × (key ≡ b.key)
+given_key of first end s key e b = grind arith
 
 -- the pages before one of them, and those from it on
-module _ (source : Place) (page mid end : ℕ) (target : Place) (rights : RightsSet) (from : source.page ≤ page) (more : page ≤ mid) (le : mid ≤ end) where
-  parts_of : (s : Entries) (e : Entry) → IsBroughtFrom source page end target rights s e → IsBroughtFrom source page mid target rights s e ⊎ IsBroughtFrom source mid end target rights s e
-  parts_of s e b = let h = b.0.1 in elim (cases_lt h.entry.place.page mid) [
-    | inl lt ↦ inl ((b.0.0, record { entry = h.entry; at = h.at; inside = (h.inside.0, h.inside.1, lt); standing = h.standing; stands = h.stands; shares = h.shares }, b.0.2), b.1)
-    | inr ge ↦ inr (b.0, ge)
+module _ (of : Pages) (first mid end : ℕ) (from : of.source.page ≤ first) (more : first ≤ mid) (le : mid ≤ end) (differ : of.source.space ≢ of.target.space) (old now : Entries) (a : Brings (IsBrought of first mid old) old now) where
+  comes : (own : Option ℕ) (e : Entry) → IsBrought of first mid old own e → Comes of.source.space of.target.space old own e
+  comes own e b = record { of = of; first = first; end = mid; source = refl; target = refl; brought = b }
+
+  apart : (own other : Option ℕ) (e f : Entry) → IsBrought of first mid old own e → IsBrought of mid end old other f → e.place ≢ f.place
+  apart own other e f b c same = grind arith
+
+  keys : (key : ℕ) (e : Entry) → IsBrought of first mid old (Some key) e → ¬ (IsShared of mid end old key)
+  keys key e b h = grind arith
+
+  last_of : (own : Option ℕ) (e : Entry) → IsBrought of mid end old own e → IsBrought of first end old own e
+  last_of own e b = let ge = b.shared.from in rebound of mid end first end old own e b (omega (arith, ge, more)) b.shared.before
+
+  parts_of : (own : Option ℕ) (e : Entry) → IsBrought of first end old own e → IsBrought of first mid old own e ⊎ IsBrought of mid end old own e
+  parts_of own e b = elim (cases_lt b.shared.entry.place.page mid) [
+    | inl lt ↦ inl (rebound of first end first mid old own e b b.shared.from lt)
+    | inr ge ↦ inr (rebound of first end mid end old own e b ge b.shared.before)
   ]
 
-  first_of : (s : Entries) (e : Entry) → IsBroughtFrom source page mid target rights s e → IsBroughtFrom source page end target rights s e
-  first_of s e b =
-      let h = b.0.1 in
-      let lt = h.inside.2 in
-      ((b.0.0, record { entry = h.entry; at = h.at; inside = (h.inside.0, h.inside.1, omega (arith, lt, le)); standing = h.standing; stands = h.stands; shares = h.shares }, b.0.2), b.1)
+  abbrev back : (own : Option ℕ) (e : Entry) → IsBrought of mid end now own e → IsBrought of mid end old own e
+  back = part_back of.source.space of.target.space differ old now (IsBrought of first mid old) a comes of mid end refl refl apart keys
 
-  last_of : (s : Entries) (e : Entry) → IsBroughtFrom source mid end target rights s e → IsBroughtFrom source page end target rights s e
-  last_of s e b = let ge = b.1 in (b.0, omega (arith, ge, more))
+  pub parts_joined : (new : Entries) → Brings (IsBrought of mid end now) now new → Brings (IsBrought of first end old) old new
+  parts_joined new b = brings_as (λ own e. IsBrought of first mid old own e ⊎ IsBrought of mid end old own e) (IsBrought of first end old) old new
+      (λ own e either. elim either [
+        | inl c ↦ let lt = c.shared.before in rebound of first mid first end old own e c c.shared.from (omega (arith, lt, le))
+        | inr c ↦ last_of own e c
+      ])
+      parts_of (next_brings of.source.space of.target.space differ old now (IsBrought of first mid old) a comes of mid end refl refl apart keys new b)
 
-  module _ (apart : source.space ≢ target.space) (old now : Entries) (a : Brings (IsBroughtFrom source page mid target rights old) old now) where
-    away : (e : Entry) → IsBroughtFrom source page mid target rights old e → e.place.space ≢ source.space
-    away e b same = apart (sym same ∙ ap (λ (x : Entry). x.place.space) b.0.2)
+  pub fits_rest : Fits (IsBrought of first end old) old → Fits (IsBrought of mid end now) now
+  fits_rest fits = next_fits of.source.space of.target.space differ old now (IsBrought of first mid old) a comes of mid end refl refl apart keys (λ own e b. fits own e (last_of own e b))
 
-    part_on : (e : Entry) → IsBroughtFrom source mid end target rights old e → IsBroughtFrom source mid end target rights now e
-    part_on e b = (brought_on (IsBroughtFrom source page mid target rights old) old now a source end target rights away e b.0, b.1)
+  pub tables_rest : (was_rows now_rows : Rows) → ((high : ℕ) → is_made was_rows high ≡ true → is_made now_rows high ≡ true) → HaveTables (IsBrought of first end old) was_rows → HaveTables (IsBrought of mid end now) now_rows
+  tables_rest was_rows now_rows kept made own e b high low is lt = kept high (made own e (last_of own e (back own e b)) high low is lt)
 
-    part_back : (e : Entry) → IsBroughtFrom source mid end target rights now e → IsBroughtFrom source mid end target rights old e
-    part_back e b = (brought_back (IsBroughtFrom source page mid target rights old) old now a source end target rights away e b.0, b.1)
+  pub lacking_rest : of.end ≤ end → (page : ℕ) → mid ≤ page → IsLacking of now page → IsLacking of old page
+  lacking_rest whole page ge l =
+      let at = l.page_is in
+      let low = l.due.shared.from in
+      let lt = l.due.shared.before in
+      let part = rebound of of.source.page of.end mid end now None l.entry l.due (omega (arith, at, ge)) (omega (arith, lt, whole)) in
+      record {
+        entry = l.entry;
+        due = rebound of mid end of.source.page of.end old None l.entry (back None l.entry part) low lt;
+        page_is = at;
+        absent = next_lacking of.source.space of.target.space differ old now (IsBrought of first mid old) a comes of mid end refl refl apart keys None l.entry part l.absent;
+      }
 
-    differ : (x y : Entry) → IsBroughtFrom source page mid target rights old x → IsBroughtFrom source mid end target rights old y → x.place ≢ y.place
-    differ x y b c same =
-        let goes : b.0.1.entry.place.page - source.page + target.page ≡ c.0.1.entry.place.page - source.page + target.page = ap (λ (p : Place). p.page) (sym (ap (λ (z : Entry). z.place) b.0.2) ∙ same ∙ ap (λ (z : Entry). z.place) c.0.2) in
-        let lt = b.0.1.inside.2 in
-        let ge = c.1 in
-        let low = b.0.1.inside.1 in
-        omega (arith, goes, lt, ge, low, from, more)
+-- no more than before, if fewer numbers from there on are of these
+pub at_most_back : {P Q : ℕ → Type 0} {next end most : ℕ} → ((n : ℕ) → next ≤ n → Q n → P n) → AtMost P next end most → AtMost Q next end most
+at_most_back was none = none
+at_most_back was (one fewer lt rest) = one fewer lt (at_most_back (λ n le q. was n (omega (arith, le)) q) rest)
+at_most_back {next = next} was (pass other rest) = pass (λ q. other (was next (omega arith) q)) (at_most_back (λ n le q. was n (omega (arith, le)) q) rest)
 
-    -- a child's parent is on its page, and so at no place
-    clear : (x y : Entry) (t : Standing) (key : ℕ) → IsBroughtFrom source page mid target rights old x → IsBroughtFrom source mid end target rights old y → x.stands ≡ Some t → t.parent ≡ Some key → ¬ (IsAt old y.place key)
-    clear x y t key b c stands parent at = apart (sym (parent_away source mid target rights old x t key b.0 stands parent y.place at) ∙ ap (λ (z : Entry). z.place.space) c.0.2)
+pub at_most_more : {P : ℕ → Type 0} {next end a b : ℕ} → a ≤ b → AtMost P next end a → AtMost P next end b
+at_most_more le none = none
+at_most_more le (one fewer lt rest) = one fewer (omega (arith, le, lt)) rest
+at_most_more le (pass other rest) = pass other (at_most_more le rest)
 
-    pub parts_joined : (new : Entries) → Brings (IsBroughtFrom source mid end target rights now) now new → Brings (IsBroughtFrom source page end target rights old) old new
-    parts_joined new b = brings_as (λ e. IsBroughtFrom source page mid target rights old e ⊎ IsBroughtFrom source mid end target rights old e) (IsBroughtFrom source page end target rights old) old new
-        (λ e either. elim either [
-          | inl first ↦ first_of old e first
-          | inr last ↦ last_of old e last
-        ])
-        (parts_of old)
-        (brings_joined (IsBroughtFrom source page mid target rights old) (IsBroughtFrom source mid end target rights old) old now new a
-        (brings_as (IsBroughtFrom source mid end target rights now) (IsBroughtFrom source mid end target rights old) now new part_back part_on b) differ)
-
-    -- the rest can still take its places, and their tables are still there
-    pub fits_rest : Fits (IsBroughtFrom source page end target rights old) old → Fits (IsBroughtFrom source mid end target rights now) now
-    fits_rest fits e due =
-        fits_on (IsBroughtFrom source page mid target rights old) (IsBroughtFrom source mid end target rights old) old now a differ clear (λ x last. fits x (last_of old x last)) e (part_back e due)
-
-    pub tables_rest : (was now_rows : Rows) → ((high : ℕ) → is_made was high ≡ true → is_made now_rows high ≡ true) → HaveTables (IsBroughtFrom source page end target rights old) was → HaveTables (IsBroughtFrom source mid end target rights now) now_rows
-    tables_rest was now_rows kept have e due high low is lt = kept high (have e (last_of old e (part_back e due)) high low is lt)
-
-    -- no more places lack a key
-    pub lacking_rest : (last p : ℕ) → IsLacking source last target rights now p → IsLacking source last target rights old p
-    lacking_rest last p = lacking_back (IsBroughtFrom source page mid target rights old) old now a source last target rights away p
+-- up to a number, and from it on
+pub at_most_joined : {P : ℕ → Type 0} {next mid end a : ℕ} (b : ℕ) → AtMost P next mid a → AtMost P mid end b → AtMost P next end (a + b)
+at_most_joined b none more = at_most_more (omega arith) more
+at_most_joined b (one fewer lt rest) more = one (fewer + b) (omega (arith, lt)) (at_most_joined b rest more)
+at_most_joined b (pass other rest) more = pass other (at_most_joined b rest more)
 
 -- the number at which counting begins is one of these, or not
 pub at_most_step : {P : ℕ → Type 0} {next end most : ℕ} → next < end → AtMost P next end most → ((fewer : ℕ) × (fewer < most) × AtMost P (next + 1) end fewer) ⊎ ((¬ (P next)) × AtMost P (next + 1) end most)
@@ -137,3 +113,114 @@ at_most_drop {P} {next} {end} {most} mid le within (pass other rest) = elim (cas
 -- room for fewer
 pub room_less : (store : Store) (a b : ℕ) → b ≤ a → HasRoomFor store a → HasRoomFor store b
 room_less store a b le r = (let s = r.slots in record { slots = omega (arith, s, le); notes = r.notes; keys = r.keys })
+
+-- some pages need no room any more
+pub room_passed : (of : Pages) (page mid more : ℕ) (store : Store) → page ≤ mid → mid ≤ of.end → HaveRoom of page more store → HaveRoom of mid more store
+room_passed of page mid more store le within h = (h.0, at_most_drop mid le within h.1, h.2)
+
+-- no page shares a right
+pub nothing_brought : (of : Pages) (page end : ℕ) (s : Entries)
+    → ((k : ℕ) (e : Entry) (t : Standing) → entry_at s k ≡ Some e → e.place.space ≡ of.source.space → page ≤ e.place.page → e.place.page < end → e.stands ≡ Some t → common t.rights of.rights ≡ no_rights) → (own : Option ℕ) (e : Entry) → ¬ (IsBrought of page end s own e)
+nothing_brought of page end s shares_none own e b = let h = b.shared in h.shares (shares_none b.key h.entry h.standing h.at h.space h.from h.before h.stands)
+
+-- one page, on which something stands that shares a right
+module _ (of : Pages) (page : ℕ) (s : Entries) (key : ℕ) (here : Entry) (at : entry_at s key ≡ Some here) (place_is : here.place ≡ record { space = of.source.space; page = page }) (above : Standing) (stands : here.stands ≡ Some above)
+    (shares : common above.rights of.rights ≢ no_rights) where
+  -- what is under its key comes so, by the kind of the item
+  abbrev pub PageBrings : Option ℕ → Entry → Type 0
+  PageBrings own e = ((of.grant ≡ false) × (own ≡ None) × (e ≡ child_entry (place_for of page) key above of.rights)) ⊎ ((of.grant ≡ true) × (own ≡ Some key) × (e ≡ record here { place = place_for of page }))
+
+  pub goes_there : (own : Option ℕ) (e : Entry) → PageBrings own e → e.place ≡ place_for of page
+  goes_there own e how = elim how [ inl c ↦ ap (λ (x : Entry). x.place) c.2 | inr g ↦ ap (λ (x : Entry). x.place) g.2 ]
+
+  abbrev pub page_due : (end : ℕ) → page < end → (own : Option ℕ) (e : Entry) → PageBrings own e → IsBrought of page end s own e
+  page_due end lt own e how =
+      let goes = goes_there own e how in
+      let at_page : here.place.page ≡ page = ap (λ (q : Place). q.page) place_is in
+      record {
+        key = key;
+        shared = record { entry = here; at = at; space = ap (λ (q : Place). q.space) place_is; from = omega (arith, at_page); before = omega (arith, at_page, lt); standing = above; stands = stands; shares = shares };
+        place = goes ∙ sym (ap (λ (q : Place). place_for of q.page) place_is);
+        how = elim how [
+          | inl c ↦ inl (c.0, c.1, c.2 ∙ (λ i. child_entry (sym goes i) key above of.rights))
+          | inr g ↦ inr (g.0, g.1, g.2 ∙ (λ i. record here { place = sym goes i }))
+        ];
+      }
+
+  page_only : ((k : ℕ) → IsAt s (record { space = of.source.space; page = page }) k → k ≡ key) → (own : Option ℕ) (e : Entry) → PageBrings own e → (other : Option ℕ) (x : Entry) → IsBrought of page (page + 1) s other x → (other ≡ own) × (x ≡ e)
+  page_only alone own e how other x b = grind arith
+
+  pub page_brings : ((k : ℕ) → IsAt s (record { space = of.source.space; page = page }) k → k ≡ key) → (own : Option ℕ) (e : Entry) → PageBrings own e → (new : Entries) → Brings (λ o x. (o ≡ own) × (x ≡ e)) s new → Brings (IsBrought of page (page + 1) s) s new
+  page_brings alone own e how new = brings_as (λ o x. (o ≡ own) × (x ≡ e)) (IsBrought of page (page + 1) s) s new
+      (λ o x due. page_due (page + 1) (omega arith) o x (elim how [ inl c ↦ inl (c.0, due.0 ∙ c.1, due.1 ∙ c.2) | inr g ↦ inr (g.0, due.0 ∙ g.1, due.1 ∙ g.2) ])) (page_only alone own e how)
+
+  -- there is such an entry, whatever the kind
+  pub some_brought : (own : Option ℕ) × (e : Entry) × PageBrings own e
+  some_brought = elim of.grant as (λ (b : Bool). of.grant ≡ b → (own : Option ℕ) × (e : Entry) × PageBrings own e) [
+    | false ↦ λ g. (None, child_entry (place_for of page) key above of.rights, inl (g, refl, refl))
+    | true ↦ λ g. (Some key, record here { place = place_for of page }, inr (g, refl, refl))
+  ] refl
+
+-- nothing leads to what nothing has as its parent
+no_descent : (s : Entries) (key : ℕ) → ((low : ℕ) → parent_of s low ≢ Some key) → (low high : ℕ) → Leads (parent_of s) low high → high ≡ key → ⊥
+no_descent s key leaf low high (step {low = l} is) e = leaf l (is ∙ ap (λ (k : ℕ). Some k) e)
+no_descent s key leaf low high (steps {middle = m} is rest) e = no_descent s key leaf m high rest e
+
+-- what fits is over leaves
+pub fits_leaves : (Due : Option ℕ → Entry → Type 0) (s : Entries) → Fits Due s → AreOverLeaves Due s
+fits_leaves Due s fits own e due key at low down = let was = entry_of_page s key e.place at in no_descent s key (fits own e due key was.0 was.1 was.2).1.leaf low key down refl
+
+-- the next item of a message
+module _ (from to : ℕ) (differ : from ≢ to) (items : List ItemMove) (apart : AreApart items (length items)) (i : ℕ) (by : ItemMove) (is : slice_get items i ≡ Some by) (old now : Entries) (a : Brings (IsDue from to items i old) old now) where
+  abbrev of : Pages
+  of = pages_of from to by
+
+  item_comes : (own : Option ℕ) (e : Entry) → IsDue from to items i old own e → Comes from to old own e
+  item_comes own e d = record { of = pages_of from to d.by; first = (pages_of from to d.by).source.page; end = (pages_of from to d.by).end; source = refl; target = refl; brought = d.brings }
+
+  -- where an item's page goes
+  goes_in : (b : ItemMove) (own : Option ℕ) (e : Entry) → BroughtBy (pages_of from to b) old own e → (b.mv.target.first ≤ e.place.page) × (e.place.page < b.mv.target.first + 2 ^ b.mv.target.log)
+  goes_in b own e c = grind arith
+
+  items_apart : (own other : Option ℕ) (e f : Entry) → IsDue from to items i old own e → BroughtBy of old other f → e.place ≢ f.place
+  items_apart own other e f d b same = grind (arith, apart, slice_get_within, ap, goes_in, arith)
+
+  item_keys : (key : ℕ) (e : Entry) → IsDue from to items i old (Some key) e → ¬ (IsShared of of.source.page of.end old key)
+  item_keys key e d h = search (given_key, apart, slice_get_within, inl, same_some, sym, ap, arith, arith)
+
+  due_more : (own : Option ℕ) (e : Entry) → IsDue from to items i old own e ⊎ BroughtBy of old own e → IsDue from to items (i + 1) old own e
+  due_more own e (inl d) = record { item = d.item; by = d.by; before = (let lt = d.before in omega (arith, lt)); item_is = d.item_is; brings = d.brings }
+  due_more own e (inr b) = record { item = i; by = by; before = omega arith; item_is = is; brings = b }
+
+  due_less : (own : Option ℕ) (e : Entry) → IsDue from to items (i + 1) old own e → IsDue from to items i old own e ⊎ BroughtBy of old own e
+  due_less own e d = elim (cases_lt d.item i) [
+    | inl lt ↦ inl (record { item = d.item; by = d.by; before = lt; item_is = d.item_is; brings = d.brings })
+    | inr le ↦
+        let lt = d.before in
+        let same : d.item ≡ i = omega (arith, le, lt) in
+        inr (subst (λ (b : ItemMove). BroughtBy (pages_of from to b) old own e) (same_some (sym d.item_is ∙ ap (slice_get items) same ∙ is)) d.brings)
+  ]
+
+  whole : (own : Option ℕ) (e : Entry) → BroughtBy of old own e → IsDue from to items (length items) old own e
+  whole own e b = record { item = i; by = by; before = slice_get_within items i by is; item_is = is; brings = b }
+
+  abbrev item_back : (own : Option ℕ) (e : Entry) → BroughtBy of now own e → BroughtBy of old own e
+  item_back = part_back from to differ old now (IsDue from to items i old) a item_comes of of.source.page of.end refl refl items_apart item_keys
+
+  pub item_brings : (new : Entries) → Brings (BroughtBy of now) now new → Brings (IsDue from to items (i + 1) old) old new
+  item_brings new b = brings_as (λ own e. IsDue from to items i old own e ⊎ BroughtBy of old own e) (IsDue from to items (i + 1) old) old new due_more due_less
+      (next_brings from to differ old now (IsDue from to items i old) a item_comes of of.source.page of.end refl refl items_apart item_keys new b)
+
+  pub item_fits : Fits (IsDue from to items (length items) old) old → Fits (BroughtBy of now) now
+  item_fits fits = next_fits from to differ old now (IsDue from to items i old) a item_comes of of.source.page of.end refl refl items_apart item_keys (λ own e b. fits own e (whole own e b))
+
+  pub item_tables : (targets : Rows) → HaveTables (IsDue from to items (length items) old) targets → HaveTables (BroughtBy of now) targets
+  item_tables targets made own e b = made own e (whole own e (item_back own e b))
+
+  pub item_lacking : (page : ℕ) → IsLacking of now page → IsLacking of old page
+  item_lacking page l = record {
+    entry = l.entry;
+    due = item_back None l.entry l.due;
+    page_is = l.page_is;
+    absent = next_lacking from to differ old now (IsDue from to items i old) a item_comes of of.source.page of.end refl refl items_apart item_keys None l.entry l.due l.absent;
+  }

@@ -30,11 +30,11 @@ pub mod Wanting
 pub mod WantedItems
 pub mod Bringing
 pub mod BroughtParts
+pub mod Giving
 pub mod Items
 pub mod RowSteps
 pub mod PageRuns
-pub mod Moving
-pub mod RowMoves
+pub mod Alone
 pub mod Noting
 pub mod Laws
 pub mod Low

@@ -10,7 +10,7 @@ use Rattle.std.specs.FinMap as map
 use Rattle.std.specs.FinSet as set
 use Rattle.l4_fpage.specs.Rights.{RightsSet}
 use Rattle.l4_spaces.specs.Tables as tables
-use Rattle.l4_spaces.specs.Tables.{Tables, NonePresentFrom, IsNextPresent, NonePresentIn, IsNextIn, IsPage}
+use Rattle.l4_spaces.specs.Tables.{Tables, NonePresentFrom, IsNextPresent, NonePresentIn, IsNextIn, IsPage, key_of}
 use Rattle.l4_spaces.proofs.Below.{places_total, tie, apart, decided, is_equal}
 use Rattle.l4_nodes.specs.declared.Place.{Place}
 use Rattle.l4_links.specs.declared.Entry.{Entry}
@@ -261,6 +261,10 @@ indexed_renamed old new t u from to key was free sets there fits pages spaces i 
     placed : (o : Option Slot) → option_map {T = Slot} (λ s. s.place) o ≡ Some from → option_map {T = Slot} (λ s. s.place) (option_map {T = Slot} (λ s. record s { place = to }) o) ≡ Some to
     placed None e = no_some from e
     placed (Some s) e = refl
+
+-- a place that is named nowhere is of no key
+pub unnamed : (slots : Slots) (t : Tables) → IsIndexed slots t → (place : Place) → key_of t place.space place.page ≡ None → (other : ℕ) → ¬ (IsOf slots place other)
+unnamed slots t i place absent other o = no_some other (sym absent ∙ (i.names place other).1 o)
 
 pub at_is : (slots : Slots) (k : ℕ) → option_map {T = Entry} (λ e. e.place) (entry_at (entries_of slots) k) ≡ places slots k
 at_is slots k = ap (option_map {T = Entry} (λ e. e.place)) (at_seen slots k) ∙ map_over entry_of (λ (e : Entry). e.place) spot_of (λ (s : Spot). s.place) (λ s. refl) (slot_at slots k)

@@ -1,10 +1,10 @@
 -- What the tables say of a page: its table, its entry and its key.
-use Rattle.std.proofs.Common.{◌≡◌, ℕ, nat_lt, ◌+◌, ◌*◌, ◌-◌, ◌/◌, ◌%◌, ◌<◌, ◌≤◌, Bool, List, Option, Some, None, false, true, length, slice_index_or, sym, ap, ◌∙◌, inl, inr, refl, subst, arith}
+use Rattle.std.proofs.Common.{◌≡◌, ℕ, ◌+◌, ◌-◌, ◌/◌, ◌%◌, ◌<◌, ◌≤◌, List, Option, Some, None, true, length, slice_index_or, sym, ap, ◌∙◌, subst, arith}
 use Rattle.std.proofs.lemmas.Bool.{cases_lt}
 use Rattle.std.proofs.lemmas.List.{get_or_past}
 use Rattle.std.specs.Option.{option_map}
 use Rattle.l4_spaces.specs.Tables.{Tables, key_of, table_pages}
-use Rattle.l4_spaces.specs.Rows.{Rows, row, entry, is_made, AreWhole}
+use Rattle.l4_spaces.specs.Rows.{Rows, row, entry, is_made}
 use Rattle.l4_spaces.proofs.Listing.{past_made}
 use Rattle.l4_nodes.specs.declared.Place.{Place}
 use Rattle.l4_nodes.specs.Slots.{Slots}
@@ -13,16 +13,9 @@ use Rattle.l4_links.specs.Entries.{Entries, entry_at, IsAt}
 use Rattle.l4_links.specs.Inside.Keeping.{IsIndexed, entries_of}
 use Rattle.l4_links.proofs.Naming.{is_at}
 
-abbrev pub page_at : ℕ → ℕ → ℕ → Place
-page_at space high low = record { space = space; page = high * table_pages + low }
-
 -- the entry of a key that is of a page
 pub entry_of_page : (s : Entries) (k : ℕ) (p : Place) → IsAt s p k → (e : Entry) × (entry_at s k ≡ Some e) × (e.place ≡ p)
-entry_of_page s k p is = over (entry_at s k) refl is
-  where
-    over : (o : Option Entry) → entry_at s k ≡ o → option_map {T = Entry} (λ e. e.place) o ≡ Some p → (e : Entry) × (entry_at s k ≡ Some e) × (e.place ≡ p)
-    over None at z = absurd (let w : ◌≡◌ {A = Option Place} None (Some p) = z in cc)
-    over (Some e) at z = (e, at, (let w : ◌≡◌ {A = Option Place} (Some e.place) (Some p) = z in cc))
+entry_of_page s k p is = grind arith
 
 -- a page that has an entry is named by the tables
 pub entry_named : (slots : Slots) (t : Tables) → IsIndexed slots t → (space : ℕ) (k : ℕ) (e : Entry) → entry_at (entries_of slots) k ≡ Some e → e.place.space ≡ space → key_of t space e.place.page ≡ Some k
@@ -32,40 +25,20 @@ entry_named slots t i space k e at in_space =
 
 -- a page with a key has its table
 pub shown_made : (rows : Rows) (page key : ℕ) → entry rows page ≡ Some key → is_made rows (page / table_pages) ≡ true
-shown_made rows page key shows = elim (cases_lt (page % table_pages) (length (row rows (page / table_pages)))) [
-  | inl lt ↦ (let w : 0 < length (row rows (page / table_pages)) = omega (arith, lt) in grind (arith, w))
-  | inr le ↦ absurd (let z : ◌≡◌ {A = Option ℕ} None (Some key) = sym (get_or_past (row rows (page / table_pages)) (page % table_pages) None le) ∙ shows in cc)
-]
+shown_made rows page key shows = grind (arith, cases_lt, get_or_past)
 
 -- a table that exists is one of the list
 pub made_within : (rows : Rows) (high : ℕ) → is_made rows high ≡ true → high < length rows
-made_within rows high made = elim (cases_lt high (length rows)) [
-  | inl lt ↦ lt
-  | inr le ↦ absurd (let z : ◌≡◌ {A = Bool} false true = sym (past_made rows high le) ∙ made in cc)
-]
-
--- and is whole
-pub made_whole : (rows : Rows) (high : ℕ) (line : List (Option ℕ)) → AreWhole rows → is_made rows high ≡ true → row rows high ≡ line → length line ≡ table_pages
-made_whole rows high line whole made is = sym (ap length is) ∙ elim (whole high) [
-  | inl none ↦ absurd (let z : false ≡ true = sym (ap (λ (z : List (Option ℕ)). nat_lt 0 (length z)) none) ∙ made in cc)
-  | inr long ↦ long
-]
+made_within rows high made = grind (arith, cases_lt, past_made)
 
 -- a run, in these two tables
 module _ (source target : ℕ) (sources targets : Rows) (page place f t n : ℕ) (from : source ≤ page) (place_is : place ≡ page - source + target) (f_is : f ≡ page % table_pages) (t_is : t ≡ (page - source + target) % table_pages)
     (line target_line : List (Option ℕ)) (line_is : row sources (page / table_pages) ≡ line) (target_is : row targets (place / table_pages) ≡ target_line) (f_in : f + n ≤ table_pages) (t_in : t + n ≤ table_pages) where
   pub source_entry : (step : ℕ) → step < n → entry sources (page + step) ≡ slice_index_or line (f + step) None
-  source_entry step lt =
-      let high : (page + step) / table_pages ≡ page / table_pages = omega (arith, lt, f_in, f_is) in
-      let low : (page + step) % table_pages ≡ f + step = omega (arith, lt, f_in, f_is) in
-      ap (λ (z : List (Option ℕ)). slice_index_or z ((page + step) % table_pages) None) (ap (row sources) high ∙ line_is) ∙ ap (λ (z : ℕ). slice_index_or line z None) low
+  source_entry step lt = grind arith
 
   pub target_entry : (step : ℕ) → step < n → entry targets (page + step - source + target) ≡ slice_index_or target_line (t + step) None
-  target_entry step lt =
-      let goes : page + step - source + target ≡ place + step = omega (arith, place_is, from) in
-      let high : (place + step) / table_pages ≡ place / table_pages = omega (arith, lt, t_in, t_is, place_is) in
-      let low : (place + step) % table_pages ≡ t + step = omega (arith, lt, t_in, t_is, place_is) in
-      ap (entry targets) goes ∙ ap (λ (z : List (Option ℕ)). slice_index_or z ((place + step) % table_pages) None) (ap (row targets) high ∙ target_is) ∙ ap (λ (z : ℕ). slice_index_or target_line z None) low
+  target_entry step lt = grind arith
 
   -- so what holds of the entries of a step holds of those of its page, and the other way round
   pub at_page : (P : Option ℕ → Option ℕ → Type 0) (step : ℕ) → step < n → P (slice_index_or line (f + step) None) (slice_index_or target_line (t + step) None) → P (entry sources (page + step)) (entry targets (page + step - source + target))

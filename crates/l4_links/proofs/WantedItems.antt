@@ -1,11 +1,11 @@
 -- Whether what the items of a message bring can take its places, as a contract sees them.
-use Rattle.std.proofs.Common.{◌≡◌, ◌≢◌, ◌⊎◌, ℕ, zero, suc, ◌+◌, ◌-◌, ◌/◌, ◌^◌, ◌<◌, ◌≤◌, ◌||◌, Bool, List, Option, Some, None, slice_get, false, true, refl, sym, ap, ◌∙◌, subst, inl, inr, arith}
-use Rattle.std.proofs.lemmas.Bool.{cases_lt, cases_eq}
+use Rattle.std.proofs.Common.{◌≡◌, ◌≢◌, ◌⊎◌, ℕ, zero, suc, ◌+◌, ◌-◌, ◌/◌, ◌^◌, ◌<◌, ◌≤◌, ◌||◌, Bool, List, Option, Some, None, slice_get, true, false, refl, sym, ap, ◌∙◌, subst, inl, inr, arith}
+use Rattle.std.proofs.lemmas.Bool.{cases_lt, cases_eq, false≢true}
 use Rattle.std.specs.Option.{option_map, option_and_then}
-use Rattle.l4_fpage.specs.Rights.{RightsSet, common, no_rights, is_none}
+use Rattle.l4_fpage.specs.Rights.{RightsSet, common, no_rights, Within}
 use Rattle.l4_spaces.specs.Tables.{Tables, key_of, table_pages}
-use Rattle.l4_spaces.specs.Rows.{Rows, entry, is_made, AreTablesOf, AreAside}
-use Rattle.l4_spaces.proofs.Aside.{still_aside, made_aside}
+use Rattle.l4_spaces.specs.Rows.{Rows, entry, is_made, AreTablesOf}
+use Rattle.l4_spaces.proofs.Aside.{made_aside}
 use Rattle.l4_spaces.proofs.Below.{decided}
 use Rattle.l4_msg.specs.declared.items.ItemMove.{ItemMove}
 use Rattle.l4_nodes.specs.declared.Place.{Place}
@@ -15,25 +15,20 @@ use Rattle.l4_links.specs.declared.Standing.{Standing}
 use Rattle.l4_links.specs.declared.Entry.{Entry}
 use Rattle.l4_links.specs.declared.blocks.Pages.{Pages}
 use Rattle.l4_links.specs.Leads.{Leads, step}
-use Rattle.l4_links.specs.Entries.{Entries, entry_at, standing_at, IsAt, IsInPages, moved_place, IsShared, brought, child_entry, IsBrought, IsDue, IsFilled, Brings, LacksKey, HasOther, IsPlain, ArePlain, source_of, target_of, end_of}
-use Rattle.l4_links.specs.Inside.Bringing.{IsSpare, Fits, HaveTables, IsLacking, AtMost, sum_to, WantsItems, CanBring}
-use Rattle.l4_links.specs.Inside.Growing.{SharesSome, Lacks, IsChildOf, WantsPages, IsHinderedPage, LacksPage}
+use Rattle.l4_links.specs.Entries.{Entries, entry_at, standing_at, IsAt, pages_of, place_for, IsShared, child_entry, BroughtBy, IsDue, IsFilled, Brings, LosesNone, IsPlain, ArePlain}
+use Rattle.l4_links.specs.Inside.Bringing.{IsSpare, Fits, HaveTables, MakesTables, IsLacking, AtMost, sum_to, WantsItems, CanBring}
+use Rattle.l4_links.specs.Inside.Growing.{SharesSome, IsChildOf, LacksPage, WantsPages}
 use Rattle.l4_links.specs.Inside.Keeping.{IsIndexed, IsWithin, standing_of, entries_of}
-use Rattle.l4_links.specs.Inside.Moving.{MakesTables, AreNamed}
 use Rattle.l4_links.specs.Inside.Nodes.{limbs}
 use Rattle.l4_links.specs.Inside.Trees.{parent_at}
-use Rattle.l4_links.proofs.Bringing.{at_most_back, brings_none, brings_as}
-use Rattle.l4_links.proofs.Moving.{decide_in}
+use Rattle.l4_links.proofs.Bringing.{brings_none, brings_as}
+use Rattle.l4_links.proofs.BroughtParts.{at_most_back}
 use Rattle.l4_links.proofs.Naming.{is_at}
 use Rattle.l4_links.proofs.Seen.{standing_is, standing_node, leads_of}
 use Rattle.l4_links.proofs.Stacking.{none_is, some_is}
-use Rattle.l4_links.proofs.TableEntries.{entry_of_page, entry_named, shown_made}
+use Rattle.l4_links.proofs.TableEntries.{entry_of_page, entry_named}
 use Rattle.l4_links.proofs.Wanting.{or_false}
 use Rattle.l4_links.proofs.Writes.{no_some, same_some, limb_of, worth_of}
-
--- tables were made, which have no keys
-named_made : (from to : ℕ) (sources old new : Rows) (slots : Slots) (all : Tables) → AreNamed from to sources old slots all → MakesTables old new → AreNamed from to sources new slots all
-named_made from to sources old new slots all t makes = record { source = t.source; target = made_aside all to old new t.target makes.same makes.whole makes.full; indexed = t.indexed }
 
 -- a child that has no marks is that which would come
 child_is : (slots : Slots) (parent key : ℕ) (rights : RightsSet) → IsChildOf parent key rights slots → (x : Entry) → entry_at (entries_of slots) key ≡ Some x → IsPlain x → IsWithin slots → (place : Place) → x.place ≡ place → (above : Standing)
@@ -62,170 +57,186 @@ child_is slots parent key rights own x at plain within place place_is above at_p
     })
 
 none_or : (r : RightsSet) → (r ≡ no_rights) ⊎ (r ≢ no_rights)
-none_or r = decided (is_none r) (λ yes'. inl (none_is r yes')) (λ no'. inr (some_is r no'))
+none_or r = grind (arith, none_is, some_is)
+
+-- what each of two brings is there
+brings_both : (A B : Option ℕ → Entry → Type 0) (s : Entries) → Brings A s s → Brings B s s → Brings (λ own e. A own e ⊎ B own e) s s
+brings_both A B s a b = record {
+  there = λ own e due. elim due [
+    | inl x ↦ a.there own e x
+    | inr y ↦ b.there own e y
+  ];
+  kept = λ key e at _. at;
+  only = λ key e at. elim (a.only key e at) [
+    | inl x ↦ inl (x.0, inl x.1, x.2)
+    | inr out ↦ elim (b.only key e at) [
+      | inl y ↦ inl (y.0, inr y.1, y.2)
+      | inr away ↦ inr (at, record { unfilled = grind arith; not_given = grind arith })
+    ]
+  ];
+}
 
 -- pages of an item, as a contract sees them
-module _ (source : Place) (end : ℕ) (target : Place) (rights : RightsSet) (slots : Slots) (all : Tables) (sources targets : Rows) (t : AreNamed source.space target.space sources targets slots all) where
-  abbrev goes : ℕ → Place
-  goes page = moved_place source target (record { space = source.space; page = page })
+module _ (of : Pages) (slots : Slots) (all : Tables) (sources targets : Rows) (source : AreTablesOf all of.source.space sources) (target : AreTablesOf all of.target.space targets) (indexed : IsIndexed slots all) (wants : ℕ) (changes : Bool)
+    (w : WantsPages of of.source.page of.end sources targets wants changes slots) where
+  abbrev s : Entries
+  s = entries_of slots
 
-  -- what is brought is a child of a page, by the tables
-  shared_key : (key : ℕ) (h : IsShared source end rights (entries_of slots) key) → entry sources h.entry.place.page ≡ Some key
-  shared_key key h = sym (t.source.keys h.entry.place.page) ∙ entry_named slots all t.indexed source.space key h.entry h.at h.inside.0
+  shared_key : (key : ℕ) (h : IsShared of of.source.page of.end s key) → entry sources h.entry.place.page ≡ Some key
+  shared_key key h = sym (source.keys h.entry.place.page) ∙ entry_named slots all indexed of.source.space key h.entry h.at h.space
 
-  shared_some : (key : ℕ) → IsShared source end rights (entries_of slots) key → SharesSome key rights slots
-  shared_some key h =
-      let n = standing_node slots key h.standing (ap (option_and_then (λ (e : Entry). e.stands)) h.at ∙ h.stands) in
-      (n.0, n.1, λ nothing. h.shares (ap (λ (y : Standing). common y.rights rights) (sym n.2) ∙ nothing))
+  shared_node : (key : ℕ) (h : IsShared of of.source.page of.end s key) → (n : Node) × (node_at slots key ≡ Some n) × (standing_of n ≡ h.standing)
+  shared_node key h = standing_node slots key h.standing (ap (option_and_then (λ (e : Entry). e.stands)) h.at ∙ h.stands)
 
-  -- and a child of such a page is brought
-  due_at : (page key : ℕ) → source.page ≤ page → page < end → entry sources page ≡ Some key → SharesSome key rights slots → (e : Entry) × IsBrought source end target rights (entries_of slots) e × (e.place ≡ goes page)
-  due_at page key ge lt shows some =
-      let here : Place = record { space = source.space; page = page } in
-      let e = entry_of_page (entries_of slots) key here ((is_at slots here key).0 ((t.indexed.names here key).0 (t.source.keys page ∙ shows))) in
-      let its : e.0.place.page ≡ page = ap (λ (p : Place). p.page) e.2 in
-      let h : IsShared source end rights (entries_of slots) key = record {
-        entry = e.0;
-        at = e.1;
-        inside = (ap (λ (p : Place). p.space) e.2, omega (arith, its, ge), omega (arith, its, lt));
-        standing = standing_of some.0;
-        stands = sym (ap (option_and_then (λ (z : Entry). z.stands)) e.1) ∙ standing_is slots key ∙ ap (option_map standing_of) some.1;
-        shares = some.2;
-      } in
-      (brought source end target rights (entries_of slots) key h, (key, h, refl), ap (moved_place source target) e.2)
+  shared_some : (key : ℕ) (h : IsShared of of.source.page of.end s key) → SharesSome key of.rights slots
+  shared_some key h = let n = shared_node key h in (n.0, n.1, λ nothing. h.shares (ap (λ (y : Standing). common y.rights of.rights) (sym n.2) ∙ nothing))
 
-  -- the tables name what is at a place
-  named_there : (page : ℕ) → (k : ℕ) → IsAt (entries_of slots) (goes page) k → entry targets (page - source.page + target.page) ≡ Some k
-  named_there page k at = sym (t.target.keys (page - source.page + target.page)) ∙ (t.indexed.names (goes page) k).1 ((is_at slots (goes page) k).1 at)
+  -- what is at the place of what is brought, by the tables
+  named_there : (own : Option ℕ) (e : Entry) (b : BroughtBy of s own e) (k : ℕ) → IsAt s e.place k → entry targets (place_for of b.shared.entry.place.page).page ≡ Some k
+  named_there own e b k at =
+      let goes : Place = place_for of b.shared.entry.place.page in
+      sym (target.keys goes.page) ∙ (indexed.names goes k).1 ((is_at slots goes k).1 (subst (λ (p : Place). IsAt s p k) b.place at))
 
-  at_place : (page : ℕ) → (k : ℕ) → entry targets (page - source.page + target.page) ≡ Some k → IsAt (entries_of slots) (goes page) k
-  at_place page k is = (is_at slots (goes page) k).0 ((t.indexed.names (goes page) k).0 (t.target.keys (page - source.page + target.page) ∙ is))
+  at_place : (page k : ℕ) → entry targets (place_for of page).page ≡ Some k → IsAt s (place_for of page) k
+  at_place page k is = (is_at slots (place_for of page) k).0 ((indexed.names (place_for of page) k).0 (target.keys (place_for of page).page ∙ is))
 
-  -- whether a place is filled is decided by the tables
-  shares_or : (k : ℕ) → SharesSome k rights slots ⊎ ¬ (SharesSome k rights slots)
+  -- whether a right is shared is decided, and so whether a child is brought to a place
+  shares_or : (k : ℕ) → SharesSome k of.rights slots ⊎ ¬ (SharesSome k of.rights slots)
   shares_or k = over (node_at slots k) refl
     where
-      over : (o : Option Node) → node_at slots k ≡ o → SharesSome k rights slots ⊎ ¬ (SharesSome k rights slots)
+      over : (o : Option Node) → node_at slots k ≡ o → SharesSome k of.rights slots ⊎ ¬ (SharesSome k of.rights slots)
       over None is = inr (λ x. no_some x.0 (sym is ∙ x.1))
-      over (Some m) is = elim (none_or (common m.rights rights)) [
-        | inl nothing ↦ inr (λ x. x.2 (ap (λ (n : Node). common n.rights rights) (same_some (sym x.1 ∙ is)) ∙ nothing))
+      over (Some m) is = elim (none_or (common m.rights of.rights)) [
+        | inl nothing ↦ inr (λ x. x.2 (ap (λ (n : Node). common n.rights of.rights) (same_some (sym x.1 ∙ is)) ∙ nothing))
         | inr some ↦ inl (m, is, some)
       ]
 
-  filled_or : (place : Place) → IsFilled (IsBrought source end target rights (entries_of slots)) place ⊎ ¬ (IsFilled (IsBrought source end target rights (entries_of slots)) place)
-  filled_or place = elim (decide_in target (end - source.page + target.page) place) [
-    | inr out ↦ inr (λ f. out (inside f))
-    | inl h ↦ over h (entry sources (place.page - target.page + source.page)) refl
+  -- a child of a page that shares a right is brought
+  child_at : (page key : ℕ) → of.source.page ≤ page → page < of.end → entry sources page ≡ Some key → SharesSome key of.rights slots → of.grant ≡ false → (e : Entry) × BroughtBy of s None e × (e.place ≡ place_for of page)
+  child_at page key ge lt shows some map =
+      let here : Place = record { space = of.source.space; page = page } in
+      let x = entry_of_page s key here ((is_at slots here key).0 ((indexed.names here key).0 (source.keys page ∙ shows))) in
+      let its : x.0.place.page ≡ page = ap (λ (p : Place). p.page) x.2 in
+      let h : IsShared of of.source.page of.end s key = record {
+        entry = x.0;
+        at = x.1;
+        space = ap (λ (p : Place). p.space) x.2;
+        from = omega (arith, its, ge);
+        before = omega (arith, its, lt);
+        standing = standing_of some.0;
+        stands = sym (ap (option_and_then (λ (z : Entry). z.stands)) x.1) ∙ standing_is slots key ∙ ap (option_map standing_of) some.1;
+        shares = some.2;
+      } in
+      (child_entry (place_for of x.0.place.page) key h.standing of.rights, record { key = key; shared = h; place = refl; how = inl (map, refl, refl) }, ap (place_for of) its)
+
+  -- a place with a key is that of a leaf with a parent, and for a child
+  pub fits_item : ArePlain s → Fits (BroughtBy of s) s
+  fits_item plain own e b k was at place = elim ((w.takes b.shared.entry.place.page b.shared.from b.shared.before).0 b.key (shared_key b.key b.shared) (shared_some b.key b.shared)) [
+    | inl free ↦ no_some k (sym free ∙ named)
+    | inr o ↦
+        let same : o.1.0 ≡ k = same_some (sym o.1.1 ∙ named) in (
+          elim b.how [ inl c ↦ c.1 | inr g ↦ absurd (false≢true (sym o.0 ∙ g.0)) ],
+          its o.1.2.node (subst (λ (z : ℕ). node_at slots z ≡ Some o.1.2.node) same o.1.2.stands) o.1.2.parent (subst (λ (z : ℕ). (low : ℕ) → ¬ (Leads (parent_at (limbs slots)) low z)) same o.1.2.leaf),
+        )
   ]
     where
-      at : (f : IsFilled (IsBrought source end target rights (entries_of slots)) place) → goes f.1.1.entry.place.page ≡ place
-      at f = sym (ap (λ (e : Entry). e.place) f.1.2) ∙ f.2
+      named : entry targets (place_for of b.shared.entry.place.page).page ≡ Some k
+      named = named_there own e b k (ap (option_map {T = Entry} (λ x. x.place)) at ∙ ap (λ (p : Place). Some p) place)
 
-      inside : IsFilled (IsBrought source end target rights (entries_of slots)) place → IsInPages target (end - source.page + target.page) place
-      inside f =
-          let from = f.1.1.inside.1 in
-          let before = f.1.1.inside.2 in
-          let page : f.1.1.entry.place.page - source.page + target.page ≡ place.page = ap (λ (p : Place). p.page) (at f) in
-          (sym (ap (λ (p : Place). p.space) (at f)), omega (arith, page), omega (arith, page, from, before))
+      its : (n : Node) → node_at slots k ≡ Some n → n.parent ≢ None → ((low : ℕ) → ¬ (Leads (parent_at (limbs slots)) low k)) → IsSpare s k was
+      its n stands parent leaf = record {
+        plain = plain k was at;
+        parent = λ nothing. parent (ap (λ (x : Standing). x.parent) (same_some (sym (sym (ap (option_and_then (λ (e : Entry). e.stands)) at) ∙ standing_is slots k ∙ ap (option_map standing_of) stands) ∙ (plain k was at).stands)) ∙ nothing);
+        leaf = λ low up. leaf low (leads_of slots (step up));
+      }
 
-      key_at : (f : IsFilled (IsBrought source end target rights (entries_of slots)) place) → entry sources (place.page - target.page + source.page) ≡ Some f.1.0
-      key_at f =
-          let from = f.1.1.inside.1 in
-          let page : f.1.1.entry.place.page - source.page + target.page ≡ place.page = ap (λ (p : Place). p.page) (at f) in
-          ap (entry sources) (let e : place.page - target.page + source.page ≡ f.1.1.entry.place.page = omega (arith, page, from) in e) ∙ shared_key f.1.0 f.1.1
+  pub tables_item : HaveTables (BroughtBy of s) targets
+  tables_item own e b high low is lt =
+      let page : e.place.page ≡ (place_for of b.shared.entry.place.page).page = ap (λ (p : Place). p.page) b.place in
+      let its : (place_for of b.shared.entry.place.page).page / table_pages ≡ high = omega (arith, is, lt, page) in
+      subst (λ (h : ℕ). is_made targets h ≡ true) its ((w.takes b.shared.entry.place.page b.shared.from b.shared.before).2 b.key (shared_key b.key b.shared) (shared_some b.key b.shared))
 
-      over : IsInPages target (end - source.page + target.page) place → (o : Option ℕ) → entry sources (place.page - target.page + source.page) ≡ o
-          → IsFilled (IsBrought source end target rights (entries_of slots)) place ⊎ ¬ (IsFilled (IsBrought source end target rights (entries_of slots)) place)
-      over h None is = inr (λ f. no_some f.1.0 (sym is ∙ key_at f))
-      over h (Some k) is = elim (shares_or k) [
-        | inl some ↦
-            let from = h.1 in
-            let before = h.2 in
-            let d = due_at (place.page - target.page + source.page) k (omega arith) (omega (arith, from, before)) is some in
-            inl (d.0, d.1, d.2 ∙ (λ i. record { space = sym h.0 i; page = (let e : place.page - target.page + source.page - source.page + target.page ≡ place.page = omega (arith, from) in e i) }))
-        | inr apart ↦ inr (λ f. apart (subst (λ (z : ℕ). SharesSome z rights slots) (same_some (sym (key_at f) ∙ is)) (shared_some f.1.0 f.1.1)))
-      ]
+  pub keeps_item : LosesNone of s
+  keeps_item grant key h =
+      let n = shared_node key h in
+      let x = shared_some key h in
+      subst (λ (y : Standing). Within y.rights of.rights) n.2 ((w.takes h.entry.place.page h.from h.before).1 key n.0 grant (shared_key key h) n.1 (λ nothing. h.shares (ap (λ (y : Standing). common y.rights of.rights) (sym n.2) ∙ nothing)))
 
-  pub lacks_page : LacksPage source.page source.page end target.page rights sources targets slots → LacksKey (IsBrought source end target rights (entries_of slots)) (entries_of slots)
-  lacks_page l =
-      let d = due_at l.0 l.3.0 l.1 l.2 l.3.1 l.3.2 in
-      record { entry = d.0; due = d.1; absent = λ k at. no_some k (sym l.3.3 ∙ named_there l.0 k (subst (λ (p : Place). IsAt (entries_of slots) p k) d.2 at)) }
-
-  pub hindered_page : IsHinderedPage source.page source.page end target.page rights sources targets slots → HasOther (IsBrought source end target rights (entries_of slots)) (entries_of slots)
-  hindered_page l = over (entry targets (l.0 - source.page + target.page)) refl
+  pub most_item : AtMost (IsLacking of s) of.source.page of.end wants
+  most_item = at_most_back (λ page _ l. subst (LacksPage of sources targets slots) l.page_is (lacking page l)) w.most
     where
-      over : (o : Option ℕ) → entry targets (l.0 - source.page + target.page) ≡ o → HasOther (IsBrought source end target rights (entries_of slots)) (entries_of slots)
-      over None is = absurd (l.3.3 is)
-      over (Some k) is =
-          let d = due_at l.0 l.3.0 l.1 l.2 l.3.1 l.3.2 in
-          record { entry = d.0; due = d.1; key = k; at = subst (λ (p : Place). IsAt (entries_of slots) p k) (sym d.2) (at_place l.0 k is) }
+      map_only : (e : Entry) → BroughtBy of s None e → of.grant ≡ false
+      map_only e b = elim b.how [ inl c ↦ c.0 | inr g ↦ absurd (let z : ◌≡◌ {A = Option ℕ} None (Some b.key) = g.1 in cc) ]
 
-  module _ (wants : ℕ) (changes : Bool) (w : WantsPages source.page source.page end target.page rights sources targets wants changes slots) where
-    -- a place with a key is that of a leaf with a parent
-    spare : ArePlain (entries_of slots) → (key k : ℕ) (was : Entry) (h : IsShared source end rights (entries_of slots) key) → entry_at (entries_of slots) k ≡ Some was → was.place ≡ moved_place source target h.entry.place → IsSpare (entries_of slots) k was
-    spare plain key k was h at place = elim ((w.takes h.entry.place.page h.inside.1 h.inside.2).0 key (shared_key key h) (shared_some key h)) [
-      | inl free ↦ no_some k (sym free ∙ named)
-      | inr o ↦ its o.2.node (subst (λ (z : ℕ). node_at slots z ≡ Some o.2.node) (same o.0 o.1) o.2.stands) o.2.parent (subst (λ (z : ℕ). (low : ℕ) → ¬ (Leads (parent_at (limbs slots)) low z)) (same o.0 o.1) o.2.leaf)
+      lacking : (page : ℕ) (l : IsLacking of s page) → LacksPage of sources targets slots l.due.shared.entry.place.page
+      lacking page l = (map_only l.entry l.due, (l.due.key, shared_key l.due.key l.due.shared, shared_some l.due.key l.due.shared, over (entry targets (place_for of l.due.shared.entry.place.page).page) refl))
+        where
+          over : (o : Option ℕ) → entry targets (place_for of l.due.shared.entry.place.page).page ≡ o → o ≡ None
+          over None is = refl
+          over (Some k) is =
+              let goes : Place = place_for of l.due.shared.entry.place.page in
+              absurd (l.absent k (subst (λ (p : Place). IsAt s p k) (sym l.due.place) ((is_at slots goes k).0 ((indexed.names goes k).0 (target.keys goes.page ∙ is)))))
+
+  -- unless something changes, a child is brought, and is there
+  module _ (plain : ArePlain s) (within : IsWithin slots) (same : changes ≡ false) where
+    there_item : (own : Option ℕ) (e : Entry) (b : BroughtBy of s own e) → (of.grant ≡ false) × (own ≡ None) × ((key : ℕ) × (entry_at s key ≡ Some e))
+    there_item own e b =
+        let p : ℕ = b.shared.entry.place.page in
+        let child = w.holds same p b.shared.from b.shared.before b.key (shared_key b.key b.shared) (shared_some b.key b.shared) in
+        let x = entry_of_page s child.1.0 (place_for of p) (at_place p child.1.0 child.1.1) in
+        elim b.how [
+          | inl c ↦ (
+            c.0,
+            c.1,
+            (child.1.0, x.1 ∙ ap (λ (z : Entry). Some z) (child_is slots b.key child.1.0 of.rights child.1.2 x.0 x.1 (plain child.1.0 x.0 x.1) within e.place (x.2 ∙ sym b.place) b.shared.standing (ap (option_and_then (λ (z : Entry). z.stands)) b.shared.at ∙ b.shared.stands) ∙ sym c.2)),
+          )
+          | inr g ↦ absurd (false≢true (sym child.0 ∙ g.0))
+        ]
+
+    filled_or : (place : Place) → IsFilled (BroughtBy of s) place ⊎ ¬ (IsFilled (BroughtBy of s) place)
+    filled_or place = elim (cases_eq place.space of.target.space) [
+      | inr away ↦ inr (λ f. away (ap (λ (p : Place). p.space) (at f)))
+      | inl e ↦ elim (cases_lt place.page of.target.page) [
+        | inl less ↦ inr (λ f. (let page = page_at f in omega (arith, less, page)))
+        | inr ge ↦ elim (cases_lt (place.page - of.target.page + of.source.page) of.end) [
+          | inr past ↦ inr (λ f. (let page = page_at f in let before = f.2.shared.before in let from = f.2.shared.from in omega (arith, past, page, before, from)))
+          | inl lt ↦ over e ge lt (entry sources (place.page - of.target.page + of.source.page)) refl
+        ]
+      ]
     ]
       where
-        named : entry targets (h.entry.place.page - source.page + target.page) ≡ Some k
-        named = named_there h.entry.place.page k (ap (option_map {T = Entry} (λ x. x.place)) at ∙ ap (λ (p : Place). Some p) place)
+        at : (f : IsFilled (BroughtBy of s) place) → place ≡ place_for of f.2.shared.entry.place.page
+        at f = sym f.3 ∙ f.2.place
 
-        same : (other : ℕ) → entry targets (h.entry.place.page - source.page + target.page) ≡ Some other → other ≡ k
-        same other is = same_some (sym is ∙ named)
+        page_at : (f : IsFilled (BroughtBy of s) place) → place.page ≡ f.2.shared.entry.place.page - of.source.page + of.target.page
+        page_at f = ap (λ (p : Place). p.page) (at f)
 
-        its : (n : Node) → node_at slots k ≡ Some n → n.parent ≢ None → ((low : ℕ) → ¬ (Leads (parent_at (limbs slots)) low k)) → IsSpare (entries_of slots) k was
-        its n stands parent leaf = record {
-          plain = plain k was at;
-          parent = λ nothing. parent (ap (λ (x : Standing). x.parent) (same_some (sym (sym (ap (option_and_then (λ (e : Entry). e.stands)) at) ∙ standing_is slots k ∙ ap (option_map standing_of) stands) ∙ (plain k was at).stands)) ∙ nothing);
-          leaf = λ low up. leaf low (leads_of slots (step up));
-        }
+        key_at : (f : IsFilled (BroughtBy of s) place) → entry sources (place.page - of.target.page + of.source.page) ≡ Some f.2.key
+        key_at f = ap (entry sources) (let page = page_at f in let from = f.2.shared.from in let z : place.page - of.target.page + of.source.page ≡ f.2.shared.entry.place.page = omega (arith, page, from) in z) ∙ shared_key f.2.key f.2.shared
 
-    pub fits_item : ArePlain (entries_of slots) → Fits (IsBrought source end target rights (entries_of slots)) (entries_of slots)
-    fits_item plain e due k was at place = spare plain due.0 k was due.1 at (place ∙ ap (λ (x : Entry). x.place) due.2)
+        over : place.space ≡ of.target.space → of.target.page ≤ place.page → place.page - of.target.page + of.source.page < of.end → (o : Option ℕ) → entry sources (place.page - of.target.page + of.source.page) ≡ o
+            → IsFilled (BroughtBy of s) place ⊎ ¬ (IsFilled (BroughtBy of s) place)
+        over space ge lt None is = inr (λ f. no_some f.2.key (sym is ∙ key_at f))
+        over space ge lt (Some k) is = elim (shares_or k) [
+          | inl some ↦
+              let map = (w.holds same (place.page - of.target.page + of.source.page) (omega arith) lt k is some).0 in
+              let d = child_at (place.page - of.target.page + of.source.page) k (omega arith) lt is some map in
+              inl (None, d.0, d.1, d.2 ∙ (λ i. record { space = sym space i; page = (let z : place.page - of.target.page + of.source.page - of.source.page + of.target.page ≡ place.page = omega (arith, ge) in z i) }))
+          | inr apart ↦ inr (λ f. apart (subst (λ (z : ℕ). SharesSome z of.rights slots) (same_some (sym (key_at f) ∙ is)) (shared_some f.2.key f.2.shared)))
+        ]
 
-    -- a place with a key has its table, and so does one that lacks a key
-    pub tables_item : HaveTables (IsBrought source end target rights (entries_of slots)) targets
-    tables_item e due high low is lt =
-        let page : e.place.page ≡ due.1.entry.place.page - source.page + target.page = ap (λ (x : Entry). x.place.page) due.2 in
-        let its : (due.1.entry.place.page - source.page + target.page) / table_pages ≡ high = omega (arith, is, lt, page) in
-        subst (λ (h : ℕ). is_made targets h ≡ true) its (over (entry targets (due.1.entry.place.page - source.page + target.page)) refl)
-      where
-        over : (o : Option ℕ) → entry targets (due.1.entry.place.page - source.page + target.page) ≡ o → is_made targets ((due.1.entry.place.page - source.page + target.page) / table_pages) ≡ true
-        over (Some k) shows = shown_made targets (due.1.entry.place.page - source.page + target.page) k shows
-        over None shows = (w.takes due.1.entry.place.page due.1.inside.1 due.1.inside.2).1 (due.0, shared_key due.0 due.1, shared_some due.0 due.1, shows)
-
-    pub most_item : AtMost (IsLacking source end target rights (entries_of slots)) source.page end wants
-    most_item = at_most_back (λ page l. subst (λ (p : ℕ). Lacks (entry sources p) (entry targets (p - source.page + target.page)) rights slots) l.page_is (lacking page l)) w.most
-      where
-        lacking : (page : ℕ) (l : IsLacking source end target rights (entries_of slots) page)
-            → Lacks (entry sources l.due.1.entry.place.page) (entry targets (l.due.1.entry.place.page - source.page + target.page)) rights slots
-        lacking page l = (l.due.0, shared_key l.due.0 l.due.1, shared_some l.due.0 l.due.1, over (entry targets (l.due.1.entry.place.page - source.page + target.page)) refl)
-          where
-            over : (o : Option ℕ) → entry targets (l.due.1.entry.place.page - source.page + target.page) ≡ o → o ≡ None
-            over None is = refl
-            over (Some k) is = absurd (l.absent k (subst (λ (p : Place). IsAt (entries_of slots) p k) (sym (ap (λ (x : Entry). x.place) l.due.2)) (at_place l.due.1.entry.place.page k is)))
-
-    -- unless something changes what is due is there
-    there_item : ArePlain (entries_of slots) → IsWithin slots → changes ≡ false → (e : Entry) → IsBrought source end target rights (entries_of slots) e → (key : ℕ) × (entry_at (entries_of slots) key ≡ Some e)
-    there_item plain within same e due =
-        let h = due.1 in
-        let own = w.holds same h.entry.place.page h.inside.1 h.inside.2 due.0 (shared_key due.0 h) (shared_some due.0 h) in
-        let x = entry_of_page (entries_of slots) own.0 (goes h.entry.place.page) (at_place h.entry.place.page own.0 own.1) in
-        (own.0, x.1 ∙ ap (λ (z : Entry). Some z) (child_is slots due.0 own.0 rights own.2 x.0 x.1 (plain own.0 x.0 x.1) within (goes h.entry.place.page) x.2 h.standing (ap (option_and_then (λ (z : Entry). z.stands)) h.at ∙ h.stands) ∙ sym due.2))
-
-    pub held_item : ArePlain (entries_of slots) → IsWithin slots → changes ≡ false → Brings (IsBrought source end target rights (entries_of slots)) (entries_of slots) (entries_of slots)
-    held_item plain within same = record {
-      there = there_item plain within same;
+    pub held_item : Brings (BroughtBy of s) s s
+    held_item = record {
+      there = λ own e b. (let x = there_item own e b in (x.2.0, inl x.1, x.2.1));
       kept = λ key e at _. at;
       only = λ key e at. elim (filled_or e.place) [
         | inl f ↦
-            let x = there_item plain within same f.0 f.1 in
-            let one = entry_named slots all t.indexed e.place.space key e at refl in
-            let other = entry_named slots all t.indexed e.place.space x.0 f.0 x.1 (ap (λ (p : Place). p.space) f.2) in
-            let keys : x.0 ≡ key = same_some (sym other ∙ ap (λ (p : Place). key_of all e.place.space p.page) f.2 ∙ one) in
-            inl (subst (IsBrought source end target rights (entries_of slots)) (same_some (sym x.1 ∙ ap (entry_at (entries_of slots)) keys ∙ at)) f.1)
-        | inr out ↦ inr (at, out)
+            let x = there_item f.0 f.1 f.2 in
+            let one = entry_named slots all indexed e.place.space key e at refl in
+            let other = entry_named slots all indexed e.place.space x.2.0 f.1 x.2.1 (ap (λ (p : Place). p.space) f.3) in
+            let keys : x.2.0 ≡ key = same_some (sym other ∙ ap (λ (p : Place). key_of all e.place.space p.page) f.3 ∙ one) in
+            inl (f.0, subst (BroughtBy of s f.0) (same_some (sym x.2.1 ∙ ap (entry_at s) keys ∙ at)) f.2, inl x.1)
+        | inr out ↦ inr (at, record { unfilled = out; not_given = λ z b. no_some key (sym (there_item (Some key) z b).1) })
       ];
     }
 
@@ -249,106 +260,54 @@ unfolding sum_to
 sum_same f g zero same = refl
 sum_same f g (suc n) same = (let before = sum_same f g n (λ k lt. same k (omega (arith, lt))) in let here = same n (omega arith) in omega (arith, before, here))
 
--- the tables of the places' space are aside, and those that were made have no keys
-pub named_aside : (from to : ℕ) → from ≢ to → (pages all : Tables) (sources targets made : Rows) (slots : Slots) → AreTablesOf pages from sources → AreAside to targets pages all → IsIndexed slots all → MakesTables targets made → AreNamed from to sources made slots all
-named_aside from to differ pages all sources targets made slots src aside i makes =
-    named_made from to sources targets made slots all (record { source = still_aside pages all from sources (λ p. aside.away from p differ) src; target = aside.here; indexed = i }) makes
-
--- what each of two brings is there
-brings_both : (A B : Entry → Type 0) (s : Entries) → Brings A s s → Brings B s s → Brings (λ e. A e ⊎ B e) s s
-brings_both A B s a b = record {
-  there = λ e due. elim due [
-    | inl x ↦ a.there e x
-    | inr y ↦ b.there e y
-  ];
-  kept = λ key e at _. at;
-  only = λ key e at. elim (a.only key e at) [
-    | inl x ↦ inl (inl x)
-    | inr out ↦ elim (b.only key e at) [
-      | inl y ↦ inl (inr y)
-      | inr away ↦ inr (
-        at,
-        λ f. elim f.1 [
-          | inl x ↦ out.1 (f.0, x, f.2)
-          | inr y ↦ away.1 (f.0, y, f.2)
-        ],
-      )
-    ]
-  ];
-}
-
--- more is due
-lacks_on : {A B : Entry → Type 0} {s : Entries} → ((e : Entry) → A e → B e) → LacksKey A s → LacksKey B s
-lacks_on on l = record { entry = l.entry; due = on l.entry l.due; absent = l.absent }
-
-other_on : {A B : Entry → Type 0} {s : Entries} → ((e : Entry) → A e → B e) → HasOther A s → HasOther B s
-other_on on l = record { entry = l.entry; due = on l.entry l.due; key = l.key; at = l.at }
-
 pub can_first : (from to : ℕ) (items : List ItemMove) (s : Entries) (targets : Rows) → CanBring from to items 0 s targets 0 false
 unfolding sum_to
 can_first from to items s targets = (
-  λ e due. absurd (none_due due),
-  λ e due. absurd (none_due due),
+  λ own e due. absurd (none_due due),
+  λ own e due. absurd (none_due due),
   record { counts = λ _. 0; each = λ item by lt. absurd (omega (arith, lt)); total = omega arith },
-  λ h. absurd (omega (arith, h)),
-  λ _. brings_none (IsDue from to items 0 s) s (λ e due. none_due due),
+  λ item by lt. absurd (omega (arith, lt)),
+  λ _. brings_none (IsDue from to items 0 s) s (λ own e due. none_due due),
 )
   where
-    none_due : {e : Entry} → ¬ (IsDue from to items 0 s e)
+    none_due : {own : Option ℕ} {e : Entry} → ¬ (IsDue from to items 0 s own e)
     none_due due = let lt = due.before in omega (arith, lt)
 
 -- with the item no more is wanted than there are places up to its last one
-pub ends_before : (from to : ℕ) (by : ItemMove) (of : Pages) → of ≡ record { source = source_of from by; end = end_of by; target = target_of to by; rights = by.rights } → (slots : Slots) (sources targets : Rows) (a b : ℕ) (changes : Bool)
-    → WantsPages of.source.page of.source.page of.end of.target.page of.rights sources targets b changes slots → a ≤ by.mv.target.first → a + b ≤ by.mv.target.first + 2 ^ by.mv.target.log
-ends_before from to by of of_is slots sources targets a b changes w le =
-    let first : of.source.page ≡ by.mv.source.first = ap (λ (o : Pages). o.source.page) of_is in
-    let last : of.end ≡ end_of by = ap (λ (o : Pages). o.end) of_is in
-    let size : 2 ^ by.mv.source.log ≡ 2 ^ by.mv.target.log = ap (λ (z : ℕ). 2 ^ z) by.mv.same_size in
-    let few = w.few in
-    omega (arith, le, few, first, last, size)
+pub ends_before : (from to : ℕ) (by : ItemMove) (slots : Slots) (sources targets : Rows) (a b : ℕ) (changes : Bool) → WantsPages (pages_of from to by) (pages_of from to by).source.page (pages_of from to by).end sources targets b changes slots → a ≤ by.mv.target.first
+    → a + b ≤ by.mv.target.first + 2 ^ by.mv.target.log
+ends_before from to by slots sources targets a b changes w le = grind arith
 
--- items, one after another
-module _ (from to : ℕ) (items : List ItemMove) (n : ℕ) (by : ItemMove) (by_is : slice_get items n ≡ Some by) (slots : Slots) (all : Tables) (sources targets : Rows) (t : AreNamed from to sources targets slots all) (of : Pages)
-    (of_is : of ≡ record { source = source_of from by; end = end_of by; target = target_of to by; rights = by.rights }) where
-  abbrev s : Entries
-  s = entries_of slots
+-- the next item
+module _ (from to : ℕ) (items : List ItemMove) (n : ℕ) (by : ItemMove) (by_is : slice_get items n ≡ Some by) (slots : Slots) (all : Tables) (sources targets made : Rows) (source : AreTablesOf all from sources) (before : AreTablesOf all to targets) (indexed : IsIndexed slots all)
+    (more : MakesTables targets made) (a b : ℕ) (x y : Bool) (wants : WantsPages (pages_of from to by) (pages_of from to by).source.page (pages_of from to by).end sources made b y slots) where
+  abbrev its : Entries
+  its = entries_of slots
 
-  abbrev Mine : Entry → Type 0
-  Mine = IsBrought (source_of from by) (end_of by) (target_of to by) by.rights s
+  abbrev of : Pages
+  of = pages_of from to by
 
-  due_mine : (end : ℕ) → n < end → (e : Entry) → Mine e → IsDue from to items end s e
-  due_mine end lt e b = record { item = n; by = by; before = lt; item_is = by_is; brings = b }
+  target : AreTablesOf all to made
+  target = made_aside all to targets made before more.same more.whole more.full
 
-  due_before : (e : Entry) → IsDue from to items n s e → IsDue from to items (n + 1) s e
-  due_before e d = (let lt = d.before in record { item = d.item; by = d.by; before = omega (arith, lt); item_is = d.item_is; brings = d.brings })
-
-  due_split : (e : Entry) → IsDue from to items (n + 1) s e → IsDue from to items n s e ⊎ Mine e
-  due_split e d = elim (cases_lt d.item n) [
+  split : (own : Option ℕ) (e : Entry) → IsDue from to items (n + 1) its own e → IsDue from to items n its own e ⊎ BroughtBy of its own e
+  split own e d = elim (cases_lt d.item n) [
     | inl lt ↦ inl (record { item = d.item; by = d.by; before = lt; item_is = d.item_is; brings = d.brings })
     | inr ge ↦
         let last = d.before in
         let same : d.item ≡ n = omega (arith, ge, last) in
-        let its : d.by ≡ by = same_some (sym d.item_is ∙ ap (slice_get items) same ∙ by_is) in
-        inr (subst (λ (b : ItemMove). IsBrought (source_of from b) (end_of b) (target_of to b) b.rights s e) its d.brings)
+        inr (subst (λ (x : ItemMove). BroughtBy (pages_of from to x) its own e) (same_some (sym d.item_is ∙ ap (slice_get items) same ∙ by_is)) d.brings)
   ]
 
-  pub item_lacks : (last : ℕ) → n < last → LacksPage of.source.page of.source.page of.end of.target.page of.rights sources targets slots → LacksKey (IsDue from to items last s) s
-  item_lacks last lt l = lacks_on (due_mine last lt)
-      (lacks_page (source_of from by) (end_of by) (target_of to by) by.rights slots all sources targets t (subst (λ (o : Pages). LacksPage o.source.page o.source.page o.end o.target.page o.rights sources targets slots) of_is l))
-
-  pub item_hindered : (last : ℕ) → n < last → IsHinderedPage of.source.page of.source.page of.end of.target.page of.rights sources targets slots → HasOther (IsDue from to items last s) s
-  item_hindered last lt l = other_on (due_mine last lt)
-      (hindered_page (source_of from by) (end_of by) (target_of to by) by.rights slots all sources targets t (subst (λ (o : Pages). IsHinderedPage o.source.page o.source.page o.end o.target.page o.rights sources targets slots) of_is l))
-
   -- the sum grows by what the item wants
-  counts_more : (a b : ℕ) → WantsItems from to items n s a → AtMost (IsLacking (source_of from by) (end_of by) (target_of to by) by.rights s) by.mv.source.first (end_of by) b → WantsItems from to items (n + 1) s (a + b)
+  counts_more : WantsItems from to items n its a → AtMost (IsLacking of its) of.source.page of.end b → WantsItems from to items (n + 1) its (a + b)
   unfolding sum_to
-  counts_more a b w most = record {
+  counts_more w most = record {
     counts = counts;
     each = λ item other lt is. elim (cases_eq item n) [
       | inl e ↦
-          let its : by ≡ other = same_some (sym by_is ∙ ap (slice_get items) (sym e) ∙ is) in
-          subst (Most other) (sym (pick_first (cases_eq item n) b (w.counts item) e)) (subst (λ (x : ItemMove). Most x b) its most)
+          let same : by ≡ other = same_some (sym by_is ∙ ap (slice_get items) (sym e) ∙ is) in
+          subst (Most other) (sym (pick_first (cases_eq item n) b (w.counts item) e)) (subst (λ (x : ItemMove). Most x b) same most)
       | inr ne ↦ subst (Most other) (sym (pick_second (cases_eq item n) b (w.counts item) ne)) (w.each item other (omega (arith, lt, ne)) is)
     ];
     total =
@@ -362,32 +321,27 @@ module _ (from to : ℕ) (items : List ItemMove) (n : ℕ) (by : ItemMove) (by_i
       counts k = pick (cases_eq k n) b (w.counts k)
 
       Most : ItemMove → ℕ → Type 0
-      Most x = AtMost (IsLacking (source_of from x) (end_of x) (target_of to x) x.rights s) x.mv.source.first (end_of x)
+      Most x = AtMost (IsLacking (pages_of from to x) its) (pages_of from to x).source.page (pages_of from to x).end
 
-  -- the item is one more
-  module _ (made : Rows) (more : MakesTables targets made) (a b : ℕ) (first second : Bool) (wants : WantsPages of.source.page of.source.page of.end of.target.page of.rights sources made b second slots) where
-    named : AreNamed from to sources made slots all
-    named = named_made from to sources targets made slots all t more
-
-    w : WantsPages by.mv.source.first by.mv.source.first (end_of by) by.mv.target.first by.rights sources made b second slots
-    w = subst (λ (o : Pages). WantsPages o.source.page o.source.page o.end o.target.page o.rights sources made b second slots) of_is wants
-
-    pub can_more : ArePlain s → IsWithin slots → CanBring from to items n s targets a first → CanBring from to items (n + 1) s made (a + b) (first || second)
-    can_more plain within can = (
-      λ e due. elim (due_split e due) [
-        | inl before ↦ can.0 e before
-        | inr mine ↦ fits_item (source_of from by) (end_of by) (target_of to by) by.rights slots all sources made named b second w plain e mine
-      ],
-      λ e due high low is lt. elim (due_split e due) [
-        | inl before ↦ more.kept high (can.1 e before high low is lt)
-        | inr mine ↦ tables_item (source_of from by) (end_of by) (target_of to by) by.rights slots all sources made named b second w e mine high low is lt
-      ],
-      counts_more a b can.2 (most_item (source_of from by) (end_of by) (target_of to by) by.rights slots all sources made named b second w),
-      λ h. elim (cases_lt 0 a) [
-        | inl lt ↦ lacks_on due_before (can.3 lt)
-        | inr le ↦ lacks_on (due_mine (n + 1) (omega arith)) (lacks_page (source_of from by) (end_of by) (target_of to by) by.rights slots all sources made named (w.some (omega (arith, h, le))))
-      ],
-      λ same. brings_as (λ e. IsDue from to items n s e ⊎ Mine e) (IsDue from to items (n + 1) s) s s (λ e d. elim d [ inl before ↦ due_before e before | inr mine ↦ due_mine (n + 1) (omega arith) e mine ]) due_split
-          (brings_both (IsDue from to items n s) Mine s (can.4 (or_false first second same).0)
-          (held_item (source_of from by) (end_of by) (target_of to by) by.rights slots all sources made named b second w plain within (or_false first second same).1)),
-    )
+  pub can_more : ArePlain its → IsWithin slots → CanBring from to items n its targets a x → CanBring from to items (n + 1) its made (a + b) (x || y)
+  can_more plain within can = (
+    λ own e due. elim (split own e due) [
+      | inl first ↦ can.0 own e first
+      | inr mine ↦ fits_item of slots all sources made source target indexed b y wants plain own e mine
+    ],
+    λ own e due high low is lt. elim (split own e due) [
+      | inl first ↦ more.kept high (can.1 own e first high low is lt)
+      | inr mine ↦ tables_item of slots all sources made source target indexed b y wants own e mine high low is lt
+    ],
+    counts_more can.2 (most_item of slots all sources made source target indexed b y wants),
+    λ item other lt is. elim (cases_eq item n) [
+      | inl e ↦ subst (λ (x : ItemMove). LosesNone (pages_of from to x) its) (same_some (sym by_is ∙ ap (slice_get items) (sym e) ∙ is)) (keeps_item of slots all sources made source target indexed b y wants)
+      | inr ne ↦ can.3 item other (omega (arith, lt, ne)) is
+    ],
+    λ same. brings_as (λ own e. IsDue from to items n its own e ⊎ BroughtBy of its own e) (IsDue from to items (n + 1) its) its its
+        (λ own e d. elim d [
+          | inl first ↦ (let lt = first.before in record { item = first.item; by = first.by; before = omega (arith, lt); item_is = first.item_is; brings = first.brings })
+          | inr mine ↦ record { item = n; by = by; before = omega arith; item_is = by_is; brings = mine }
+        ]) split
+        (brings_both (IsDue from to items n its) (BroughtBy of its) its (can.4 (or_false x y same).0) (held_item of slots all sources made source target indexed b y wants plain within (or_false x y same).1)),
+  )

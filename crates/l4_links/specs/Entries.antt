@@ -1,6 +1,6 @@
 -- What a contract sees of the nodes: the spaces that exist, the page of each key, and the node there (this profile's own). A node "stands"
 -- if it is a mapping and not a blank.
-use Rattle.std.specs.Prelude.{◌≡◌, ◌≢◌, ◌↔◌, ◌⊎◌, ◌<◌, ◌≤◌, ◌+◌, ◌-◌, ◌^◌, ℕ, Bool, true, false, List, length, Result, Ok, Err, Option, Some, None, slice_get, slice_index_or, option_and_then, if◌then◌else◌, IsTrue, refl}
+use Rattle.std.specs.Prelude.{◌≡◌, ◌≢◌, ◌↔◌, ◌⊎◌, ◌<◌, ◌≤◌, ◌+◌, ◌-◌, ◌^◌, ℕ, Bool, true, false, List, length, Option, Some, None, slice_get, slice_index_or, option_and_then, if◌then◌else◌, IsTrue, refl}
 use Rattle.std.specs.Option.{option_map}
 use Rattle.std.specs.Ordering.{nat_cmp}
 use Rattle.std.specs.FinSet as set
@@ -11,6 +11,7 @@ use Rattle.l4_msg.specs.declared.items.ItemMove.{ItemMove}
 use Rattle.l4_nodes.specs.declared.Place.{Place}
 use Rattle.l4_links.specs.declared.Standing.{Standing}
 use Rattle.l4_links.specs.declared.Entry.{Entry}
+use Rattle.l4_links.specs.declared.blocks.Pages.{Pages}
 use Rattle.l4_links.specs.Leads.{Leads}
 
 -- the entry under each key from 0 on, if there is one
@@ -225,48 +226,30 @@ pub record TakesOver (key blank : ℕ) (rights : RightsSet) (old new : Entries) 
   pub gone : entry_at new blank ≡ None
   pub others : (other : ℕ) → other ≢ key → other ≢ blank → entry_at new other ≡ entry_at old other
 
--- the place is one of the pages from this one on and below the end
-abbrev pub IsInPages : Place → ℕ → Place → Type 0
-IsInPages first end place = (place.space ≡ first.space) × (first.page ≤ place.page) × (place.page < end)
+-- the pages of an item in the sender's space, and what it does with them in the receiver's
+abbrev pub pages_of : ℕ → ℕ → ItemMove → Pages
+pages_of from to by = record {
+  source = record { space = from; page = by.mv.source.first };
+  end = by.mv.source.first + 2 ^ by.mv.source.log;
+  target = record { space = to; page = by.mv.target.first };
+  rights = by.rights;
+  grant = by.grant;
+}
 
--- the place that is as far after the target as this one is after the source
-abbrev pub moved_place : Place → Place → Place → Place
-moved_place source target place = record { space = target.space; page = place.page - source.page + target.page }
+-- the place to which the page goes
+abbrev pub place_for : Pages → ℕ → Place
+place_for of page = record { space = of.target.space; page = page - of.source.page + of.target.page }
 
--- The entries of the pages from the source on and below the end are at the places from the target on now, with their keys, and everything
--- else is unchanged. They had no rights but these, and those places had no keys.
-pub record MovesPages (source : Place) (end : ℕ) (target : Place) (rights : RightsSet) (old new : Entries) : Type 0 where
-  pub moved : (key : ℕ) (e : Entry) → entry_at old key ≡ Some e → IsInPages source end e.place → entry_at new key ≡ Some (record e { place = moved_place source target e.place })
-  pub kept : (key : ℕ) (e : Entry) → entry_at old key ≡ Some e → ¬ (IsInPages source end e.place) → entry_at new key ≡ Some e
-  pub vacant : (key : ℕ) → entry_at old key ≡ None → entry_at new key ≡ None
-  pub within : (key : ℕ) (e : Entry) (t : Standing) → entry_at old key ≡ Some e → IsInPages source end e.place → e.stands ≡ Some t → Within t.rights rights
-  pub absent : (key : ℕ) (e : Entry) → entry_at old key ≡ Some e → IsInPages source end e.place → (other : ℕ) → ¬ (IsAt old (moved_place source target e.place) other)
-
--- one of these pages has a right that is not one of these, or the place to which it would go has a key
-pub record Hinders (source : Place) (end : ℕ) (target : Place) (rights : RightsSet) (s : Entries) : Type 0 where
-  pub key : ℕ
+-- what is under the key is at one of these pages, from the first one on and below the end, and shares a right with the item
+pub record IsShared (of : Pages) (first end : ℕ) (s : Entries) (key : ℕ) : Type 0 where
   pub entry : Entry
   pub at : entry_at s key ≡ Some entry
-  pub inside : IsInPages source end entry.place
-  pub why : ((t : Standing) × (entry.stands ≡ Some t) × ¬ (Within t.rights rights)) ⊎ ((other : ℕ) × IsAt s (moved_place source target entry.place) other)
-
--- one of these pages has no rights but these, and the place to which it would go has no key
-pub record LacksPlace (source : Place) (end : ℕ) (target : Place) (rights : RightsSet) (s : Entries) : Type 0 where
-  pub key : ℕ
-  pub entry : Entry
-  pub at : entry_at s key ≡ Some entry
-  pub inside : IsInPages source end entry.place
-  pub within : (t : Standing) → entry.stands ≡ Some t → Within t.rights rights
-  pub absent : (other : ℕ) → ¬ (IsAt s (moved_place source target entry.place) other)
-
--- what is under the key is at one of these pages, and shares a right with these
-pub record IsShared (source : Place) (end : ℕ) (rights : RightsSet) (s : Entries) (key : ℕ) : Type 0 where
-  pub entry : Entry
-  pub at : entry_at s key ≡ Some entry
-  pub inside : IsInPages source end entry.place
+  pub space : entry.place.space ≡ of.source.space
+  pub from : first ≤ entry.place.page
+  pub before : entry.place.page < end
   pub standing : Standing
   pub stands : entry.stands ≡ Some standing
-  pub shares : common standing.rights rights ≢ no_rights
+  pub shares : common standing.rights of.rights ≢ no_rights
 
 -- the child of what is under the key, at this place, with those of these rights that the parent has
 abbrev pub child_entry : Place → ℕ → Standing → RightsSet → Entry
@@ -276,61 +259,72 @@ child_entry place parent above rights = record {
   stands = Some (record { frame = above.frame; rights = common above.rights rights; source = false; granted = None; parent = Some parent });
 }
 
--- its child at the place that the page goes to
-abbrev pub brought : (source : Place) (end : ℕ) (target : Place) (rights : RightsSet) (s : Entries) (key : ℕ) → IsShared source end rights s key → Entry
-brought source end target rights s key h = child_entry (moved_place source target h.entry.place) key h.standing rights
+-- The item brings the entry for one of these pages: if it maps, the page's child, under any key; and if it grants, the page's own entry at
+-- its new place, under its own key.
+pub record IsBrought (of : Pages) (first end : ℕ) (s : Entries) (own : Option ℕ) (e : Entry) : Type 0 where
+  pub key : ℕ
+  pub shared : IsShared of first end s key
+  pub place : e.place ≡ place_for of shared.entry.place.page
+  pub how :
+      ((of.grant ≡ false) × (own ≡ None) × (e ≡ child_entry e.place key shared.standing of.rights))
+      ⊎ ((of.grant ≡ true) × (own ≡ Some key) × (e ≡ record shared.entry { place = e.place }))
 
--- the pages of the item, and the places that they go to, begin here; the page after the last one
-abbrev pub source_of : ℕ → ItemMove → Place
-source_of from by = record { space = from; page = by.mv.source.first }
+-- the same for any of its pages
+abbrev pub BroughtBy : Pages → Entries → Option ℕ → Entry → Type 0
+BroughtBy of s = IsBrought of of.source.page of.end s
 
-abbrev pub target_of : ℕ → ItemMove → Place
-target_of to by = record { space = to; page = by.mv.target.first }
-
-abbrev pub end_of : ItemMove → ℕ
-end_of by = by.mv.source.first + 2 ^ by.mv.source.log
-
--- the entry is that of the child of one of these pages, which shares a right with these
-abbrev pub IsBrought : (source : Place) (end : ℕ) (target : Place) → RightsSet → Entries → Entry → Type 0
-IsBrought source end target rights s e = (key : ℕ) × (h : IsShared source end rights s key) × (e ≡ brought source end target rights s key h)
-
--- one of the items before this number brings the entry
-pub record IsDue (from to : ℕ) (items : List ItemMove) (end : ℕ) (s : Entries) (e : Entry) : Type 0 where
+-- one of the items before this number brings the entry, under this key if there is one
+pub record IsDue (from to : ℕ) (items : List ItemMove) (count : ℕ) (s : Entries) (own : Option ℕ) (e : Entry) : Type 0 where
   pub item : ℕ
   pub by : ItemMove
-  pub before : item < end
+  pub before : item < count
   pub item_is : slice_get items item ≡ Some by
-  pub brings : IsBrought (source_of from by) (end_of by) (target_of to by) by.rights s e
+  pub brings : BroughtBy (pages_of from to by) s own e
 
 -- an entry that is due is for the place
-abbrev pub IsFilled : (Entry → Type 0) → Place → Type 0
-IsFilled Due place = (e : Entry) × Due e × (e.place ≡ place)
+abbrev pub IsFilled : (Option ℕ → Entry → Type 0) → Place → Type 0
+IsFilled Due place = (own : Option ℕ) × (e : Entry) × Due own e × (e.place ≡ place)
+
+-- what is under the key, at this place, stays: nothing that is due is for the place, or is due under the key
+pub record Stays (Due : Option ℕ → Entry → Type 0) (key : ℕ) (place : Place) : Type 0 where
+  pub unfilled : ¬ (IsFilled Due place)
+  pub not_given : (e : Entry) → ¬ (Due (Some key) e)
+
+-- what is due can be under this key: under any one, or under its own
+abbrev pub IsUnder : Option ℕ → ℕ → Type 0
+IsUnder own key = (own ≡ None) ⊎ (own ≡ Some key)
 
 -- what is due is there, what was at its places is gone, and everything else is unchanged
-pub record Brings (Due : Entry → Type 0) (old new : Entries) : Type 0 where
-  pub there : (e : Entry) → Due e → (key : ℕ) × (entry_at new key ≡ Some e)
-  pub kept : (key : ℕ) (e : Entry) → entry_at old key ≡ Some e → ¬ (IsFilled Due e.place) → entry_at new key ≡ Some e
-  pub only : (key : ℕ) (e : Entry) → entry_at new key ≡ Some e → Due e ⊎ ((entry_at old key ≡ Some e) × ¬ (IsFilled Due e.place))
+pub record Brings (Due : Option ℕ → Entry → Type 0) (old new : Entries) : Type 0 where
+  pub there : (own : Option ℕ) (e : Entry) → Due own e → (key : ℕ) × IsUnder own key × (entry_at new key ≡ Some e)
+  pub kept : (key : ℕ) (e : Entry) → entry_at old key ≡ Some e → Stays Due key e.place → entry_at new key ≡ Some e
+  pub only : (key : ℕ) (e : Entry) → entry_at new key ≡ Some e →
+      ((own : Option ℕ) × Due own e × IsUnder own key) ⊎ ((entry_at old key ≡ Some e) × Stays Due key e.place)
 
 -- nothing descends from what is at a place of what is due
-abbrev pub AreOverLeaves : (Entry → Type 0) → Entries → Type 0
-AreOverLeaves Due s = (e : Entry) → Due e → (key : ℕ) → IsAt s e.place key → (low : ℕ) → ¬ (Descends s low key)
+abbrev pub AreOverLeaves : (Option ℕ → Entry → Type 0) → Entries → Type 0
+AreOverLeaves Due s = (own : Option ℕ) (e : Entry) → Due own e → (key : ℕ) → IsAt s e.place key → (low : ℕ) → ¬ (Descends s low key)
 
--- what is due is for a place that has no key; or that has one
-pub record LacksKey (Due : Entry → Type 0) (s : Entries) : Type 0 where
-  pub entry : Entry
-  pub due : Due entry
-  pub absent : (key : ℕ) → ¬ (IsAt s entry.place key)
+-- if the item grants, none of its pages loses a right
+abbrev pub LosesNone : Pages → Entries → Type 0
+LosesNone of s = of.grant ≡ true → (key : ℕ) (h : IsShared of of.source.page of.end s key) → Within h.standing.rights of.rights
 
-pub record HasOther (Due : Entry → Type 0) (s : Entries) : Type 0 where
-  pub entry : Entry
-  pub due : Due entry
-  pub key : ℕ
-  pub at : IsAt s entry.place key
+-- so it is for each of the items before this number
+abbrev pub LoseNone : ℕ → ℕ → List ItemMove → ℕ → Entries → Type 0
+LoseNone from to items count s = (item : ℕ) (by : ItemMove) → item < count → slice_get items item ≡ Some by → LosesNone (pages_of from to by) s
 
--- the places of each item end before those of the later ones
-abbrev pub AreApart : List ItemMove → Type 0
-AreApart items = (low high : ℕ) (a b : ItemMove) → low < high → slice_get items low ≡ Some a → slice_get items high ≡ Some b → a.mv.target.first + 2 ^ a.mv.target.log ≤ b.mv.target.first
+-- the pages that the one item fills end before those that the other fills, and where one of them grants, so do those that it moves
+pub record EndsBefore (a b : ItemMove) : Type 0 where
+  pub source : (a.grant ≡ true) ⊎ (b.grant ≡ true) → a.mv.source.first + 2 ^ a.mv.source.log ≤ b.mv.source.first
+  pub target : a.mv.target.first + 2 ^ a.mv.target.log ≤ b.mv.target.first
+
+-- of the items before this number, the pages of each end before those of the later ones
+abbrev pub AreApart : List ItemMove → ℕ → Type 0
+AreApart items end = (low high : ℕ) (a b : ItemMove) → low < high → high < end → slice_get items low ≡ Some a → slice_get items high ≡ Some b → EndsBefore a b
+
+-- What the items bring is there. Nothing descended from what was at its places, and no granted page has lost a right.
+abbrev pub MovesItems : ℕ → ℕ → List ItemMove → Entries → Entries → Type 0
+MovesItems from to items old new = Brings (IsDue from to items (length items) old) old new × AreOverLeaves (IsDue from to items (length items) old) old × LoseNone from to items (length items) old
 
 -- something stands there with a right, and no operation has marked it
 pub record IsPlain (e : Entry) : Type 0 where
@@ -343,16 +337,3 @@ pub record IsPlain (e : Entry) : Type 0 where
 
 abbrev pub ArePlain : Entries → Type 0
 ArePlain s = (key : ℕ) (e : Entry) → entry_at s key ≡ Some e → IsPlain e
-
--- the three ends of an attempt: it was done, it was not, or memory was refused
-abbrev pub Ends : {E : Type 0} → Result Bool E → (done left refused : Type 0) → Type 0
-Ends (Ok true) done left refused = done
-Ends (Ok false) done left refused = left
-Ends (Err e) done left refused = refused
-
--- the pages of all items are mapped, and nothing descended from what was at their places; or nothing has changed: one of the places has a key,
--- or lacks one, for which memory was refused
-abbrev pub MapsItems : (from to : ℕ) → List ItemMove → {E : Type 0} → Result Bool E → (old new : Entries) → Type 0
-MapsItems from to items result old new =
-    Ends result (Brings (IsDue from to items (length items) old) old new × AreOverLeaves (IsDue from to items (length items) old) old)
-    ((new ≡ old) × HasOther (IsDue from to items (length items) old) old) ((new ≡ old) × LacksKey (IsDue from to items (length items) old) old)

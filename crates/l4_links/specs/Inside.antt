@@ -5,5 +5,4 @@ pub mod Stacks
 pub mod Growing
 pub mod Bringing
 pub mod Keeping
-pub mod Moving
 pub mod Parents

@@ -8,7 +8,7 @@ ghost use Rattle.std.specs.Prelude.{◌≡◌, ◌≢◌, ◌⊎◌, ◌↔◌, 
 ghost use Rattle.std.specs.FinSet as set;
 ghost use Rattle.l4_fpage.specs.Rights.{common, no_rights};
 ghost use Rattle.std.specs.Option.{option_map};
-ghost use Rattle.l4_spaces.specs.Tables.{IsPage, space_pages};
+ghost use Rattle.l4_spaces.specs.Tables.{IsPage};
 ghost use Rattle.l4_nodes.specs.Slots.{HasRoomFor};
 ghost use Rattle.l4_links.specs.Inside.Keeping.{standing_of};
 
@@ -21,7 +21,7 @@ mod walks;
 mod wants;
 
 pub use blocks::end_of;
-use blocks::{Pages, move_block, pages_of};
+use blocks::pages_of;
 use burial::cap_at;
 use children::{bring_all, sharing};
 use l4_fpage::Rights;
@@ -96,7 +96,7 @@ impl Model for Links {
 impl Links {
     ghost use Rattle.l4_spaces.specs.Listed.{NoSpaceFrom, IsNextSpace};
     ghost use Rattle.l4_links.specs.ListOf.{IsListOf};
-    ghost use Rattle.l4_links.specs.Entries.{entry_at, standing_at, parent_of, IsStanding, IsBlank, IsAt, IsSource, HaveRights, HavePlaces, AreTrees, NoKeyFrom, IsNextKey, NoKeyIn, IsNextKeyIn, IsKeyOf, NoParentIn, IsNextParentIn, Descends, AddsBlank, Stands, Sprouts, Clears, CutsBelow, Buries, CapsBelow, CapsTree, SetsSource, SetsPlain, SetsWanted, TakesOver, MovesPages, Hinders, LacksPlace, AreApart, ArePlain, Ends, MapsItems};
+    ghost use Rattle.l4_links.specs.Entries.{entry_at, standing_at, parent_of, IsStanding, IsBlank, IsAt, IsSource, HaveRights, HavePlaces, AreTrees, NoKeyFrom, IsNextKey, NoKeyIn, IsNextKeyIn, IsKeyOf, NoParentIn, IsNextParentIn, Descends, AddsBlank, Stands, Sprouts, Clears, CutsBelow, Buries, CapsBelow, CapsTree, SetsSource, SetsPlain, SetsWanted, TakesOver, MovesItems, AreApart, ArePlain};
     ghost use Rattle.l4_links.specs.declared.Standing.{Standing as AStanding};
     ghost use Rattle.l4_links.specs.declared.Entry.{Entry as AnEntry};
 
@@ -273,68 +273,71 @@ impl Links {
         self.stamp = fresh(self.stamp);
     }
 
-    /// Maps the pages of all items from one space to another, where the items are apart and none grants: each page that shares a right with
-    /// its item gets a child at its place, with its own frame and those of the item's rights that it has. What was at that place is gone.
-    /// Returns whether this was done. It is not, and nothing changes, if something descends from what is at one of these places, or the
-    /// root of a tree is there.
-    /// Returns `NoMemory` only if one of these places has no key; then nothing has changed.
-    pub fn map_items(&mut self, from: u64, to: u64, items: &[ItemMove]) -> Result<bool, NoMemory>
+    /// Moves the pages of all items from one space to another, where the items are apart. Each page that shares a right with its item moves to its
+    /// place: by an item that grants the page itself, under its key, and by any other a child with the page's frame and those of the item's
+    /// rights that it has. What was at that place is gone. Returns whether this was done. It is not, and nothing changes, if something
+    /// descends from what is at one of these places, if the root of a tree is there, if a page would be granted to a place that has a key or
+    /// would lose a right, or if an allocation fails.
+    pub fn move_items(&mut self, from: u64, to: u64, items: &[ItemMove]) -> bool
         requires differ { from ≢ to }
         requires there { IsTrue (set.contains self.old.spaces to) }
-        requires apart { AreApart items.now }
+        requires apart { AreApart items.now (length items.now) }
         requires plain { ArePlain self.old.entries }
-        ensures maps { MapsItems from to items.now result self.old.entries self.new.entries }
+        ensures moves { result ≡ true → MovesItems from to items.now self.old.entries self.new.entries }
+        ensures left { result ≡ false → self.new ≡ self.old }
         ensures spaces { self.new.spaces ≡ self.old.spaces }
     {
-        let Ok(added) = self.add_alone(from, to, items) else {
-            return Err(NoMemory);
-        };
-        if added {
-            return Ok(true);
+        if self.move_alone(from, to, items) {
+            return true;
         }
         let mut targets = self.pages.take_tables(to);
-        let done = bring_all(&mut self.nodes, &self.pages, &mut targets, from, to, items);
+        let mut sources = self.pages.take_tables(from);
+        let done = bring_all(&mut self.nodes, &mut sources, &mut targets, from, to, items);
+        self.pages.put_tables(from, sources);
         self.pages.put_tables(to, targets);
         self.stamp = fresh(self.stamp);
         done
     }
 
-    /// Does the same for a single page whose place has no key, or that shares no right. Returns false for all else, and then nothing has
-    /// changed. To take tables aside would cost more than the page.
-    fn add_alone(&mut self, from: u64, to: u64, items: &[ItemMove]) -> Result<bool, NoMemory>
+    /// Moves the items if there is no such source space, or if their only page is to be mapped to a place without a key, or shares no right. Returns
+    /// whether this was done, which takes memory. To take tables aside would cost more than the page.
+    fn move_alone(&mut self, from: u64, to: u64, items: &[ItemMove]) -> bool
         requires there { IsTrue (set.contains self.old.spaces to) }
-        ensures maps { result ≢ Ok false → MapsItems from to items.now result self.old.entries self.new.entries }
-        ensures left { result ≡ Ok false → self.new ≡ self.old }
+        ensures moves { result ≡ true → MovesItems from to items.now self.old.entries self.new.entries }
+        ensures left { result ≡ false → (self.new ≡ self.old) × IsTrue (set.contains self.old.spaces from) }
         ensures spaces { self.new.spaces ≡ self.old.spaces }
     {
+        if !self.pages.has(from) {
+            return true;
+        }
         if items.len() != 1 {
-            return Ok(false);
+            return false;
         }
         let of = pages_of(from, to, &items[0]);
-        if of.end - of.source.page != 1 {
-            return Ok(false);
+        if of.grant {
+            return false;
         }
-        let Some(key) = self.find(of.source) else {
-            return Ok(true);
+        if of.end - of.source.page != 1 {
+            return false;
+        }
+        let Some(key) = self.pages.get(from, of.source.page) else {
+            return true;
         };
         let Some(above) = sharing(&self.nodes, key, of.rights) else {
-            return Ok(true);
+            return true;
         };
         let Ok(child) = self.nodes.make_key() else {
-            if let Some(_) = self.find(of.target) {
-                return Ok(false);
-            }
-            return Err(NoMemory);
+            return false;
         };
-        let Ok(claimed) = self.pages.claim(of.target.space, of.target.page, child) else {
-            return Err(NoMemory);
+        let Ok(claimed) = self.pages.claim(to, of.target.page, child) else {
+            return false;
         };
         if !claimed {
-            return Ok(false);
+            return false;
         }
         lists::add_under(&mut self.nodes, key, of.target, &above, of.rights);
         self.stamp = fresh(self.stamp);
-        Ok(true)
+        true
     }
 
     /// Cuts off everything that descends from the key, and leaves a blank under the key. Each node that is cut off is removed with its
@@ -383,43 +386,6 @@ impl Links {
         self.pages.clear(from.space, from.page);
         self.nodes.remove(blank);
         give(&mut self.nodes, key, to, rights);
-    }
-
-    /// Moves the pages from the source on and before the end to the places from the target on, in another space. Each page keeps its key,
-    /// its rights, its parent and its children. Returns whether the pages were moved. They are not, and nothing changes, if a page has
-    /// other rights than these, or one of the places has a key.
-    /// Returns `NoMemory` only if one of the places has no key; then nothing has changed.
-    pub fn move_pages(
-        &mut self,
-        source: Place,
-        end: u32,
-        target: Place,
-        rights: Rights,
-    ) -> Result<bool, NoMemory>
-        requires apart { source.space ≢ target.space }
-        requires there { IsTrue (set.contains self.old.spaces target.space) }
-        requires rising { source.page ≤ end }
-        requires fits { end - source.page + target.page ≤ space_pages }
-        ensures moves { Ends result (MovesPages source end target rights self.old.entries self.new.entries)
-            ((self.new ≡ self.old) × Hinders source end target rights self.old.entries)
-            ((self.new ≡ self.old) × LacksPlace source end target rights self.old.entries) }
-        ensures spaces { self.new.spaces ≡ self.old.spaces }
-    {
-        if !self.pages.has(source.space) {
-            return Ok(true);
-        }
-        let mut targets = self.pages.take_tables(target.space);
-        let mut sources = self.pages.take_tables(source.space);
-        let of = Pages {
-            source,
-            end,
-            target,
-            rights,
-        };
-        let done = move_block(&mut self.nodes, &mut sources, &mut targets, &of);
-        self.pages.put_tables(source.space, sources);
-        self.pages.put_tables(target.space, targets);
-        done
     }
 
     /// Reduces the rights of everything that descends from the key to these rights. Visits nothing if the node under the key has no other

@@ -1,20 +1,23 @@
-//! Tests whether children of many pages can take their places, which takes no memory but for tables. Nothing else is written.
+//! Tests whether the pages of items can move, which takes no memory but for tables. Nothing else is written.
 
-ghost use Rattle.std.specs.Prelude.{◌≡◌, ◌≢◌, ◌≤◌, ◌<◌, ◌+◌, ◌-◌, ◌/◌, ℕ, List, Option, length, slice_index_or, MatchOption, OnErr, IfOk, IfSome, Some, None, true, false};
-ghost use Rattle.l4_spaces.specs.Tables.{IsPage, space_pages, space_tables, table_pages};
+ghost use Rattle.std.specs.Prelude.{◌≡◌, ◌≤◌, ◌<◌, ◌+◌, ◌-◌, ◌/◌, ℕ, List, Option, length, IfSome, Some, false, true};
+ghost use Rattle.l4_spaces.specs.Tables.{Tables, IsPage, space_pages, space_tables, table_pages};
 ghost use Rattle.l4_spaces.specs.Rows.{entry, is_made, AreWhole};
 ghost use Rattle.l4_nodes.specs.Slots.{node_at};
+ghost use Rattle.l4_links.specs.Entries.{AreApart, ArePlain};
 ghost use Rattle.l4_links.specs.Inside.Nodes.{IsForest};
-ghost use Rattle.l4_links.specs.Inside.Moving.{MakesTables};
-ghost use Rattle.l4_links.specs.Inside.Growing.{IsSpareNode, IsChildOf, Lacks, IsHindered, WantsOne, WantsRow, WantsPages, IsHinderedPage, LacksPage};
+ghost use Rattle.l4_links.specs.Inside.Keeping.{entries_of};
+ghost use Rattle.l4_links.specs.Inside.Bringing.{MakesTables, CanBring};
+ghost use Rattle.l4_links.specs.Inside.Growing.{IsSpareNode, IsChildOf, WantsOne, WantsRow, WantsPages, AreGrowing};
 
-use crate::blocks::{Pages, place_from};
-use crate::children::{Run, run_at, sharing};
+use crate::blocks::{Pages, Run, pages_of, place_for, run_at};
+use crate::children::sharing;
 use crate::walks::is_leaf;
 use l4_fpage::Rights;
+use l4_msg::ItemMove;
 use l4_nodes::{Node, Slots, node_of};
+use l4_spaces::Row;
 use l4_spaces::tables::{TABLE_PAGES, is_ready, key_in, make_all, next_page};
-use l4_spaces::{NoMemory, Row};
 
 /// Returns whether the node under the key would change if a child of this parent took its place, or None if it can't: it must have a parent,
 /// and nothing may descend from it.
@@ -42,27 +45,21 @@ fn changes_at(
     Some(node.rights != above.rights.intersection(rights))
 }
 
-/// What the children of pages need.
+/// What the move of pages takes.
 #[derive(Clone, Copy)]
 pub(crate) struct Wants {
     /// How many slots there must be room for.
     pub slots: usize,
-    /// Whether a page has not just this child already.
+    /// Whether a page does not just have its child already.
     pub changes: bool,
 }
 
-/// Returns what a child of a page with this key, or with none, needs at a place with that key: one slot if there is no key. Returns None if
-/// the child can't take the place. A page that shares no right gets no child.
+/// Returns what the move of a page with this key, or with none, takes where its place has that key, or none: one slot for a child if there
+/// is no key. Returns None if the page cannot move, or would lose a right. A page that shares no right does not move.
 #[inline(always)]
-fn wants_at(
-    nodes: &Slots,
-    key: Option<usize>,
-    taken: Option<usize>,
-    rights: Rights,
-) -> Option<Wants>
+fn wants_at(nodes: &Slots, key: Option<usize>, taken: Option<usize>, of: &Pages) -> Option<Wants>
     requires forest { (ks : List ℕ) × IsForest nodes.now.slots ks }
-    ensures { MatchOption result (IsHindered key taken rights nodes.now.slots)
-        (λ wants. WantsOne key taken rights nodes.now.slots wants.slots wants.changes) }
+    ensures { IfSome result (λ wants. WantsOne of.now key taken nodes.now.slots wants.slots wants.changes) }
 {
     let nothing = Wants {
         slots: 0,
@@ -71,44 +68,73 @@ fn wants_at(
     let Some(key) = key else {
         return Some(nothing);
     };
-    let Some(above) = sharing(nodes, key, rights) else {
+    let Some(node) = sharing(nodes, key, of.rights) else {
         return Some(nothing);
     };
+    if of.grant {
+        if let Some(_) = taken {
+            return None;
+        }
+        if !of.rights.contains(node.rights) {
+            return None;
+        }
+        return Some(Wants {
+            slots: 0,
+            changes: true,
+        });
+    }
     let Some(taken) = taken else {
         return Some(Wants {
             slots: 1,
             changes: true,
         });
     };
-    let changes = changes_at(nodes, taken, key, &above, rights)?;
+    let changes = changes_at(nodes, taken, key, &node, of.rights)?;
     Some(Wants { slots: 0, changes })
 }
 
-/// Returns what the children of the run need, or None if one of them can't take its place.
+/// Returns what the move of the run's pages takes, or None if one of them cannot move.
 #[inline(never)]
-fn wants_run(nodes: &Slots, source: &Row, target: &Row, run: &Run, rights: Rights) -> Option<Wants>
+fn wants_run(nodes: &Slots, source: &Row, target: &Row, run: &Run, of: &Pages) -> Option<Wants>
     requires forest { (ks : List ℕ) × IsForest nodes.now.slots ks }
     requires source { length source.now ≡ table_pages }
     requires target { length target.now ≡ table_pages }
     requires from { run.now.from + run.now.entries ≤ table_pages }
     requires to { run.now.to + run.now.entries ≤ table_pages }
-    ensures { MatchOption result ((step : ℕ) × (step < run.now.entries)
-        × IsHindered (slice_index_or source.now (run.now.from + step) None) (slice_index_or target.now (run.now.to + step) None) rights nodes.now.slots)
-        (λ wants. WantsRow run.now.from run.now.to run.now.entries rights source.now target.now wants.slots wants.changes nodes.now.slots) }
+    ensures { IfSome result (λ wants.
+        WantsRow of.now run.now.from run.now.to run.now.entries source.now target.now wants.slots wants.changes nodes.now.slots) }
 {
+    let of = *of;
     let from = run.from;
     let to = run.to;
     let mut slots = 0;
     let mut changes = false;
     for step in 0..run.entries {
-        let one = wants_at(nodes, source.at(from + step), target.at(to + step), rights)?;
+        let one = wants_at(nodes, source.at(from + step), target.at(to + step), &of)?;
         slots += one.slots;
         changes |= one.changes;
     }
     Some(Wants { slots, changes })
 }
 
-/// Returns the page after the run that begins with this page, and what the children of the run need. Allocates the table of the run's places. Returns None if a child can't take its place.
+/// Allocates the table of the page if it has none. Returns whether it has one then.
+#[inline]
+fn make_ready(targets: &mut Vec<Row>, page: u32) -> bool
+    requires whole { AreWhole targets.old.items }
+    requires full { length targets.old.items ≤ space_tables }
+    requires fits { IsPage page }
+    ensures made { result ≡ true → is_made targets.new.items (page / table_pages) ≡ true }
+    ensures makes { MakesTables targets.old.items targets.new.items }
+{
+    if is_ready(targets, page) {
+        return true;
+    }
+    let alloc = *targets.allocator();
+    make_all(targets, alloc, &[page]).is_ok()
+}
+
+/// Returns the page after the run that begins with this page, and what the move of the run takes. Allocates the table of the run's places.
+/// Returns None if a page cannot move, or if an allocation fails.
 fn wants_from(
     nodes: &Slots,
     sources: &Vec<Row>,
@@ -116,7 +142,7 @@ fn wants_from(
     of: &Pages,
     page: u32,
     key: usize,
-) -> Result<Option<(u32, Wants)>, NoMemory>
+) -> Option<(u32, Wants)>
     requires forest { (ks : List ℕ) × IsForest nodes.now.slots ks }
     requires sources { AreWhole sources.now.items }
     requires whole { AreWhole targets.old.items }
@@ -125,13 +151,8 @@ fn wants_from(
     requires before { page < of.now.end }
     requires fits { of.now.end - of.now.source.page + of.now.target.page ≤ space_pages }
     requires shows { entry sources.now.items page ≡ Some key }
-    ensures wants { IfOk result (λ found. MatchOption found
-        (IsHinderedPage of.now.source.page page of.now.end of.now.target.page of.now.rights sources.now.items
-        targets.old.items nodes.now.slots)
-        (λ found. (page < found.0) × (found.0 ≤ of.now.end) × WantsPages of.now.source.page page found.0 of.now.target.page
-        of.now.rights sources.now.items targets.new.items found.1.slots found.1.changes nodes.now.slots)) }
-    ensures lacks { OnErr result (LacksPage of.now.source.page page of.now.end of.now.target.page
-        of.now.rights sources.now.items targets.old.items nodes.now.slots) }
+    ensures wants { IfSome result (λ found. (page < found.0) × (found.0 ≤ of.now.end)
+        × WantsPages of.now page found.0 sources.now.items targets.new.items found.1.slots found.1.changes nodes.now.slots) }
     ensures makes { MakesTables targets.old.items targets.new.items }
 {
     let Some(_) = sharing(nodes, key, of.rights) else {
@@ -139,88 +160,75 @@ fn wants_from(
             slots: 0,
             changes: false,
         };
-        return Ok(Some((page + 1, nothing)));
+        return Some((page + 1, nothing));
     };
-    let place = place_from(of.source, of.target, page);
+    let place = place_for(of, page);
+    if !make_ready(targets, place.page) {
+        return None;
+    }
     let run = run_at(of, page);
     let after = page + run.entries as u32;
-    let all = Wants {
-        slots: run.entries,
-        changes: true,
-    };
-    if !is_ready(targets, place.page) {
-        let alloc = *targets.allocator();
-        make_all(targets, alloc, &[place.page])?;
-        return Ok(Some((after, all)));
-    }
     let source = &sources[(page / TABLE_PAGES) as usize];
     let target = &targets[(place.page / TABLE_PAGES) as usize];
-    if target.is_free(run.to, run.to + run.entries) {
-        return Ok(Some((after, all)));
+    if !of.grant && target.is_free(run.to, run.to + run.entries) {
+        let all = Wants {
+            slots: run.entries,
+            changes: true,
+        };
+        return Some((after, all));
     }
-    let Some(wants) = wants_run(nodes, source, target, &run, of.rights) else {
-        return Ok(None);
-    };
-    Ok(Some((after, wants)))
+    let wants = wants_run(nodes, source, target, &run, of)?;
+    Some((after, wants))
 }
 
-/// Returns what the child of the one page needs, or None if it can't take its place. Allocates the table of the place if the child needs a
-/// slot.
+/// Returns what the move of the only page takes. Allocates the table of its place if something changes. Returns None if the page cannot move,
+/// or if the allocation fails.
 fn wants_page(
     nodes: &Slots,
     sources: &Vec<Row>,
     targets: &mut Vec<Row>,
     of: &Pages,
-) -> Result<Option<Wants>, NoMemory>
+) -> Option<Wants>
     requires forest { (ks : List ℕ) × IsForest nodes.now.slots ks }
     requires whole { AreWhole targets.old.items }
     requires full { length targets.old.items ≤ space_tables }
-    requires fits { IsPage of.now.target.page }
-    ensures wants { IfOk result (λ found. MatchOption found
-        (IsHindered (entry sources.now.items of.now.source.page) (entry targets.old.items of.now.target.page) of.now.rights nodes.now.slots)
-        (λ wants. WantsOne (entry sources.now.items of.now.source.page) (entry targets.old.items of.now.target.page) of.now.rights nodes.now.slots
-        wants.slots wants.changes × (1 ≤ wants.slots → is_made targets.new.items (of.now.target.page / table_pages) ≡ true))) }
-    ensures lacks { OnErr result (Lacks (entry sources.now.items of.now.source.page) (entry targets.old.items of.now.target.page) of.now.rights
-        nodes.now.slots) }
+    requires one { of.now.end ≡ of.now.source.page + 1 }
+    requires fits { of.now.end - of.now.source.page + of.now.target.page ≤ space_pages }
+    ensures wants { IfSome result (λ wants. WantsPages of.now of.now.source.page of.now.end sources.now.items targets.new.items
+        wants.slots wants.changes nodes.now.slots) }
     ensures makes { MakesTables targets.old.items targets.new.items }
 {
-    let page = of.target.page;
-    let key = key_in(sources, of.source.page);
-    let Some(wants) = wants_at(nodes, key, key_in(targets, page), of.rights) else {
-        return Ok(None);
-    };
-    if wants.slots == 0 {
-        return Ok(Some(wants));
+    let page = of.source.page;
+    let place = place_for(of, page);
+    let key = key_in(sources, page);
+    let taken = key_in(targets, place.page);
+    let wants = wants_at(nodes, key, taken, of)?;
+    if !wants.changes {
+        return Some(wants);
     }
-    if is_ready(targets, page) {
-        return Ok(Some(wants));
+    if !make_ready(targets, place.page) {
+        return None;
     }
-    let alloc = *targets.allocator();
-    make_all(targets, alloc, &[page])?;
-    Ok(Some(wants))
+    Some(wants)
 }
 
-/// Returns what the children of all pages need, or None if one of them can't take its place. Allocates the tables of their places.
-pub(crate) fn wants_item(
+/// Returns what the move of the item's pages takes. Allocates the tables of their places. Returns None if a page cannot move, or if an
+/// allocation fails.
+fn wants_item(
     nodes: &Slots,
     sources: &Vec<Row>,
     targets: &mut Vec<Row>,
     of: &Pages,
-) -> Result<Option<Wants>, NoMemory>
+) -> Option<Wants>
     requires forest { (ks : List ℕ) × IsForest nodes.now.slots ks }
     requires sources { AreWhole sources.now.items }
-    requires short { length sources.now.items ≤ space_tables }
+    requires long { length sources.now.items ≤ space_tables }
     requires whole { AreWhole targets.old.items }
     requires full { length targets.old.items ≤ space_tables }
     requires rising { of.now.source.page ≤ of.now.end }
     requires fits { of.now.end - of.now.source.page + of.now.target.page ≤ space_pages }
-    ensures wants { IfOk result (λ found. MatchOption found
-        (IsHinderedPage of.now.source.page of.now.source.page of.now.end of.now.target.page of.now.rights
-        sources.now.items targets.old.items nodes.now.slots)
-        (λ wants. WantsPages of.now.source.page of.now.source.page of.now.end of.now.target.page of.now.rights
-        sources.now.items targets.new.items wants.slots wants.changes nodes.now.slots)) }
-    ensures lacks { OnErr result (LacksPage of.now.source.page of.now.source.page of.now.end
-        of.now.target.page of.now.rights sources.now.items targets.old.items nodes.now.slots) }
+    ensures wants { IfSome result (λ wants. WantsPages of.now of.now.source.page of.now.end sources.now.items targets.new.items
+        wants.slots wants.changes nodes.now.slots) }
     ensures makes { MakesTables targets.old.items targets.new.items }
 {
     if of.end - of.source.page == 1 {
@@ -231,14 +239,40 @@ pub(crate) fn wants_item(
     let mut changes = false;
     loop {
         let Some((next, key)) = next_page(sources, page, of.end) else {
-            return Ok(Some(Wants { slots, changes }));
+            return Some(Wants { slots, changes });
         };
-        let found = wants_from(nodes, sources, targets, of, next, key)?;
-        let Some((after, more)) = found else {
-            return Ok(None);
-        };
+        let (after, more) = wants_from(nodes, sources, targets, of, next, key)?;
         slots += more.slots;
         changes |= more.changes;
         page = after;
     }
+}
+
+/// Returns what the move of all items takes. Allocates the tables of their places. Returns None if a page cannot move, or if an allocation
+/// fails.
+pub(crate) fn wants_all(
+    nodes: &Slots,
+    sources: &Vec<Row>,
+    targets: &mut Vec<Row>,
+    from: u64,
+    to: u64,
+    items: &[ItemMove],
+) -> Option<Wants>
+    requires apart { AreApart items.now (length items.now) }
+    requires growing { (pages : Tables) × (first head : Option ℕ) × (stamp : ℕ) × (all : Tables)
+        × AreGrowing from to pages sources.now.items targets.old.items nodes.now.slots first head stamp all }
+    requires plain { ArePlain (entries_of nodes.now.slots) }
+    ensures wants { IfSome result (λ wants.
+        CanBring from to items.now (length items.now) (entries_of nodes.now.slots) targets.new.items wants.slots wants.changes) }
+    ensures makes { MakesTables targets.old.items targets.new.items }
+{
+    let mut slots = 0;
+    let mut changes = false;
+    for item in 0..items.len() {
+        let of = pages_of(from, to, &items[item]);
+        let more = wants_item(nodes, sources, targets, &of)?;
+        slots += more.slots;
+        changes |= more.changes;
+    }
+    Some(Wants { slots, changes })
 }

@@ -2,11 +2,11 @@
 use Rattle.std.proofs.Common.{◌≡◌, ◌≢◌, ℕ, ◌+◌, ◌<◌, ◌≤◌, ◌^◌, ◌⊎◌, Bool, true, false, ◌||◌, List, length, Some, ap, sym, ◌∙◌, slice_get, inl, inr, arith}
 use Rattle.std.proofs.lemmas.Bool.{cases_lt}
 use Rattle.l4_nodes.specs.declared.Place.{Place as LinkPlace}
-use Rattle.l4_links.specs.Entries.{Entries}
+use Rattle.l4_links.specs.Entries.{Entries, AreApart}
 use Rattle.l4_msg.specs.declared.items.ItemMove.{ItemMove}
 use Rattle.l4_mapdb.specs.declared.sources.UsedMove.{UsedMove}
 use Rattle.l4_mapdb.specs.Inside.Messages.{IsMoved}
-use Rattle.l4_mapdb.specs.Inside.Tangles.{AreApart, Replaces, Clashes, HasTangle}
+use Rattle.l4_mapdb.specs.Inside.Tangles.{Replaces, Clashes, HasTangle}
 use Rattle.l4_mapdb.proofs.Moves.{one_by, move_item}
 
 -- the items before this number end before these pages, and grant only where that is said

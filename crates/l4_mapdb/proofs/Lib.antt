@@ -29,7 +29,6 @@ pub mod Moved
 pub mod Moves
 pub mod PageWalk
 pub mod Placed
-pub mod OneGrant
 pub mod Prepared
 pub mod Restored
 pub mod Rooted

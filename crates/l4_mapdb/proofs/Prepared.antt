@@ -7,22 +7,21 @@ use Rattle.l4_links.specs.Leads.{Leads, step, steps}
 use Rattle.l4_links.specs.Entries.{Entries, Linked, entry_at, standing_at, IsStanding, parent_of, HavePlaces, AreTrees, HaveRights, IsAt, cut_off}
 use Rattle.l4_mapdb.specs.declared.Place.{Place}
 use Rattle.l4_msg.specs.declared.items.ItemMove.{ItemMove}
-use Rattle.l4_mapdb.specs.declared.Cause.{Cause}
-use Rattle.l4_mapdb.specs.declared.Cause.TheVariants.{Entangled, NoMemory}
+use Rattle.l4_mapdb.specs.declared.Cause.TheVariants.{NoMemory}
 use Rattle.l4_mapdb.specs.Causes.{HasCause}
 use Rattle.l4_mapdb.specs.Transfer.{PageMove, IsUsed, IsGone}
 use Rattle.l4_mapdb.proofs.Unique.{same_value}
 use Rattle.l4_mapdb.specs.declared.sources.UsedMove.{UsedMove}
 use Rattle.l4_mapdb.specs.View.{link_place, map_place, mappings_of}
 use Rattle.l4_mapdb.specs.Delivering.{IsClean}
-use Rattle.l4_mapdb.specs.Inside.Messages.{plain, stand_at, StandAlike, IsMoved, IsWaiting, IsWanted, Goes, IsClearedAt, Roomed, LacksKey}
+use Rattle.l4_mapdb.specs.Inside.Messages.{plain, stand_at, StandAlike, IsMoved, IsWaiting, IsWanted, Goes, IsClearedAt, Roomed}
 use Rattle.l4_mapdb.specs.Inside.Placing.{Placed, IsDone, IsTarget, IsLeftAt, blank_for, IsBefore, earlier, same as same_item}
 use Rattle.l4_mapdb.specs.Inside.Tangles.{HasTangle}
 use Rattle.l4_mapdb.proofs.Moves.{with_place, stand_of, stands_as, found_of, is_at, entry_of, move_at}
 use Rattle.l4_mapdb.proofs.View.{some_parent}
 use Rattle.l4_mapdb.proofs.Marking.{moved_alike, moved_still, source_of}
 use Rattle.l4_mapdb.proofs.Restored.{by_bool, alike_at, alike_descends, tangle_alike}
-use Rattle.l4_mapdb.proofs.Keyed.{page_move, used_of, key_of, source_is, key_present, present_key, above_place, above_key, entangled_places, entangled_keys}
+use Rattle.l4_mapdb.proofs.Keyed.{page_move, used_of, key_of, source_is, key_present, present_key, above_place, above_key, entangled_keys}
 
 abbrev opposite : (a b : Entries) → StandAlike a b → StandAlike b a
 opposite a b alike key = sym (alike key)
@@ -269,15 +268,14 @@ module _ (old : Linked) (clean : IsClean old) (have : HavePlaces old) (trees : A
       only = only_left;
     }
 
--- why a message isn't delivered, by keys and by places
-pub cause_of : (old : Linked) (have : HavePlaces old) (trees : AreTrees old.entries) (from to : ℕ) (items : List ItemMove) (cause : Cause) → LacksKey (IsMoved old.entries from to items) old.entries cause
-    → HasCause (IsUsed (mappings_of old) from to items) (mappings_of old) cause
-cause_of old have trees from to items Entangled tangle = entangled_places old have trees from to items tangle
-cause_of old have trees from to items NoMemory lacks = (
-  λ e. lacks.0 (entangled_keys old have trees from to items e),
+-- why a message isn't delivered where its used moves do not conflict, by keys and by places
+pub lacks_place : (old : Linked) (have : HavePlaces old) (trees : AreTrees old.entries) (from to : ℕ) (items : List ItemMove) → ¬ (HasTangle (IsMoved old.entries from to items) old.entries)
+    → (m : UsedMove) × IsMoved old.entries from to items m × ((key : ℕ) → ¬ (IsAt old.entries m.target key)) → HasCause (IsUsed (mappings_of old) from to items) (mappings_of old) NoMemory
+lacks_place old have trees from to items free lacks = (
+  λ e. free (entangled_keys old have trees from to items e),
   record {
-    move = page_move old have trees from to items lacks.1.0 lacks.1.1;
-    used = used_of old have trees from to items lacks.1.0 lacks.1.1;
-    absent = λ present. let p = present_key old have trees from to items (map_place lacks.1.0.target) present in lacks.1.2 p.key p.at;
+    move = page_move old have trees from to items lacks.0 lacks.1;
+    used = used_of old have trees from to items lacks.0 lacks.1;
+    absent = λ present. let p = present_key old have trees from to items (map_place lacks.0.target) present in lacks.2 p.key p.at;
   },
 )

@@ -5,11 +5,9 @@ use Rattle.l4_links.specs.declared.Standing.{Standing}
 use Rattle.l4_links.specs.declared.Entry.{Entry}
 use Rattle.l4_links.specs.Entries.{Entries, Linked, entry_at, IsAt}
 use Rattle.l4_msg.specs.declared.items.ItemMove.{ItemMove}
-use Rattle.l4_mapdb.specs.declared.Cause.TheVariants.{NoMemory}
 use Rattle.l4_mapdb.specs.declared.sources.UsedMove.{UsedMove}
 use Rattle.l4_mapdb.specs.Delivering.{IsClean}
-use Rattle.l4_mapdb.specs.Inside.Messages.{IsMoved, IsWanted, IsFilled, Wants, AreMarked, Roomed, LacksKey}
-use Rattle.l4_mapdb.specs.Inside.Tangles.{HasTangle}
+use Rattle.l4_mapdb.specs.Inside.Messages.{IsMoved, IsWanted, IsFilled, Wants, AreMarked, Roomed}
 use Rattle.l4_mapdb.proofs.Marking.{moved_alike, moved_still}
 use Rattle.l4_mapdb.proofs.Rooming.{wants_on, wants_alike}
 use Rattle.l4_mapdb.proofs.Restored.{marks_wanted, wants_stands}
@@ -50,5 +48,5 @@ module _ (old : Linked) (clean : IsClean old) (from to : ℕ) (items : List Item
     }
 
     -- or memory was refused
-    pub lacks_room : ¬ (HasTangle Used old.entries) → (m : UsedMove) × IsMoved mid from to items m × ((key : ℕ) → ¬ (IsAt mid m.target key)) → LacksKey Used old.entries NoMemory
-    lacks_room free lacks = (free, (lacks.0, moved_alike old.entries mid from to items marked.marks.alike lacks.0 lacks.1, λ key at. lacks.2 key (clean_at old clean mid marked.marks.alike lacks.0.target key at)))
+    pub lacks_room : (m : UsedMove) × IsMoved mid from to items m × ((key : ℕ) → ¬ (IsAt mid m.target key)) → (m : UsedMove) × Used m × ((key : ℕ) → ¬ (IsAt old.entries m.target key))
+    lacks_room lacks = (lacks.0, moved_alike old.entries mid from to items marked.marks.alike lacks.0 lacks.1, λ key at. lacks.2 key (clean_at old clean mid marked.marks.alike lacks.0.target key at))

@@ -1,5 +1,4 @@
 pub mod Cutting
-pub mod Growing
 pub mod Messages
 pub mod Placing
 pub mod Settling

@@ -1,6 +1,6 @@
 //! Delivers a message, or refuses it.
 
-ghost use Rattle.std.specs.Prelude.{◌≡◌, ◌≢◌, ℕ, List, Option, IsTrue, IsOk, OnOk, OnErr, IfOk, IfErr, true, false};
+ghost use Rattle.std.specs.Prelude.{◌≡◌, ℕ, List, IsTrue, IsOk, OnOk, OnErr, IfErr, false};
 ghost use Rattle.std.specs.FinSet as set;
 ghost use Rattle.l4_links.specs.Entries.{Linked, entry_at};
 ghost use Rattle.l4_mapdb.specs.Mappings.{IsForest};
@@ -8,14 +8,12 @@ ghost use Rattle.l4_mapdb.specs.Transfer.{IsUsed, IsEntangled, TargetsPresent, D
 ghost use Rattle.l4_mapdb.specs.Causes.{HasCause};
 ghost use Rattle.l4_mapdb.specs.View.{mappings_of};
 ghost use Rattle.l4_mapdb.specs.Delivering.{IsClean, RootsKnown, IsDelivered};
-ghost use Rattle.l4_mapdb.specs.Inside.Growing.{AreOfKind};
 ghost use Rattle.l4_mapdb.specs.Inside.Placing.{IsStart, Placed, IsDone};
 
 use crate::clearing::clear_targets;
-use crate::granting::deliver_grants;
-use crate::maps::deliver_maps;
 use crate::moving::move_all;
 use crate::room::make_room;
+use crate::simple::deliver_simple;
 use crate::tangles::has_tangle;
 use crate::unmarking::unmark;
 use crate::{Cause, ItemMove};
@@ -75,50 +73,7 @@ fn deliver_any(links: &mut Links, from: u64, to: u64, items: &[ItemMove]) -> Res
     Ok(())
 }
 
-/// Returns whether the message is from one space to another, and each of its items grants (or maps, if `grants` is false).
-fn only_of_kind(from: u64, to: u64, items: &[ItemMove], grants: bool) -> bool
-    ensures apart { result ≡ true → from ≢ to }
-    ensures kind { result ≡ true → AreOfKind grants items.now }
-{
-    if from == to {
-        return false;
-    }
-    for item in 0..items.len() {
-        if items[item].grant != grants {
-            return false;
-        }
-    }
-    true
-}
-
-/// Delivers a message by a short path, if it only maps or has a single item that grants. Returns whether it was delivered; if not, nothing
-/// has changed.
-fn deliver_short(links: &mut Links, from: u64, to: u64, items: &[ItemMove]) -> Result<bool, Cause>
-    requires clean { IsClean links.old }
-    requires there { IsTrue (set.contains links.old.spaces to) }
-    ensures done { IfOk result
-        (λ done. done ≡ true → IsDelivered from to items.now links.old links.new) }
-    ensures left { IfOk result
-        (λ done. done ≡ false → (key : ℕ) → entry_at links.new.entries key
-        ≡ entry_at links.old.entries key) }
-    ensures err { OnErr result
-        ((key : ℕ) → entry_at links.new.entries key ≡ entry_at links.old.entries key) }
-    ensures cause { IfErr result
-        (HasCause (IsUsed (mappings_of links.old) from to items.now) (mappings_of links.old)) }
-    ensures spaces { links.new.spaces ≡ links.old.spaces }
-{
-    links.law_places();
-    links.law_trees();
-    if only_of_kind(from, to, items, false) {
-        return deliver_maps(links, from, to, items);
-    }
-    if only_of_kind(from, to, items, true) {
-        return deliver_grants(links, from, to, items);
-    }
-    Ok(false)
-}
-
-/// Delivers a message. If it only maps, or grants by a single item, tries a shorter path first.
+/// Delivers a message. Tries the short path first.
 pub fn deliver(links: &mut Links, from: u64, to: u64, items: &[ItemMove]) -> Result<(), Cause>
     requires clean { IsClean links.old }
     requires there { IsTrue (set.contains links.old.spaces to) }
@@ -135,11 +90,7 @@ pub fn deliver(links: &mut Links, from: u64, to: u64, items: &[ItemMove]) -> Res
     ensures spaces { links.new.spaces ≡ links.old.spaces }
 {
     links.law_places();
-    let done = match deliver_short(links, from, to, items) {
-        Ok(done) => done,
-        Err(cause) => return Err(cause),
-    };
-    if done {
+    if deliver_simple(links, from, to, items) {
         return Ok(());
     }
     links.law_places();

@@ -5,10 +5,9 @@
 
 mod clearing;
 mod delivering;
-mod granting;
-mod maps;
 mod moving;
 mod room;
+mod simple;
 mod sources;
 mod tangles;
 mod unmarking;

@@ -1,15 +1,14 @@
 //! Tests whether the effect of a message would depend on the order of its items.
 
 ghost use Rattle.std.specs.Prelude.{◌≡◌, ◌≢◌, ◌↔◌, ◌<◌, ◌≤◌, ◌⊎◌, ℕ, length, IsTrue, MatchOption, true, false};
-ghost use Rattle.l4_links.specs.Entries.{entry_at, IsAt};
+ghost use Rattle.l4_links.specs.Entries.{entry_at, AreApart};
 ghost use Rattle.l4_mapdb.specs.Delivering.{IsClean};
-ghost use Rattle.l4_mapdb.specs.Inside.Messages.{IsMoved, AreMarked, LacksKey};
-ghost use Rattle.l4_mapdb.specs.Inside.Tangles.{Clashes, ClashesWith, HasTangle, AboveSource, AreApart};
+ghost use Rattle.l4_mapdb.specs.Inside.Messages.{IsMoved, AreMarked};
+ghost use Rattle.l4_mapdb.specs.Inside.Tangles.{Clashes, ClashesWith, HasTangle, AboveSource};
 ghost use Rattle.l4_mapdb.specs.declared.sources.UsedMove.{UsedMove as AUsedMove};
 
+use crate::ItemMove;
 use crate::sources::{UsedMove, UsedMoves, later_page, move_out};
-use crate::unmarking::unmark;
-use crate::{Cause, ItemMove};
 use l4_links::{Links, Place, end_of};
 
 /// Returns the used move of the item of this number into the place.
@@ -163,21 +162,4 @@ pub(crate) fn has_tangle(links: &mut Links, from: u64, to: u64, items: &[ItemMov
         }
     }
     false
-}
-
-/// Why a message is refused that there was no memory for. The nodes are as before.
-pub(crate) fn refusal(links: &mut Links, from: u64, to: u64, items: &[ItemMove]) -> Cause
-    requires clean { IsClean links.old }
-    requires lacks { (move : AUsedMove) × IsMoved links.old.entries from to items.now move
-        × ((key : ℕ) → ¬ (IsAt links.old.entries move.target key)) }
-    ensures cause { LacksKey (IsMoved links.old.entries from to items.now) links.old.entries result }
-    ensures same { (key : ℕ) → entry_at links.new.entries key ≡ entry_at links.old.entries key }
-    ensures spaces { links.new.spaces ≡ links.old.spaces }
-{
-    let tangled = has_tangle(links, from, to, items);
-    unmark(links, from, to, items);
-    if tangled {
-        return Cause::Entangled;
-    }
-    Cause::NoMemory
 }

@@ -1,5 +1,5 @@
 ghost use Rattle.std.specs.Prelude.{◌≡◌, ◌≤◌, ◌+◌, ◌-◌, IfOk, true};
-ghost use Rattle.l4_spaces.specs.Tables.{IsPage, space_pages};
+ghost use Rattle.l4_spaces.specs.Tables.{IsPage};
 ghost use Rattle.l4_links.specs.Entries.{IsBlank, HaveRights, IsPlain, ArePlain};
 
 use l4_fpage::{Block, Rights};
@@ -103,13 +103,20 @@ fn are_plain(links: &Links) -> bool
     true
 }
 
-/// Maps a page of space 0 to a page of space 1. Returns whether this was done.
-fn map_away(links: &mut Links, page: u32, other: u32, rights: Rights) -> Result<bool, NoMemory> {
+/// Moves what is at the pages of a block of space 0 to the pages of a block of space 1, or adds children there. Returns whether this was done.
+fn send(
+    links: &mut Links,
+    first: u32,
+    target: u32,
+    log: u8,
+    rights: Rights,
+    grant: bool,
+) -> Result<bool, NoMemory> {
     links.add_space(1)?;
-    let Some(source) = Block::new(page, 0) else {
+    let Some(source) = Block::new(first, log) else {
         return Err(NoMemory);
     };
-    let Some(target) = Block::new(other, 0) else {
+    let Some(target) = Block::new(target, log) else {
         return Err(NoMemory);
     };
     if !are_plain(links) {
@@ -118,9 +125,25 @@ fn map_away(links: &mut Links, page: u32, other: u32, rights: Rights) -> Result<
     let item = ItemMove {
         mv: Move { source, target },
         rights,
-        grant: false,
+        grant,
     };
-    links.map_items(0, 1, &[item])
+    Ok(links.move_items(0, 1, &[item]))
+}
+
+/// Maps a page of space 0 to a page of space 1. Returns whether this was done.
+fn map_away(links: &mut Links, page: u32, other: u32, rights: Rights) -> Result<bool, NoMemory> {
+    send(links, page, other, 0, rights, false)
+}
+
+/// Grants the pages of a block of space 0 to space 1. Returns whether this was done.
+fn move_away(
+    links: &mut Links,
+    first: u32,
+    target: u32,
+    log: u8,
+    rights: Rights,
+) -> Result<bool, NoMemory> {
+    send(links, first, target, log, rights, true)
 }
 
 /// Clears the key, where all that stands has a right.
@@ -434,43 +457,20 @@ fn away(page: u32) -> Place {
     Place { space: 1, page }
 }
 
-/// Lets what is at the pages of space 0 from the first on and before the end go to the pages of space 1 from the target on.
-fn move_away(
-    links: &mut Links,
-    first: u32,
-    end: u32,
-    target: u32,
-    rights: Rights,
-) -> Result<bool, NoMemory>
-    requires rising { first ≤ end }
-    requires fits { end - first + target ≤ space_pages }
-{
-    links.add_space(1)?;
-    let source = Place {
-        space: 0,
-        page: first,
-    };
-    let other = Place {
-        space: 1,
-        page: target,
-    };
-    links.move_pages(source, end, other, rights)
-}
-
 #[test]
 fn moves_a_block_of_pages(rt: HostRuntime) {
     let mut links = Links::new(rt.alloc(), 3).expect(&rt, "memory");
     let [top, middle, low] = chain(&mut links).expect(&rt, "memory");
-    // page 12 is in the block and has no key, page 5 is in front of it
-    assert_eq!(rt; move_away(&mut links, 10, 13, 20, Rights::all()), Ok(true));
+    // page 12 is in the block of pages 8 to 15 and has no key, page 5 is in front of it
+    assert_eq!(rt; move_away(&mut links, 8, 16, 3, Rights::all()), Ok(true));
     assert_eq!(rt;
         [
             links.find(place(5)),
             links.find(place(10)),
             links.find(place(11)),
-            links.find(away(20)),
-            links.find(away(21)),
-            links.find(away(22))
+            links.find(away(18)),
+            links.find(away(19)),
+            links.find(away(20))
         ],
         [Some(top), None, None, Some(middle), Some(low), None]
     );
@@ -490,12 +490,12 @@ fn moves_no_page_where_one_cannot_go(rt: HostRuntime) {
     let [top, left, right, low] = nephew(&mut links).expect(&rt, "memory");
     links.cap_tree(left, Rights::of_bits(5));
     // the top gets the place that the second page would go to
-    assert_eq!(rt; move_away(&mut links, 5, 6, 21, Rights::all()), Ok(true));
+    assert_eq!(rt; move_away(&mut links, 5, 21, 0, Rights::all()), Ok(true));
     assert_eq!(rt;
         [
-            move_away(&mut links, 10, 12, 20, Rights::all()),
+            move_away(&mut links, 10, 20, 1, Rights::all()),
             // the second page has other rights than these
-            move_away(&mut links, 10, 12, 30, Rights::of_bits(5))
+            move_away(&mut links, 10, 30, 1, Rights::of_bits(5))
         ],
         [Ok(false), Ok(false)]
     );

@@ -7,12 +7,9 @@ use Rattle.l4_nodes.specs.declared.Place.{Place as LinkPlace}
 use Rattle.l4_links.specs.declared.Standing.{Standing}
 use Rattle.l4_links.specs.declared.Entry.{Entry}
 use Rattle.l4_links.specs.Entries.{Entries, entry_at, standing_at, IsAt, IsSource, Descends, cut_off}
-use Rattle.l4_mapdb.specs.declared.Cause.{Cause}
-use Rattle.l4_mapdb.specs.declared.Cause.TheVariants.{Entangled, NoMemory}
 use Rattle.l4_msg.specs.declared.items.ItemMove.{ItemMove}
 use Rattle.l4_mapdb.specs.declared.sources.UsedMove.{UsedMove}
 use Rattle.l4_mapdb.specs.declared.sources.UsedMoves.{UsedMoves}
-use Rattle.l4_mapdb.specs.Inside.Tangles.{HasTangle}
 
 -- what stands, without its marks
 abbrev pub plain : Standing → Standing
@@ -134,8 +131,3 @@ pub record AreMarked (Used : UsedMove → Type 0) (old new : Entries) : Type 0 w
 pub record Roomed (Used : UsedMove → Type 0) (old new : Entries) : Type 0 where
   pub marked : AreMarked Used old new
   pub targets : (move : UsedMove) → Used move → IsWanted new move.target
-
--- The used moves contradict each other; or they don't, and the target of one has no key.
-abbrev pub LacksKey : (UsedMove → Type 0) → Entries → Cause → Type 0
-LacksKey Used s Entangled = HasTangle Used s
-LacksKey Used s NoMemory = ¬ (HasTangle Used s) × ((move : UsedMove) × Used move × ((key : ℕ) → ¬ (IsAt s move.target key)))

@@ -1,8 +1,7 @@
 -- When the used moves of a message contradict each other, by keys. (this profile's own)
-use Rattle.std.specs.Prelude.{◌≡◌, ◌≢◌, ◌<◌, ◌≤◌, ◌+◌, ◌^◌, ℕ, ◌⊎◌, List, Some, IsTrue, slice_get, true}
+use Rattle.std.specs.Prelude.{◌≡◌, ◌≢◌, ℕ, ◌⊎◌, IsTrue}
 use Rattle.l4_nodes.specs.declared.Place.{Place as LinkPlace}
 use Rattle.l4_links.specs.Entries.{Entries, IsAt, IsStanding, IsSource, Descends}
-use Rattle.l4_msg.specs.declared.items.ItemMove.{ItemMove}
 use Rattle.l4_mapdb.specs.declared.sources.UsedMove.{UsedMove}
 
 module _ (Used : UsedMove → Type 0) where
@@ -54,15 +53,6 @@ module _ (Used : UsedMove → Type 0) where
     pub move : UsedMove
     pub used : Used move
     pub tangles : Tangles s move
-
--- the pages that the one item fills end before those that the other fills, and where one of them grants, so do those that it moves
-pub record EndsBefore (a b : ItemMove) : Type 0 where
-  pub source : (a.grant ≡ true) ⊎ (b.grant ≡ true) → a.mv.source.first + 2 ^ a.mv.source.log ≤ b.mv.source.first
-  pub target : a.mv.target.first + 2 ^ a.mv.target.log ≤ b.mv.target.first
-
--- of the items before this number, the pages of each end before those of the later ones
-abbrev pub AreApart : List ItemMove → ℕ → Type 0
-AreApart items end = (low high : ℕ) (a b : ItemMove) → low < high → high < end → slice_get items low ≡ Some a → slice_get items high ≡ Some b → EndsBefore a b
 
 -- what stands at the place is a source, or above one
 pub record AboveSource (s : Entries) (place : LinkPlace) : Type 0 where

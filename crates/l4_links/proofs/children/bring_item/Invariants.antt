@@ -2,12 +2,12 @@ use Rattle.std.proofs.Common.{◌≤◌, ◌-◌}
 use Rattle.l4_links.specs.Inside.Growing.{BringsPages}
 use Rattle.l4_links.proofs.children.bring_item.Given as goal
 
--- the pages before this one have their children
+-- the pages before this one have moved
 abbrev pub invariant-loop-next : goal.invariant-loop-next
 invariant-loop-next l = record {
   from : l.of.source.page ≤ l.page;
   before : l.page ≤ l.of.end;
-  brings : BringsPages l.of.source l.of.source.page l.page l.of.target l.of.rights l.sources.items l.fn.targets.items l.targets.items l.fn.nodes l.nodes;
+  brings : BringsPages l.of l.of.source.page l.page l.fn.sources.items l.sources.items l.fn.targets.items l.targets.items l.fn.nodes l.nodes;
 }
 
 abbrev pub decreases-loop-next : goal.decreases-loop-next

@@ -1,11 +1,10 @@
 use Rattle.std.proofs.Common.{false, sym, ◌∙◌}
 use Rattle.std.proofs.lemmas.Bool.{false≢true}
-use Rattle.l4_mapdb.specs.declared.Cause.TheVariants.{NoMemory}
 use Rattle.l4_mapdb.specs.Inside.Messages.{IsMoved, Roomed}
 use Rattle.l4_mapdb.specs.Inside.Placing.{IsStart, Placed, IsDone}
 use Rattle.l4_mapdb.specs.Inside.Tangles.{HasTangle}
 use Rattle.l4_mapdb.proofs.Keyed.{entangled_keys, entangled_places}
-use Rattle.l4_mapdb.proofs.Prepared.{begun, cause_of, room_rights, room_wanted, room_stay}
+use Rattle.l4_mapdb.proofs.Prepared.{begun, lacks_place, room_rights, room_wanted, room_stay}
 use Rattle.l4_mapdb.proofs.Restored.{restored, marks_wanted}
 use Rattle.l4_mapdb.proofs.RoomMade.{roomed, lacks_room}
 use Rattle.l4_mapdb.proofs.delivering.deliver_any.Goals.{After-make_room, After-law_trees-2, After-clear_targets}
@@ -30,14 +29,13 @@ free : (c : goal.After-make_room) → ¬ (HasTangle (IsMoved c.args.links.now.en
 free c = λ h. false≢true (sym c.if-has_tangle.false ∙ c.has_tangle.ensures.answer.1 h)
 
 pub returns-in_default-clause-cause : goal.returns-in_default-clause-cause
-returns-in_default-clause-cause c =
-    cause_of c.args.links.now c.law_places.ensures c.law_trees.ensures c.args.from c.args.to c.args.items.now NoMemory
-    (lacks_room c.args.links.now c.requires.clean c.args.from c.args.to c.args.items.now c.has_tangle.new.links.entries c.has_tangle.ensures.marked (free (goal.at.returns-in_default-clause-cause c).After-make_room) c.in_default.ensures.err)
+returns-in_default-clause-cause c = lacks_place c.args.links.now c.law_places.ensures c.law_trees.ensures c.args.from c.args.to c.args.items.now (free (goal.at.returns-in_default-clause-cause c).After-make_room)
+    (lacks_room c.args.links.now c.requires.clean c.args.from c.args.to c.args.items.now c.has_tangle.new.links.entries c.has_tangle.ensures.marked c.in_default.ensures.err)
 
 pub returns-in_default-clause-succeeds : goal.returns-in_default-clause-succeeds
 returns-in_default-clause-succeeds c = λ present _.
-    let cause = cause_of c.args.links.now c.law_places.ensures c.law_trees.ensures c.args.from c.args.to c.args.items.now NoMemory
-    (lacks_room c.args.links.now c.requires.clean c.args.from c.args.to c.args.items.now c.has_tangle.new.links.entries c.has_tangle.ensures.marked (free (goal.at.returns-in_default-clause-succeeds c).After-make_room) c.in_default.ensures.err) in
+    let cause = lacks_place c.args.links.now c.law_places.ensures c.law_trees.ensures c.args.from c.args.to c.args.items.now (free (goal.at.returns-in_default-clause-succeeds c).After-make_room)
+    (lacks_room c.args.links.now c.requires.clean c.args.from c.args.to c.args.items.now c.has_tangle.new.links.entries c.has_tangle.ensures.marked c.in_default.ensures.err) in
     absurd (cause.1.absent (present cause.1.move cause.1.used))
 
 room : (c : goal.After-law_trees-2) → Roomed (IsMoved c.args.links.now.entries c.args.from c.args.to c.args.items.now) c.args.links.now.entries c.make_room.new.links.entries

@@ -1,4 +1,4 @@
-use Rattle.l4_mapdb.specs.Inside.Tangles.{AreApart}
+use Rattle.l4_links.specs.Entries.{AreApart}
 use Rattle.l4_mapdb.proofs.Apart.{EndBy}
 use Rattle.l4_mapdb.proofs.tangles.are_apart.Given as goal
 

@@ -1,9 +1,8 @@
 use Rattle.std.proofs.Common.{◌≡◌, ℕ, ◌≤◌, length, Some, slice_get}
 use Rattle.l4_msg.specs.declared.items.ItemMove.{ItemMove}
-use Rattle.l4_links.specs.Inside.Bringing.{CanBring}
+use Rattle.l4_links.specs.Inside.Bringing.{MakesTables, CanBring}
 use Rattle.l4_links.specs.Inside.Keeping.{entries_of}
-use Rattle.l4_links.specs.Inside.Moving.{MakesTables}
-use Rattle.l4_links.proofs.children.wants_all.Given as goal
+use Rattle.l4_links.proofs.wants.wants_all.Given as goal
 
 -- what the items before this one need
 abbrev pub invariant-loop-item : goal.invariant-loop-item
