@@ -9,6 +9,7 @@
  *   FILE_WRITE_NONE=K    write K to these files writes 0 bytes, and no other
  *   FILE_SYNC_FAILS=K    synchronization K of these files fails, and no other
  *   MEMORY_FAILS=K  allocation K fails, and no other
+ *   MEMORY_MORE=N   and the N allocations after it fail too
  *   MEMORY_ENDS=K   from read K on every allocation fails
  */
 #define _GNU_SOURCE
@@ -96,7 +97,8 @@ extern void *__libc_realloc(void *, size_t);
 static int growth_fails(void) {
     static long growths;
     long fails = setting("MEMORY_FAILS");
-    return memory_ended || (fails && ++growths == fails);
+    growths++;
+    return memory_ended || (fails && growths >= fails && growths <= fails + setting("MEMORY_MORE"));
 }
 
 void *malloc(size_t size) {
