@@ -285,8 +285,7 @@ live_child old new first stamp parent key above rights s at sprouts c forest =
 
 pub sound_child : (old new : Slots) (first : Option ℕ) (stamp fresh walk parent key : ℕ) (above : Node) (rights : RightsSet) → IsSound old first stamp walk → node_at old parent ≡ Some above → Sprouts (limbs old) (limbs new) parent key
     → Comes (record { frame = above.frame; rights = common above.rights rights; source = false; granted = None }) key old new → ((xs ys : List ℕ) → IsForest old (xs ++ parent ∷ ys) → IsForest new (xs ++ parent ∷ key ∷ ys)) → IsFresh stamp fresh → IsSound new first fresh walk
-sound_child old new first stamp fresh walk parent key above rights s at sprouts c forest f =
-    sound_live new first stamp fresh walk (live_child old new first stamp parent key above rights (live_of old first stamp walk s) at sprouts c forest) f
+sound_child old new first stamp fresh walk parent key above rights s at sprouts c forest f = search (sound_live, live_child, live_of, arith)
 
 -- the nodes that are left after a node went with all that descends from it
 pub live_cleared : (old new : Slots) (first after : Option ℕ) (stamp top : ℕ) → IsLive old first stamp → Clears top first after old new → IsLive new after stamp
