@@ -1,10 +1,9 @@
-use Rattle.std.proofs.Common.{◌≡◌, ◌≢◌, ℕ, IsTrue, Some, None, false, refl, sym, ap, ◌∙◌, subst}
+use Rattle.std.proofs.Common.{arith, ◌≡◌, ◌≢◌, ℕ, IsTrue, Some, None, false, refl, sym, ap, ◌∙◌, subst}
 use Rattle.std.specs.FinMap as map
 use Rattle.std.specs.FinSet as set
 use Rattle.l4_links.specs.Entries.{Linked, AddsBlank, IsAt}
-use Rattle.l4_nodes.specs.Slots.{Slots, slot_at, node_at, spots}
-use Rattle.l4_links.specs.Inside.Stacks.{HasStack}
-use Rattle.l4_links.specs.Inside.Keeping.{entries_of, IsSound}
+use Rattle.l4_nodes.specs.Slots.{Slots, slot_at, node_at}
+use Rattle.l4_links.specs.Inside.Keeping.{entries_of}
 use Rattle.l4_links.proofs.Kept.{nodes_blank, sound_nodes}
 use Rattle.l4_links.proofs.Naming.{Pages, is_at, indexed_same, indexed_added}
 use Rattle.l4_links.proofs.Views.{view_blank, blank_added}
@@ -13,13 +12,7 @@ use Rattle.l4_links.proofs.Links.add_blank.Goals as goal
 
 -- where there is no memory for tables, all is as before
 pub invariant_of-self-in_err-prepare : goal.invariant_of-self-in_err-prepare
-invariant_of-self-in_err-prepare c =
-    let same = c.make_room.ensures.same in
-    record {
-      sound = subst (λ (s : Slots). IsSound s c.self.inside.first c.self.inside.stamp c.self.inside.walk) (sym same) c.self.invariant.sound;
-      indexed = indexed_same c.self.inside.nodes.slots c.make_room.new.self.slots c.self.inside.pages c.prepare.new.self (λ k. ap (λ (s : Slots). spots s k) same) c.prepare.ensures.pages c.prepare.ensures.spaces c.self.invariant.indexed;
-      stack = subst (λ (s : Slots). HasStack s c.self.inside.doomed) (sym same) c.self.invariant.stack;
-    }
+invariant_of-self-in_err-prepare c = grind (arith, indexed_same)
 
 -- how the slots have changed
 vacant : (c : goal.After-set) → slot_at c.self.inside.nodes.slots c.insert_blank-key.result ≡ None

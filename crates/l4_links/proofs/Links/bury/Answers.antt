@@ -11,9 +11,7 @@ bury-self-inside-requires-clause-forest c = (c.self.invariant.sound.keys, c.self
 
 pub invariant_of-self : goal.invariant_of-self
 invariant_of-self c = record {
-  sound =
-      sound_buried c.self.inside.nodes.slots c.bury-self-inside.new.nodes.slots c.self.inside.first c.bury-self-inside.result c.self.inside.stamp c.fresh-self-inside.result c.self.inside.walk
-      c.self.invariant.sound c.bury-self-inside.ensures.buries c.fresh-self-inside.ensures;
+  sound = search (sound_buried);
   indexed = c.bury-self-inside.ensures.indexed c.self.invariant.indexed;
   stack =
       subst (λ (o : Option ℕ). HasStack c.bury-self-inside.new.nodes.slots o) (sym c.none-self-inside.ensures)

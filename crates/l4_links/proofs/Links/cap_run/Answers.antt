@@ -1,4 +1,4 @@
-use Rattle.std.proofs.Common.{ℕ, sym, subst, ◌∙◌, refl}
+use Rattle.std.proofs.Common.{arith, ℕ, sym, subst, ◌∙◌, refl}
 use Rattle.l4_links.specs.Entries.{Linked, CapsBelow, CapsTree}
 use Rattle.l4_links.specs.Inside.Keeping.{entries_of, BeginsWalk, IsSound}
 use Rattle.l4_fpage.specs.Rights.{bits_of}
@@ -60,9 +60,7 @@ invariant_of-self c = record {
 }
 
 pub returns-then-not-with_top-clause-below : goal.returns-then-not-with_top-clause-below
-returns-then-not-with_top-clause-below c = λ _.
-    subst (λ (s : Linked). CapsBelow c.args.top c.args.cap s.entries (entries_of c.cap_below-doomed.new.nodes.slots)) c.self.view_is
-    (view_caps c.self.inside.nodes.slots c.cap_below-doomed.new.nodes.slots c.args.top c.args.cap (caps_from_same c.self.inside.nodes.slots c.stamp_for-stamp.new.nodes.slots c.cap_below-doomed.new.nodes.slots c.args.top c.args.cap c.stamp_for-stamp.ensures.same c.cap_below-doomed.ensures.caps))
+returns-then-not-with_top-clause-below c = grind (arith, view_caps, caps_from_same)
 
 pub invariant_of-self-2 : goal.invariant_of-self-2
 invariant_of-self-2 c = record {

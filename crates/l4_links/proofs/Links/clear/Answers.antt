@@ -13,9 +13,7 @@ returns-in_default-clause-clears c =
 
 pub invariant_of-self : goal.invariant_of-self
 invariant_of-self c = record {
-  sound =
-      sound_cleared c.self.inside.nodes.slots c.clear-self-inside.new.nodes.slots c.self.inside.first c.clear-self-inside.result c.self.inside.stamp c.fresh-self-inside.result c.self.inside.walk c.args.key
-      c.self.invariant.sound c.clear-self-inside.ensures.clears c.fresh-self-inside.ensures;
+  sound = search (sound_cleared);
   indexed = c.clear-self-inside.ensures.indexed c.self.invariant.indexed;
   stack =
       stack_cleared c.args.key c.self.inside.first c.clear-self-inside.result c.self.inside.nodes.slots c.clear-self-inside.new.nodes.slots c.self.inside.doomed

@@ -1,6 +1,5 @@
-use Rattle.std.proofs.Common.{sym, subst, ◌∙◌}
+use Rattle.std.proofs.Common.{arith, sym, subst, ◌∙◌}
 use Rattle.l4_links.specs.Entries.{Linked, CutsBelow, HaveRights}
-use Rattle.l4_links.specs.Inside.Keeping.{entries_of}
 use Rattle.l4_links.proofs.Kept.{sound_pruned}
 use Rattle.l4_links.proofs.Views.{view_cuts, cuts_none}
 use Rattle.l4_links.proofs.Stacking.{stack_pruned}
@@ -13,9 +12,7 @@ returns-in_default-clause-cuts c =
 
 pub invariant_of-self : goal.invariant_of-self
 invariant_of-self c = record {
-  sound =
-      sound_pruned c.self.inside.nodes.slots c.cut_run.new.nodes.slots c.self.inside.first c.self.inside.stamp c.fresh-self-inside.result c.self.inside.walk c.args.key
-      c.self.invariant.sound c.cut_run.ensures.prunes c.fresh-self-inside.ensures;
+  sound = search (sound_pruned);
   indexed = c.cut_run.ensures.indexed c.self.invariant.indexed;
   stack =
       stack_pruned c.args.key c.self.inside.nodes.slots c.cut_run.new.nodes.slots c.self.inside.doomed
@@ -23,6 +20,4 @@ invariant_of-self c = record {
 }
 
 pub returns-clause-cuts : goal.returns-clause-cuts
-returns-clause-cuts c =
-    subst (λ (s : Linked). CutsBelow c.args.key s.entries (entries_of c.cut_run.new.nodes.slots)) c.self.view_is
-    (view_cuts c.self.inside.nodes.slots c.cut_run.new.nodes.slots c.args.key c.cut_run.ensures.prunes)
+returns-clause-cuts c = grind (arith, view_cuts)

@@ -1,4 +1,4 @@
-use Rattle.std.proofs.Common.{ℕ, List, [], sym, subst, ◌∙◌}
+use Rattle.std.proofs.Common.{arith, ℕ, List, [], sym, subst, ◌∙◌}
 use Rattle.l4_links.specs.ListOf.{IsListOf}
 use Rattle.l4_links.specs.Entries.{Linked, Descends}
 use Rattle.l4_links.specs.Inside.Keeping.{entries_of}
@@ -16,10 +16,7 @@ returns-in_default c =
     subst (λ (items : List ℕ). IsListOf (λ (low : ℕ). Descends c.args.self.now.entries low c.args.key) items) (sym c.new.ensures.items) seen
 
 pub keys_below-requires : goal.keys_below-requires
-keys_below-requires c = record {
-  forest = (c.self.invariant.sound.keys, c.self.invariant.sound.forest);
-  there = some_node c.self.inside.nodes.slots c.args.key c.in-Some.field-0 (sym c.node_of.ensures ∙ c.in-Some.is);
-}
+keys_below-requires c = grind (arith, some_node)
 
 pub returns : goal.returns
 returns c =

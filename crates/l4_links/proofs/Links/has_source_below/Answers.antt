@@ -23,9 +23,7 @@ has_source-requires c =
 
 pub invariant_of-self : goal.invariant_of-self
 invariant_of-self c = record {
-  sound =
-      sound_found c.self.inside.nodes.slots c.has_source.new.nodes.slots c.self.inside.first c.self.inside.stamp c.self.inside.walk c.stamp_for-stamp.result c.fresh-self-inside.result 8
-      c.self.invariant.sound (same_on c.self.inside.nodes.slots c.stamp_for-stamp.new.nodes.slots c.has_source.new.nodes.slots c.stamp_for-stamp.ensures.same c.has_source.ensures.same) c.has_source.ensures.stamped c.fresh-self-inside.ensures;
+  sound = search (sound_found, same_on);
   indexed = indexed_same c.self.inside.nodes.slots c.has_source.new.nodes.slots c.self.inside.pages c.self.inside.pages (same_on c.self.inside.nodes.slots c.stamp_for-stamp.new.nodes.slots c.has_source.new.nodes.slots c.stamp_for-stamp.ensures.same c.has_source.ensures.same).spots_same refl refl c.self.invariant.indexed;
   stack = stack_same c.self.inside.nodes.slots c.has_source.new.nodes.slots c.self.inside.doomed (same_on c.self.inside.nodes.slots c.stamp_for-stamp.new.nodes.slots c.has_source.new.nodes.slots c.stamp_for-stamp.ensures.same c.has_source.ensures.same).dooms_same c.self.invariant.stack;
 }

@@ -1,4 +1,4 @@
-use Rattle.std.proofs.Common.{refl, subst}
+use Rattle.std.proofs.Common.{subst}
 use Rattle.l4_links.specs.Entries.{Linked, SetsSource}
 use Rattle.l4_links.specs.Inside.Keeping.{entries_of}
 use Rattle.l4_links.proofs.Noting.{quiet_source, less_source, sound_quiet, sound_noted}
@@ -9,13 +9,7 @@ use Rattle.l4_links.proofs.Links.set_source.Goals as goal
 
 -- where the mark was taken away
 pub invariant_of-self : goal.invariant_of-self
-invariant_of-self c = record {
-  sound =
-      sound_quiet c.self.inside.nodes.slots c.set_source.new.nodes.slots (quiet_source c.self.inside.nodes.slots c.set_source.new.nodes.slots c.args.key c.args.source c.set_source.ensures)
-      c.self.inside.first c.self.inside.stamp c.self.inside.walk (less_source c.self.inside.nodes.slots c.set_source.new.nodes.slots c.args.key c.args.source c.if-not-source.true c.set_source.ensures) c.self.invariant.sound;
-  indexed = indexed_same c.self.inside.nodes.slots c.set_source.new.nodes.slots c.self.inside.pages c.self.inside.pages c.set_source.ensures.spots_same refl refl c.self.invariant.indexed;
-  stack = stack_quiet c.self.inside.nodes.slots c.set_source.new.nodes.slots c.self.inside.doomed (quiet_source c.self.inside.nodes.slots c.set_source.new.nodes.slots c.args.key c.args.source c.set_source.ensures) c.self.invariant.stack;
-}
+invariant_of-self c = search (sound_quiet, quiet_source, less_source, indexed_same, stack_quiet)
 
 pub returns-then-not-source-clause-sets : goal.returns-then-not-source-clause-sets
 returns-then-not-source-clause-sets c =
@@ -23,13 +17,7 @@ returns-then-not-source-clause-sets c =
     (view_source c.self.inside.nodes.slots c.set_source.new.nodes.slots c.args.key c.args.source c.set_source.ensures)
 
 pub invariant_of-self-2 : goal.invariant_of-self-2
-invariant_of-self-2 c = record {
-  sound =
-      sound_noted c.self.inside.nodes.slots c.set_source.new.nodes.slots (quiet_source c.self.inside.nodes.slots c.set_source.new.nodes.slots c.args.key c.args.source c.set_source.ensures)
-      c.self.inside.first c.self.inside.stamp c.fresh-self-inside.result c.self.inside.walk c.self.invariant.sound c.fresh-self-inside.ensures;
-  indexed = indexed_same c.self.inside.nodes.slots c.set_source.new.nodes.slots c.self.inside.pages c.self.inside.pages c.set_source.ensures.spots_same refl refl c.self.invariant.indexed;
-  stack = stack_quiet c.self.inside.nodes.slots c.set_source.new.nodes.slots c.self.inside.doomed (quiet_source c.self.inside.nodes.slots c.set_source.new.nodes.slots c.args.key c.args.source c.set_source.ensures) c.self.invariant.stack;
-}
+invariant_of-self-2 c = search (sound_noted, quiet_source, indexed_same, stack_quiet)
 
 pub returns-clause-sets : goal.returns-clause-sets
 returns-clause-sets c =

@@ -8,17 +8,7 @@ use Rattle.l4_links.proofs.Stacking.{stack_nodes}
 use Rattle.l4_links.proofs.Links.set_wanted.Goals as goal
 
 pub invariant_of-self : goal.invariant_of-self
-invariant_of-self c = record {
-  sound =
-      sound_nodes c.self.inside.nodes.slots c.set_wanted.new.nodes.slots (nodes_wanted c.self.inside.nodes.slots c.set_wanted.new.nodes.slots c.args.key c.args.wanted c.set_wanted.ensures)
-      c.self.inside.first c.self.inside.stamp c.self.inside.walk c.self.invariant.sound;
-  indexed =
-      indexed_wanted c.self.inside.nodes.slots c.set_wanted.new.nodes.slots c.self.inside.pages
-      (places_wanted c.self.inside.nodes.slots c.set_wanted.new.nodes.slots c.args.key c.args.wanted c.set_wanted.ensures) c.self.invariant.indexed;
-  stack =
-      stack_nodes c.self.inside.nodes.slots c.set_wanted.new.nodes.slots c.self.inside.doomed
-      (nodes_wanted c.self.inside.nodes.slots c.set_wanted.new.nodes.slots c.args.key c.args.wanted c.set_wanted.ensures) c.self.invariant.stack;
-}
+invariant_of-self c = search (sound_nodes, nodes_wanted, indexed_wanted, places_wanted, stack_nodes)
 
 pub returns-clause-sets : goal.returns-clause-sets
 returns-clause-sets c =

@@ -1,6 +1,5 @@
-use Rattle.std.proofs.Common.{◌≡◌, sym, subst}
-use Rattle.l4_links.specs.Entries.{Linked, IsBlank, entry_at}
-use Rattle.l4_links.specs.Inside.Keeping.{entries_of}
+use Rattle.std.proofs.Common.{arith, sym, subst}
+use Rattle.l4_links.specs.Entries.{Linked, IsBlank}
 use Rattle.l4_links.proofs.Seen.{blank_node}
 use Rattle.l4_links.proofs.Kept.{sound_nodes}
 use Rattle.l4_links.proofs.Views.{view_gone, view_others}
@@ -27,6 +26,4 @@ pub returns-clause-gone : goal.returns-clause-gone
 returns-clause-gone c = view_gone c.remove.new.nodes.slots c.args.key c.remove.ensures.gone
 
 pub returns-clause-others : goal.returns-clause-others
-returns-clause-others c o ne =
-    subst (λ (s : Linked). entry_at (entries_of c.remove.new.nodes.slots) o ≡ entry_at s.entries o) c.self.view_is
-    (view_others c.self.inside.nodes.slots c.remove.new.nodes.slots o (c.remove.ensures.others o ne))
+returns-clause-others c = grind (arith, view_others)

@@ -1,8 +1,8 @@
-use Rattle.std.proofs.Common.{◌≡◌, ◌≢◌, None, sym, ap, ◌∙◌, subst, inl}
+use Rattle.std.proofs.Common.{arith, ◌≡◌, ◌≢◌, None, sym, ap, ◌∙◌, subst, inl}
 use Rattle.std.specs.Option.{option_map}
 use Rattle.l4_nodes.specs.Slots.{node_at}
-use Rattle.l4_links.specs.Entries.{Linked, IsStanding, IsBlank, TakesOver}
-use Rattle.l4_links.specs.Inside.Keeping.{entries_of, standing_of}
+use Rattle.l4_links.specs.Entries.{Linked, IsStanding, IsBlank}
+use Rattle.l4_links.specs.Inside.Keeping.{standing_of}
 use Rattle.l4_links.specs.Inside.Nodes.{TakesOver as TakesSlot}
 use Rattle.l4_links.proofs.Seen.{blank_node, standing_is}
 use Rattle.l4_links.proofs.Naming.{place_there, place_fits, place_key, place_present, taken, indexed_taken}
@@ -60,6 +60,4 @@ invariant_of-self c =
     }
 
 pub returns-clause-takes : goal.returns-clause-takes
-returns-clause-takes c =
-    subst (λ (s : Linked). TakesOver c.args.key c.args.blank c.args.rights s.entries (entries_of c.give.new.nodes.slots)) c.self.view_is
-    (view_takes c.self.inside.nodes.slots c.give.new.nodes.slots c.args.key c.args.blank c.args.rights (takes (goal.at.returns-clause-takes c).After-give))
+returns-clause-takes c = grind (arith, blank, view_takes, takes)

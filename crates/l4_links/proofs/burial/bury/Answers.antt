@@ -5,11 +5,7 @@ use Rattle.l4_links.proofs.Burying.{BuriedSoFar, buried_first, buried_there, bur
 use Rattle.l4_links.proofs.burial.bury.Goals as goal
 
 pub loop-init : goal.loop-init
-loop-init c = record {
-  buried = buried_first c.args.nodes.now.slots c.requires.forest.0 c.args.first c.args.doomed c.requires.forest.1 c.requires.within c.requires.stack;
-  indexed = λ i. i;
-  spaces = refl;
-}
+loop-init c = search (buried_first)
 
 pub returns-in_default : goal.returns-in_default
 returns-in_default c = record {
@@ -21,10 +17,7 @@ returns-in_default c = record {
 }
 
 pub unreachable-requires : goal.unreachable-requires
-unreachable-requires c =
-    buried_there c.args.nodes.now.slots c.loop.nodes.slots c.args.first c.loop.begin c.loop.counter c.in-Some.key
-    (subst (λ (o : Option ℕ). BuriedSoFar c.args.nodes.now.slots c.loop.nodes.slots c.args.first c.loop.begin o c.loop.counter) (sym c.key.ensures ∙ c.in-Some.is) c.loop.invariant.buried)
-    (sym c.node_of.ensures ∙ c.in_default-node_of.is)
+unreachable-requires c = grind (arith, buried_there)
 
 pub unlink-requires-clause-order : goal.unlink-requires-clause-order
 unlink-requires-clause-order c = (c.loop.invariant.buried.left, c.loop.invariant.buried.order)

@@ -1,4 +1,4 @@
-use Rattle.std.proofs.Common.{ℕ, Option, Some, None, false, refl, subst}
+use Rattle.std.proofs.Common.{arith, ℕ, Option, Some, None, false, refl, subst}
 use Rattle.l4_fpage.specs.Rights.{RightsSet}
 use Rattle.l4_nodes.specs.declared.nodes.Node.{Node}
 use Rattle.l4_nodes.specs.Slots.{Writes, SetsPrev, unnoted}
@@ -33,9 +33,7 @@ before : (c : goal.After-set_prev) → SetsPrev c.args.first (Some c.args.key) c
 before c = subst (λ (o : Option ℕ). SetsPrev c.args.first o c.write.new.nodes.slots c.set_prev.new.nodes.slots) c.to-at.ensures c.set_prev.ensures.sets
 
 pub returns-clause-rises : goal.returns-clause-rises
-returns-clause-rises c =
-    rises c.args.nodes.now.slots c.write.new.nodes.slots c.set_prev.new.nodes.slots c.args.key (root c.args.frame c.args.rights c.args.first None) c.args.first
-    c.requires.room c.requires.blank (written c) (before c) refl refl
+returns-clause-rises c = search (rises, written, before, arith)
 
 pub returns-clause-comes : goal.returns-clause-comes
 returns-clause-comes c =

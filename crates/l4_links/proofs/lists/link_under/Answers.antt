@@ -1,6 +1,5 @@
-use Rattle.std.proofs.Common.{ℕ, arith, refl, sym, subst, Option, Some}
+use Rattle.std.proofs.Common.{ℕ, arith, refl, subst, Option, Some}
 use Rattle.l4_nodes.specs.declared.nodes.Node.{Node}
-use Rattle.l4_spaces.specs.Keys.{IsKey}
 use Rattle.l4_links.specs.Inside.Nodes.{child}
 use Rattle.l4_nodes.specs.Slots.{Writes, SetsNext, SetsPrev, unnoted}
 use Rattle.l4_links.proofs.Depths.{depth_fits, depth_is_key}
@@ -15,15 +14,10 @@ pub to-at-requires : goal.to-at-requires
 to-at-requires c = slot_key c.args.nodes.now.slots c.args.key c.requires.few c.requires.room
 
 pub child_of-node-requires-clause-depth : goal.child_of-node-requires-clause-depth
-child_of-node-requires-clause-depth c =
-    let d = depth_fits c.args.nodes.now.slots c.requires.forest.0 c.args.parent c.args.above c.requires.forest.1 c.requires.there in
-    let s = c.capacity.ensures.above in
-    omega (arith, d, s)
+child_of-node-requires-clause-depth c = grind (arith, depth_fits)
 
 pub write-requires : goal.write-requires
-write-requires c =
-    subst (λ (n : Node). IsKey n.depth) (sym c.child_of-node.ensures)
-    (depth_is_key c.args.nodes.now.slots c.requires.forest.0 c.args.parent c.args.above c.args.key c.requires.forest.1 c.requires.few c.requires.there c.requires.room c.requires.blank)
+write-requires c = grind (arith, depth_is_key)
 
 -- the child, and the writes, with the keys that their links are to
 abbrev stands : (c : goal.After-set_next) → Node
@@ -41,9 +35,7 @@ before c =
     (subst (λ (o : Option ℕ). SetsNext c.to.result o c.set_prev.new.nodes.slots c.set_next.new.nodes.slots) c.to-at.ensures c.set_next.ensures.sets)
 
 pub returns-clause-sprouts : goal.returns-clause-sprouts
-returns-clause-sprouts c =
-    sprouts c.args.nodes.now.slots c.write.new.nodes.slots c.set_prev.new.nodes.slots c.set_next.new.nodes.slots c.args.parent c.args.key c.args.above (stands c)
-    c.requires.there c.requires.blank refl refl ((written c).here c.requires.room) (written c).others (after c) (before c)
+returns-clause-sprouts c = grind (arith, sprouts, written, after, before)
 
 pub returns-clause-comes : goal.returns-clause-comes
 returns-clause-comes c =

@@ -1,13 +1,10 @@
-use Rattle.std.proofs.Common.{sym, ◌∙◌}
+use Rattle.std.proofs.Common.{arith, sym, ◌∙◌}
 use Rattle.l4_links.proofs.Writes.{has_slot}
 use Rattle.l4_links.proofs.Neighbours.{taken_out, order_out, parts_out, some_from, limbs_next, limbs_prev, no_limb, no_link}
 use Rattle.l4_links.proofs.lists.unlink.Goals as goal
 
 pub returns-clause-takes : goal.returns-clause-takes
-returns-clause-takes c =
-    let at = sym c.node_of.ensures ∙ c.in-Some.is in
-    taken_out c.args.nodes.now.slots c.empty.new.nodes.slots c.set_next.new.nodes.slots c.set_prev.new.nodes.slots c.requires.order.0 c.args.key c.in-Some.node
-    c.requires.order.1 at (c.empty.ensures.writes.here (has_slot c.args.nodes.now.slots c.args.key c.in-Some.node at)) c.empty.ensures.writes.others c.set_next.ensures.sets c.set_prev.ensures.sets
+returns-clause-takes c = grind (arith, taken_out, has_slot)
 
 pub returns-clause-parts : goal.returns-clause-parts
 returns-clause-parts c =

@@ -1,16 +1,10 @@
-use Rattle.std.proofs.Common.{sym, ◌∙◌, arith}
+use Rattle.std.proofs.Common.{◌∙◌, arith}
 use Rattle.l4_links.proofs.ParentWalk.{none_from, found_from}
 use Rattle.l4_links.proofs.Results.{match_both}
 use Rattle.l4_links.proofs.parents.next_parent.Goals as goal
 
 pub returns-in-Some : goal.returns-in-Some
-returns-in-Some c = record {
-  named = sym c.get.ensures.value ∙ c.in-Some.ensures.0;
-  parent = c.in-Some.ensures.1;
-  from = omega arith;
-  before = (let before = c.if-page-end.false in omega (arith, before));
-  least = λ other key le lt is. absurd (omega (arith, le, lt));
-}
+returns-in-Some c = grind arith
 
 pub returns : goal.returns
 returns c =
