@@ -9,7 +9,7 @@ use Rattle.l4_links.specs.Inside.Trees.{Limb, IsInRun, parent_at, Sheds}
 use Rattle.l4_links.specs.Inside.Orders.{IsIn, IsOnce, first_of, position}
 use Rattle.l4_nodes.specs.Slots.{Slots, node_at, spots}
 use Rattle.l4_links.specs.Inside.Nodes.{limbs, values, marks, IsOrder, IsForest, Stops, left_spot, Prunes}
-use Rattle.l4_links.proofs.Linking.{in_left, in_right, in_parts, once_front, once_back, once_out, parted, first_in, begins_with}
+use Rattle.l4_links.proofs.Linking.{in_left, in_right, in_parts, once_front, once_back, once_out, parted, begins_with, first_in}
 use Rattle.l4_links.proofs.Positions.{position_here, position_further, position_within, order_back}
 use Rattle.l4_links.proofs.Neighbours.{once_apart, in_list, limb_in, neighbours_at}
 use Rattle.l4_links.proofs.Runs.{descendants, one_limb, parent_is}

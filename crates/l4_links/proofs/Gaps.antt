@@ -5,11 +5,11 @@ use Rattle.std.specs.Option.{option_map}
 use Rattle.l4_nodes.specs.declared.nodes.Node.{Node}
 use Rattle.l4_links.specs.Inside.Orders.{IsIn, IsOnce, Link, first_of}
 use Rattle.l4_nodes.specs.Slots.{Slots, node_at, spots}
-use Rattle.l4_links.specs.Inside.Nodes.{limbs, links, values, marks, IsOrder, IsForest, CutsOff, ClosesGap, left_spot}
+use Rattle.l4_links.specs.Inside.Nodes.{limbs, Stops, links, values, marks, IsOrder, IsForest, CutsOff, ClosesGap, left_spot}
 use Rattle.l4_links.proofs.Writes.{no_some, same_some, marks_of, limb_of, link_of, worth_of}
 use Rattle.l4_links.proofs.Linking.{in_left, in_right, in_parts, once_front, once_back, once_out, first_in, linked_cut}
 use Rattle.l4_links.proofs.Neighbours.{once_apart, limb_in, map_next, map_prev, next_set, prev_set, order_same_nodes, no_node}
-use Rattle.l4_links.proofs.Cutting.{is_in_or, once_rest, once_disjoint, in_front, is_top, in_run, in_back, stands, HasPassed, passed_first, passed_more, passed_ends, passed_there, CutSoFar}
+use Rattle.l4_links.proofs.Cutting.{is_in_or, once_rest, once_disjoint, in_front, is_top, in_run, in_back, stands, HasPassed, passed_first, passed_more, passed_ends, CutSoFar, passed_there}
 
 -- the deeper keys after the top have no nodes any more up to this one, and all other nodes are as they were
 pub record GoneSoFar (old cur : Slots) (top depth : ℕ) (at : Option ℕ) (count : ℕ) : Type 0 where
@@ -65,6 +65,13 @@ gone_there old cur top depth count key at c is_key none =
     let p = c.passed in
     let once = once_rest p.front top (c.run ++ p.back) p.forest.order.once in
     passed_there old top depth key at c.run p is_key (sym (c.nodes_same key (λ j. once_disjoint c.run p.back key once j (first_in p.back key (sym p.at_is ∙ is_key)))) ∙ none)
+
+-- where the walk stops now, it stopped before
+pub gone_stops : (old cur : Slots) (top depth : ℕ) (at : Option ℕ) (count : ℕ) → GoneSoFar old cur top depth at count → Stops (limbs cur) depth at → Stops (limbs old) depth at
+gone_stops old cur top depth at count c stops b y is at_b =
+    let p = c.passed in
+    let once = once_rest p.front top (c.run ++ p.back) p.forest.order.once in
+    stops b y is (ap (option_map limb_of) (c.nodes_same b (λ j. once_disjoint c.run p.back b once j (first_in p.back b (sym p.at_is ∙ is)))) ∙ at_b)
 
 -- the keys that are left each stand once
 once_cut : (xs run back : List ℕ) → IsOnce (xs ++ (run ++ back)) → IsOnce (xs ++ back)

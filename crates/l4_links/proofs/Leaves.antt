@@ -1,5 +1,5 @@
 -- A node has no descendants where the node after it is no deeper.
-use Rattle.std.proofs.Common.{◌≡◌, ◌≢◌, ℕ, ◌<◌, ◌≤◌, List, Some, None, sym, ap, ◌∙◌, arith}
+use Rattle.std.proofs.Common.{◌≡◌, ◌≢◌, ℕ, ◌<◌, List, Some, None, sym, ap, ◌∙◌, arith, ◌≤◌}
 use Rattle.std.specs.Prelude.{⊤}
 use Rattle.std.specs.Option.{option_map}
 use Rattle.l4_nodes.specs.declared.nodes.Node.{Node}
@@ -10,11 +10,11 @@ use Rattle.l4_nodes.specs.Slots.{Slots, node_at}
 use Rattle.l4_links.specs.Inside.Nodes.{limbs, place_of, IsForest, Stops}
 use Rattle.l4_links.specs.Inside.Keeping.{standing_of, entries_of}
 use Rattle.l4_links.specs.Entries.{IsStanding, Descends}
-use Rattle.l4_links.proofs.Neighbours.{in_list, next_live}
 use Rattle.l4_links.proofs.Runs.{descendants}
-use Rattle.l4_links.proofs.Walking.{place_next, passes_next, stops_end, stops_at, leads_range}
+use Rattle.l4_links.proofs.Walking.{place_next, passes_next, leads_range}
 use Rattle.l4_links.proofs.Seen.{standing_is, no_standing, leads_of, descends_of}
 use Rattle.l4_links.proofs.Writes.{no_some, limb_of}
+use Rattle.l4_links.proofs.Neighbours.{in_list, next_live}
 
 -- the node that is said to come next is there
 pub next_there : (slots : Slots) (ks : List ℕ) (key next : ℕ) (node : Node) → IsForest slots ks → node_at slots key ≡ Some node → node.next ≡ Some next → node_at slots next ≡ None → ⊥
@@ -22,8 +22,8 @@ next_there slots ks key next node f at is none =
     let n = in_list slots ks f.order next (next_live slots ks key node f.order at next is) in
     no_some n.0 (sym none ∙ n.1)
 
--- a run that ends at the next node is empty
-empty_run : (slots : Slots) (ks : List ℕ) (key : ℕ) (node : Node) → IsForest slots ks → node_at slots key ≡ Some node → Stops (limbs slots) node.depth node.next
+-- nothing descends from a node whose run ends at the next one
+pub empty_run : (slots : Slots) (ks : List ℕ) (key : ℕ) (node : Node) → IsForest slots ks → node_at slots key ≡ Some node → Stops (limbs slots) node.depth node.next
     → (low : ℕ) → ¬ (Leads (parent_at (limbs slots)) low key)
 empty_run slots ks key node f at stops low l =
     let p = place_next slots ks key node f.order at in
@@ -31,15 +31,6 @@ empty_run slots ks key node f at stops low l =
     let lo = r.0 in
     let hi = r.1 in
     omega (arith, p, lo, hi)
-
--- nothing descends from the last node of the list
-pub last_leaf : (slots : Slots) (ks : List ℕ) (key : ℕ) (node : Node) → IsForest slots ks → node_at slots key ≡ Some node → node.next ≡ None → (low : ℕ) → ¬ (Leads (parent_at (limbs slots)) low key)
-last_leaf slots ks key node f at none = empty_run slots ks key node f at (stops_end (limbs slots) node.depth node.next none)
-
--- nothing descends from a node before one that is no deeper
-pub next_leaf : (slots : Slots) (ks : List ℕ) (key next : ℕ) (node after : Node) → IsForest slots ks → node_at slots key ≡ Some node → node.next ≡ Some next → node_at slots next ≡ Some after → after.depth ≤ node.depth
-    → (low : ℕ) → ¬ (Leads (parent_at (limbs slots)) low key)
-next_leaf slots ks key next node after f at is at_next le = empty_run slots ks key node f at (stops_at slots node.depth next node.next after is at_next le)
 
 -- a deeper node after this one descends from it
 pub next_descends : (slots : Slots) (ks : List ℕ) (key next : ℕ) (node after : Node) → IsForest slots ks → node_at slots key ≡ Some node → node.next ≡ Some next → node_at slots next ≡ Some after → node.depth < after.depth

@@ -9,7 +9,7 @@ use Rattle.l4_links.specs.Inside.Orders.{IsIn, first_of, position}
 use Rattle.l4_nodes.specs.Slots.{Slots, node_at, spots, Closes}
 use Rattle.l4_links.specs.Inside.Nodes.{limbs, links, values, capped_worth, sources, IsOrder, IsForest, Caps, place_of, IsMarked, IsLow, IsStamped, Passes, Stops, IsDone, AreDone, HasMarks, HasLow, NoneMet, HasSeen, NoSource, CapsBelow}
 use Rattle.l4_fpage.specs.Rights.{RightsSet, common}
-use Rattle.l4_links.proofs.Writes.{no_some, map_over, written_was, marks_of, map_at, stamped_same, stamped_at, limb_of, link_of, worth_of}
+use Rattle.l4_links.proofs.Writes.{map_over, written_was, marks_of, map_at, stamped_same, stamped_at, limb_of, link_of, worth_of, no_some}
 use Rattle.l4_links.proofs.Linking.{once_front, once_back, parted}
 use Rattle.l4_links.proofs.Positions.{position_here, position_further, position_within}
 use Rattle.l4_links.proofs.Neighbours.{once_apart, in_list, limb_in, forest_links, neighbours_at, next_live}
@@ -128,13 +128,6 @@ passes_more at Holds ks top depth key x on c is_key deep here a =
     let behind = a.beyond in
     let one : (j : ℕ) → position ks j ≡ position ks key → j ≡ key = λ j e. position_one ks j key (c.live key refl) e in
     grind arith
-
--- where a walk stops
-pub stops_end : (at : ℕ → Option Limb) (depth : ℕ) (end : Option ℕ) → end ≡ None → Stops at depth end
-stops_end at depth end none b y is at_b = no_some b (sym none ∙ is)
-
-pub stops_at : (slots : Slots) (depth key : ℕ) (end : Option ℕ) (low : Node) → end ≡ Some key → node_at slots key ≡ Some low → low.depth ≤ depth → Stops (limbs slots) depth end
-stops_at slots depth key end low is_key at_key le b y is at_b = grind arith
 
 -- what descends from a key stands before its run's end
 pub leads_range : (slots : Slots) (Holds : ℕ → Type 0) (ks : List ℕ) (top : ℕ) (end : Option ℕ) (head : Limb) → IsForest slots ks → IsDone (limbs slots) Holds ks top head.depth end → limbs slots top ≡ Some head

@@ -11,6 +11,7 @@ ghost use Rattle.l4_links.specs.Inside.Nodes.{limbs, links, values, AreKeys, IsO
 ghost use Rattle.l4_links.specs.Inside.Keeping.{IsIndexed};
 
 use crate::burial::first_without;
+use crate::walks::deeper;
 use l4_fpage::Rights;
 use l4_nodes::{
     Node, Place, Slots, empty, is_wanted, node_of, place_of, set_next, set_prev, write,
@@ -192,15 +193,9 @@ pub(crate) fn cut_run(nodes: &mut Slots, pages: &mut Spaces, top: usize)
     let depth = head.depth;
     let mut at = head.next;
     for gone in 0..nodes.capacity() {
-        let Some(key) = at.key() else {
+        let Some((key, node)) = deeper(nodes, at, depth) else {
             return close_gap(nodes, top, at, gone);
         };
-        let Some(node) = node_of(nodes, key) else {
-            unreachable!()
-        };
-        if node.depth <= depth {
-            return close_gap(nodes, top, at, gone);
-        }
         at = node.next;
         cut_off(nodes, pages, key);
     }

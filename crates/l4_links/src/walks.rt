@@ -1,12 +1,12 @@
 //! Walks over the run of a node's descendants, their stamps, and the list of their keys. A node whose run was visited by a walk of the same
 //! stamp is skipped with all its descendants.
 
-ghost use Rattle.std.specs.Prelude.{◌≡◌, ◌≢◌, ◌≤◌, ℕ, List, Option, Some, None, true, false, IfOk, ◌⊎◌};
+ghost use Rattle.std.specs.Prelude.{◌≡◌, ◌≢◌, ◌≤◌, ◌<◌, ℕ, List, Option, Some, None, true, false, IfOk, IfSome, ◌⊎◌};
 ghost use Rattle.l4_links.specs.Leads.{Leads};
 ghost use Rattle.l4_links.specs.Inside.Trees.{parent_at};
 ghost use Rattle.l4_links.specs.Inside.Stacks.{HasStack};
 ghost use Rattle.l4_nodes.specs.Slots.{node_at};
-ghost use Rattle.l4_links.specs.Inside.Nodes.{limbs, AreKeys, IsForest, HasLow, HasMarks, CapsBelow, HasSeen, IsSame, Meets, NoneMet, IsMarked, IsStamped, AreUnmarked};
+ghost use Rattle.l4_links.specs.Inside.Nodes.{limbs, AreKeys, IsForest, HasLow, HasMarks, CapsBelow, HasSeen, IsSame, Meets, NoneMet, IsMarked, IsStamped, AreUnmarked, Stops};
 ghost use Rattle.l4_links.specs.ListOf.{IsListOf};
 ghost use Rattle.l4_links.specs.Inside.Keeping.{IsFresh, BeginsWalk, sources_walk};
 
@@ -27,6 +27,24 @@ fn onward(node: &Node, stamp: u32) -> Link
         return node.end;
     }
     node.next
+}
+
+/// Returns the key at the link and its node if that node is deeper than this: the next one of a run. Returns None where the run ends.
+#[inline(always)]
+pub(crate) fn deeper(nodes: &Slots, at: Link, depth: usize) -> Option<(usize, Node)>
+    requires { (key : ℕ) → at ≡ Some key → node_at nodes.now.slots key ≢ None }
+    ensures ends { result ≡ None → Stops (limbs nodes.now.slots) depth at }
+    ensures goes { IfSome result (λ found. (at ≡ Some found.0)
+        × (node_at nodes.now.slots found.0 ≡ Some found.1) × (depth < found.1.depth)) }
+{
+    let key = at.key()?;
+    let Some(node) = node_of(nodes, key) else {
+        unreachable!()
+    };
+    if node.depth <= depth {
+        return None;
+    }
+    Some((key, node))
 }
 
 /// Reduces the rights of everything that descends from the node to these rights. A run that a walk of this stamp has visited is skipped.
@@ -55,17 +73,10 @@ pub(crate) fn cap_below(
     let mut at = head.next;
     let mut doomed = doomed;
     for _ in 0..nodes.capacity() {
-        let Some(key) = at.key() else {
+        let Some((key, node)) = deeper(nodes, at, depth) else {
             close(nodes, top, stamp, at);
             return doomed;
         };
-        let Some(node) = node_of(nodes, key) else {
-            unreachable!()
-        };
-        if node.depth <= depth {
-            close(nodes, top, stamp, at);
-            return doomed;
-        }
         doomed = cap_at(nodes, key, cap, doomed);
         at = onward(&node, stamp);
     }
@@ -91,17 +102,10 @@ pub(crate) fn has_source(nodes: &mut Slots, top: usize, stamp: u32) -> bool
     let depth = head.depth;
     let mut at = head.next;
     for _ in 0..nodes.capacity() {
-        let Some(key) = at.key() else {
+        let Some((key, node)) = deeper(nodes, at, depth) else {
             close(nodes, top, stamp, at);
             return false;
         };
-        let Some(node) = node_of(nodes, key) else {
-            unreachable!()
-        };
-        if node.depth <= depth {
-            close(nodes, top, stamp, at);
-            return false;
-        }
         if node.source {
             return true;
         }
@@ -123,13 +127,10 @@ pub(crate) fn is_leaf(nodes: &Slots, key: usize) -> bool
     let Some(node) = node_of(nodes, key) else {
         return false;
     };
-    let Some(next) = node.next.key() else {
-        return true;
-    };
-    let Some(after) = node_of(nodes, next) else {
-        unreachable!()
-    };
-    after.depth <= node.depth
+    if let Some(_) = deeper(nodes, node.next, node.depth) {
+        return false;
+    }
+    true
 }
 
 /// Returns the keys of everything that descends from the node: the run of deeper nodes after it.
@@ -145,15 +146,9 @@ pub(crate) fn keys_below(alloc: Global, nodes: &Slots, top: usize) -> Result<Vec
     let mut at = head.next;
     let mut keys = Vec::new(alloc);
     for _ in 0..nodes.capacity() {
-        let Some(key) = at.key() else {
+        let Some((key, node)) = deeper(nodes, at, depth) else {
             return Ok(keys);
         };
-        let Some(node) = node_of(nodes, key) else {
-            unreachable!()
-        };
-        if node.depth <= depth {
-            return Ok(keys);
-        }
         keys.push(key)?;
         at = node.next;
     }
