@@ -100,7 +100,7 @@ node_turned key change old new t = grind arith
 
 -- a slot's node is this one now
 pub node_written : (key : ℕ) (node : Option Node) (old new : Slots) → TurnsAt key (λ (s : Slot). record s { node = node }) old new → Writes key node old new
-node_written key node old new t = grind arith
+node_written key _ old new t = grind arith
 
 -- the same, where nothing is noted by the write
 pub slot_turned : (slots : List (Option Packed)) (notes : List Note) (old : Slots) (key : ℕ) (p q : Packed) (change : Slot → Slot) → joined slots notes ≡ old → Some p ≡ slice_index_or slots key None

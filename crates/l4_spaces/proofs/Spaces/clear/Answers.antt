@@ -8,8 +8,7 @@ use Rattle.l4_spaces.proofs.Showing.{wrote, at_here, found, laid, whole_long, th
 use Rattle.l4_spaces.proofs.Spaces.clear.Goals as goal
 
 pub returns-in_default-clause-pages : goal.returns-in_default-clause-pages
-returns-in_default-clause-pages c =
-    pages_clear_none c.self.inside.spaces.items c.args.self.now (c.args.space, c.args.page) c.self.view_is (ap (λ (ts : Rows). entry ts c.args.page) (no_tables_of c.self.inside.spaces.items c.args.space c.in_default.ensures.at))
+returns-in_default-clause-pages c = grind (arith, pages_clear_none, no_tables_of)
 
 pub invariant_of-self : goal.invariant_of-self
 invariant_of-self c = laid (wrote c.self.inside.spaces.items c.args.space c.in-Some.at c.index_mut.result.now c.clear.new.tables c.in-Some.ensures.at c.index_mut.ensures.value) c.self.invariant (whole_long c.index_mut.result.now.1.items c.clear.new.tables.items c.clear.ensures.long) (λ le. omega (arith, c.clear.ensures.full, le))

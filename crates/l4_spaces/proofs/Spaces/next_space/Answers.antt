@@ -1,16 +1,12 @@
-use Rattle.std.proofs.Common.{◌≡◌, length, refl, sym, subst}
+use Rattle.std.proofs.Common.{arith, ◌≡◌, sym, subst}
 use Rattle.std.proofs.lemmas.Option.{slice_get_read}
-use Rattle.l4_spaces.specs.Inside.Leasts.{LeastSoFar}
 use Rattle.l4_spaces.specs.Inside.Seen.{Live, shown}
 use Rattle.l4_spaces.proofs.Least.{least_next}
 use Rattle.l4_spaces.proofs.NextSpace.{next_is}
 use Rattle.l4_spaces.proofs.Spaces.next_space.Goals as goal
 
 pub loop-entry-preserved : goal.loop-entry-preserved
-loop-entry-preserved c =
-    let es = c.deref-entry-items.result.now in
-    let there = slice_get_read es (length es) c.loop-entry.entry-index c.entry-item.result refl c.loop-entry-test.true c.entry-item.is in
-    subst (LeastSoFar c.args.from es _) (sym c.least_with-least.ensures) (least_next c.args.from es c.loop-entry.entry-index c.entry-item.result there c.loop-entry.least c.loop-entry.invariant)
+loop-entry-preserved c = grind (arith, slice_get_read, least_next)
 
 pub returns : goal.returns
 returns c =

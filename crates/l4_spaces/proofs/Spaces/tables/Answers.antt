@@ -1,14 +1,10 @@
-use Rattle.std.proofs.Common.{◌∙◌}
+use Rattle.std.proofs.Common.{arith}
 use Rattle.l4_spaces.proofs.Aside.{tables_are}
-use Rattle.l4_spaces.proofs.Below.{not_both}
 use Rattle.l4_spaces.proofs.Showing.{absent_key, at_here, stands}
 use Rattle.l4_spaces.proofs.Spaces.tables.Goals as goal
 
 pub returns-in_default : goal.returns-in_default
-returns-in_default c = (
-  λ page. absent_key c.self.inside.spaces.items c.args.self.now c.args.space page c.self.view_is c.in_default.ensures.at,
-  λ there. not_both _ there (stands c.self.inside.spaces.items c.args.self.now c.args.space c.self.view_is ∙ c.in_default.ensures.at),
-)
+returns-in_default c = grind (arith, absent_key, stands)
 
 pub returns : goal.returns
 returns c =
