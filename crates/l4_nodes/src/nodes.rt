@@ -1,5 +1,7 @@
 //! The slots of the slab: the content of each, and the writes to a single one.
 
+#![tactic(auto, using(crate::proofs::Joining::joins))]
+
 ghost use Rattle.std.specs.Prelude.{◌≡◌, ◌+◌, ◌<◌, ℕ, Some, None};
 ghost use Rattle.std.specs.Option.{option_map};
 ghost use Rattle.l4_spaces.specs.Tables.{IsPage};

@@ -387,8 +387,8 @@ impl Packed {
     #[inline]
     pub(crate) fn put(&mut self, node: Node)
         requires { IsKey node.depth }
-        ensures { slot_shown self.new no_note
-            ≡ record (slot_shown self.old no_note) { node = Some (unnoted node) } }
+        ensures { (note : ANote) → note ≡ no_note → slot_shown self.new note
+            ≡ record (slot_shown self.old note) { node = Some (unnoted node) } }
     {
         let notes = Notes {
             wanted: Notes::of(self.word.notes()).wanted,

@@ -1,5 +1,7 @@
 //! The slots, and beside them the records of walks for their keys. A slot is read together with its record.
 
+#![tactic(auto, using(crate::proofs::Joining::joins, crate::proofs::Joining::unnoted_all))]
+
 ghost use Rattle.std.specs.Prelude.{◌≡◌, ◌≢◌, ◌+◌, ◌<◌, ◌≤◌, ℕ, [], false, None, Some, length, slice_index_or, vec_capacity, IfOk, OnOk, OnErr};
 ghost use Rattle.std.specs.Option.{option_map};
 ghost use Rattle.l4_spaces.specs.Tables.{IsPage};
