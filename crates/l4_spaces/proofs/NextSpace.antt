@@ -1,13 +1,14 @@
 -- The least number of a space, as the list of spaces has it.
 use Rattle.std.proofs.Common.{◌≡◌, ℕ, zero, suc, ◌≤◌, ◌||◌, Bool, true, false, nat_eq, [], ◌∷◌, length, slice_get, Option, Some, None, MatchOption, refl, sym, ap, ◌∙◌, subst, inl, inr, arith}
 use Rattle.std.proofs.lemmas.Bool.{cases_eq}
-use Rattle.std.proofs.lemmas.Option.{slice_get_within}
+use Rattle.std.proofs.lemmas.Option.{slice_get_within, slice_get_read}
 use Rattle.l4_spaces.specs.Tables.{Tables}
 use Rattle.l4_spaces.specs.Listed.{NoSpaceFrom, IsNextSpace}
 use Rattle.l4_spaces.specs.Inside.Leasts.{Stands, LeastSoFar}
 use Rattle.l4_spaces.specs.Inside.Seen.{Space, Live, has, shown}
 use Rattle.l4_spaces.proofs.Finding.{eq_no}
 use Rattle.l4_spaces.proofs.Showing.{stands}
+use Rattle.l4_spaces.proofs.Least.{least_next}
 
 has_stands : (ss : Live) (k : ℕ) → has ss k ≡ true → Stands ss k
 has_stands [] k h = absurd (let e : false ≡ true = h in cc)
@@ -41,3 +42,5 @@ next_is ss t from i view all (Some n) h = record {
       let within = slice_get_within ss s.at s.entry s.there in
       subst (λ (m : ℕ). n ≤ m) s.number (h.2 s.at s.entry (omega (arith, within, all)) s.there (let e = s.number in omega (arith, e, le)));
 }
+
+pub ruleset leasts = (slice_get_read, least_next, next_is)

@@ -351,3 +351,6 @@ there_same w same p = wrote_all (λ _ a b. is_made b p.1 ≡ is_made a p.1) w (s
 
 pub same_view : (ss new : Live) (s : Tables) → shown ss ≡ s → ((p : ℕ × ℕ) → key_at new p ≡ key_at ss p) → ((p : ℕ × ℕ) → is_there new p ≡ is_there ss p) → numbers new ≡ numbers ss → shown new ≡ s
 same_view ss new s view keys made names = same_shown new ss keys made names ∙ view
+
+-- what the proof of an added space cites
+pub ruleset added = (told, stands, set_same, set_has, laid_push, pages_push, spaces_push, there_push, keeps_same)

@@ -68,6 +68,7 @@ impl Model for Spaces {
 
 /// Returns the index of the space, by a search. It is rarely needed, because a space is mostly at the index of its number.
 #[cold]
+#[tactic(auto, using(crate::proofs::Finding::sought))]
 fn index_among(spaces: &Vec<(u64, Vec<Row>)>, space: u64) -> Option<usize>
     requires { IsOnce spaces.now.items }
     ensures at { MatchOption result (has spaces.now.items space ≡ false)
@@ -84,6 +85,7 @@ fn index_among(spaces: &Vec<(u64, Vec<Row>)>, space: u64) -> Option<usize>
 
 /// Returns the index of the space. As long as no space has ended, it is the space's number.
 #[inline]
+#[tactic(auto, using(crate::proofs::Finding::sought))]
 fn index_of(spaces: &Vec<(u64, Vec<Row>)>, space: u64) -> Option<usize>
     requires { IsOnce spaces.now.items }
     ensures at { MatchOption result (has spaces.now.items space ≡ false)
@@ -115,6 +117,7 @@ impl Spaces {
     /// Adds an empty space. Changes nothing if the space exists.
     ///
     /// Returns `NoMemory` if an allocation fails; then nothing has changed.
+    #[tactic(auto, using(crate::proofs::Showing::added))]
     pub fn add(&mut self, space: u64) -> Result<(), NoMemory>
         ensures pages { self.new.pages ≡ self.old.pages }
         ensures spaces { OnOk result (self.new.spaces ≡ set.insert self.old.spaces space) }

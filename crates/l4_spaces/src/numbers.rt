@@ -28,6 +28,7 @@ impl Spaces {
     ghost use Rattle.l4_spaces.specs.Listed.{NoSpaceFrom, IsNextSpace};
 
     /// Returns the least number of a space that is not below `from`, or None. Visits all spaces.
+    #[tactic(auto, using(crate::proofs::NextSpace::leasts))]
     pub fn next_space(&self, from: u64) -> Option<u64>
         ensures { MatchOption result (NoSpaceFrom self.now.spaces from)
             (IsNextSpace self.now.spaces from) }

@@ -1,6 +1,8 @@
 //! The tables of one space. Each is absent, or has an entry for each of its pages. The list of tables, the root, is as long as a table was
 //! needed; tables beyond its end are absent.
 
+#![tactic(auto, using(crate::proofs::Walk::walks))]
+
 ghost use Rattle.std.specs.Prelude.{◌≡◌, ◌≢◌, ◌<◌, ◌≤◌, ◌/◌, ◌%◌, ◌+◌, ◌*◌, ◌⊎◌, ℕ, length, [], ◌∷◌, All, Some, None, OnOk, OnErr, IsOk, IfOk, IsTrue, is_some, IfSome, MatchOption, slice_index_or, true, false};
 ghost use Rattle.l4_spaces.specs.Tables.{table_pages, space_tables, row_block, IsPage, NoKeys};
 ghost use Rattle.l4_spaces.specs.Rows.{entry, is_made, IsReady, AreWhole, AreMade, NoKeysInBlock, NoneIn, IsFirstIn, IsTableFrom, row};

@@ -1,13 +1,8 @@
-use Rattle.std.proofs.Common.{◌≢◌, ap, ◌∙◌, sym, arith}
+use Rattle.std.proofs.Common.{◌≢◌, ap, ◌∙◌, arith}
 use Rattle.std.proofs.lemmas.Bool.Decides.{nat_tests}
 use Rattle.l4_spaces.specs.Inside.Seen.{Space}
-use Rattle.l4_spaces.proofs.Finding.{sought_more, stands_once}
+use Rattle.l4_spaces.proofs.Finding.{sought_more}
 use Rattle.l4_spaces.proofs.index_among.Goals as goal
-
-pub returns-then-index-space-clause-at : goal.returns-then-index-space-clause-at
-returns-then-index-space-clause-at c =
-    let o = c.args.spaces.now.ok.0 in
-    stands_once c.args.space c.args.spaces.now.items c.loop-index.index c.index.result.now c.requires (omega (arith, o, c.loop-index-test.true)) (ap (λ (s : Space). s.0) (sym c.index.ensures) ∙ c.if-index-space.true)
 
 pub loop-index-preserved : goal.loop-index-preserved
 loop-index-preserved c =
