@@ -11,9 +11,9 @@ use Rattle.std.proofs.lemmas.Bool.{cases_lt}
 use Rattle.std.proofs.lemmas.List.{get_or_past, get_or_default}
 use Rattle.l4_spaces.specs.Tables.{Tables, place_cmp, key_of, table_pages, space_tables, HasRoom, KeepsRoom, KeepsOthersRoom, Empties, IsPresent, NonePresentFrom, IsNextPresent, NonePresentIn, IsNextIn, IsTableIn}
 use Rattle.l4_spaces.specs.Rows.{Rows, row, entry, is_made, IsReady, AreWhole, AreMade, NoneIn, IsFirstIn, IsTableFrom}
-use Rattle.l4_spaces.specs.Inside.Seen.{Space, Live, numbers, has, tables_of, IsOnce, StandsAt, key_at, is_there, shown, IsLaid}
+use Rattle.l4_spaces.specs.Inside.Seen.{Space, Live, numbers, has, tables_of, IsOnce, IsAt, key_at, is_there, shown, IsLaid}
 use Rattle.l4_spaces.proofs.Below.{places_total, tie, untie, is_equal, decided}
-use Rattle.l4_spaces.proofs.Finding.{eq_no, eq_of, ne_of, stands_tables, stands_number, stands_has, no_tables_of, written_here, written_other, written_numbers}
+use Rattle.l4_spaces.proofs.Finding.{eq_no, eq_of, ne_of, stands_number, stands_has, no_tables_of, written_here, written_other, written_numbers}
 use Rattle.l4_spaces.proofs.Listing.{key_shown, there_shown, has_shown, pages_are, same_shown, past_entry}
 
 -- what is asked of the view is asked of the list
@@ -27,8 +27,8 @@ stands ss s k view = ap (λ (t : Tables). set.contains t.spaces k) (sym view) �
 made : (ss : Live) (s : Tables) (k high : ℕ) → shown ss ≡ s → set.contains s.tables (k, high) ≡ is_there ss (k, high)
 made ss s k high view = ap (λ (t : Tables). set.contains t.tables (k, high)) (sym view) ∙ there_shown ss k high
 
-pub at_here : (ss : Live) (k i : ℕ) (s : Space) → StandsAt k ss i → s ≡ slice_index_or ss i s → tables_of ss k ≡ s.1.items
-at_here ss k i s h is = stands_tables k ss i s h ∙ ap (λ (r : Space). r.1.items) (sym is)
+pub at_here : (ss : Live) (k i : ℕ) (s : Space) → IsAt k ss i → s ≡ slice_index_or ss i s → tables_of ss k ≡ s.1.items
+at_here ss k i s h is = grind arith
 
 pub found_in : (ss : Live) (s : Tables) (k page : ℕ) (ts : Rows) → shown ss ≡ s → tables_of ss k ≡ ts → key_of s k page ≡ entry ts page
 found_in ss s k page ts view is = found ss s k page view ∙ ap (λ (t : Rows). entry t page) is
@@ -84,7 +84,7 @@ pub record Wrote (k : ℕ) (ss new : Live) (old tables : Rows) : Type 0 where
   pub other : (q : ℕ) → q ≢ k → tables_of new q ≡ tables_of ss q
   pub same : numbers new ≡ numbers ss
 
-pub wrote : (ss : Live) (k i : ℕ) (s : Space) (v : Vec (List (Option ℕ)) Global) → StandsAt k ss i → s ≡ slice_index_or ss i s → Wrote k ss (slice_set ss i (s.0, v)) s.1.items v.items
+pub wrote : (ss : Live) (k i : ℕ) (s : Space) (v : Vec (List (Option ℕ)) Global) → IsAt k ss i → s ≡ slice_index_or ss i s → Wrote k ss (slice_set ss i (s.0, v)) s.1.items v.items
 wrote ss k i s v h is = grind (arith, stands_number, at_here, written_here, written_other, written_numbers)
 
 pub wrote_all : {k : ℕ} {ss new : Live} {old ts : Rows} (P : ℕ → Rows → Rows → Type 0) → Wrote k ss new old ts → P k old ts → ((q : ℕ) → P q (tables_of ss q) (tables_of ss q)) → (q : ℕ) → P q (tables_of ss q) (tables_of new q)
@@ -138,14 +138,11 @@ pub pages_clear_none : (ss : Live) (s : Tables) (q : ℕ × ℕ) → shown ss �
 pages_clear_none ss s q view none = grind (arith, pages_clear, untie)
 
 -- what the search of a space says
-pub told : (ss : Live) (k : ℕ) (r : Option ℕ) → MatchOption r (has ss k ≡ false) (StandsAt k ss) → is_some r ≡ has ss k
+pub told : (ss : Live) (k : ℕ) (r : Option ℕ) → MatchOption r (has ss k ≡ false) (IsAt k ss) → is_some r ≡ has ss k
 told ss k None h = sym h
-told ss k (Some i) h = sym (stands_has k ss i h)
+told ss k (Some i) h = sym (stands_has k ss i h.stands)
 
 -- the next page
-
-pub next_absent : (ss : Live) (s : Tables) (k page : ℕ) → shown ss ≡ s → has ss k ≡ false → NonePresentFrom s k page
-next_absent ss s k page view h other le here = let e : false ≡ true = sym (ap is_some (absent_key ss s k other view h)) ∙ here in cc
 
 pub none_at : (ss : Live) (s : Tables) (k : ℕ) (ts : Rows) (other : ℕ) → shown ss ≡ s → tables_of ss k ≡ ts → entry ts other ≡ None → ¬ (IsPresent s k other)
 none_at ss s k ts other view is none here = grind (arith, found_in)
@@ -354,3 +351,6 @@ same_view ss new s view keys made names = same_shown new ss keys made names ∙ 
 
 -- what the proof of an added space cites
 pub ruleset added = (told, stands, set_same, set_has, laid_push, pages_push, spaces_push, there_push, keeps_same)
+
+-- what the proofs of all reads cite
+pub ruleset reads = (told, stands, stands_has, found, absent_key, past_entry, get_or_default, all_made, ready_shown, ready_made, first_made, rest_has, pages_clear_none, no_tables_of, set_without, empty_absent)

@@ -5,7 +5,7 @@ ghost use Rattle.std.specs.Prelude.{◌≡◌, ◌≢◌, ◌∷◌, [], ◌<◌
 ghost use Rattle.std.specs.FinMap as map;
 ghost use Rattle.std.specs.FinSet as set;
 ghost use Rattle.l4_spaces.specs.Keys.{IsKey};
-ghost use Rattle.l4_spaces.specs.Inside.Seen.{has, IsOnce, StandsAt};
+ghost use Rattle.l4_spaces.specs.Inside.Seen.{has, IsOnce, IsAt};
 
 mod keys;
 mod numbers;
@@ -72,7 +72,7 @@ impl Model for Spaces {
 fn index_among(spaces: &Vec<(u64, Vec<Row>)>, space: u64) -> Option<usize>
     requires { IsOnce spaces.now.items }
     ensures at { MatchOption result (has spaces.now.items space ≡ false)
-        (StandsAt space spaces.now.items) }
+        (IsAt space spaces.now.items) }
     ensures within { IfSome result (λ at. at < length spaces.now.items) }
 {
     for index in 0..spaces.len() {
@@ -89,7 +89,7 @@ fn index_among(spaces: &Vec<(u64, Vec<Row>)>, space: u64) -> Option<usize>
 fn index_of(spaces: &Vec<(u64, Vec<Row>)>, space: u64) -> Option<usize>
     requires { IsOnce spaces.now.items }
     ensures at { MatchOption result (has spaces.now.items space ≡ false)
-        (StandsAt space spaces.now.items) }
+        (IsAt space spaces.now.items) }
     ensures within { IfSome result (λ at. at < length spaces.now.items) }
 {
     let number = space as usize;
@@ -99,6 +99,7 @@ fn index_of(spaces: &Vec<(u64, Vec<Row>)>, space: u64) -> Option<usize>
     index_among(spaces, space)
 }
 
+#[tactic(auto, using(crate::proofs::Showing::reads))]
 impl Spaces {
     ghost use Rattle.l4_spaces.specs.Tables.{Tables, key_of, space_tables, IsPresent, IsSpace, IsPage, HasRoom, KeepsRoom, KeepsOthersRoom, Empties, NonePresentFrom, IsNextPresent, NonePresentIn, IsNextIn, IsTableIn};
     ghost use Rattle.l4_spaces.specs.Rows.{AreWhole, AreTablesOf, AreAside};

@@ -1,5 +1,5 @@
 -- What a contract sees of the spaces with their tables, and what these keep.
-use Rattle.std.specs.Prelude.{◌≡◌, ◌≢◌, ℕ, ◌≤◌, ◌*◌, zero, suc, Bool, false, ⊤, nat_eq, cond, List, [], ◌∷◌, ◌++◌, map, length, Option, None, Some, Vec}
+use Rattle.std.specs.Prelude.{◌≡◌, ◌≢◌, ℕ, ◌≤◌, ◌*◌, zero, suc, Bool, false, ⊤, nat_eq, cond, List, [], ◌∷◌, ◌++◌, map, length, slice_index_or, Option, None, Some, Vec}
 use Rattle.std.specs.declared.alloc.Global.{Global}
 use Rattle.std.specs.List.{list_any}
 use Rattle.std.specs.FinMap as map
@@ -30,6 +30,12 @@ abbrev pub StandsAt : ℕ → Live → ℕ → Type 0
 StandsAt k [] i = ⊥
 StandsAt k (s ∷ ss) zero = s.0 ≡ k
 StandsAt k (s ∷ ss) (suc i) = (s.0 ≢ k) × StandsAt k ss i
+
+-- the space stands at i, where its number and its tables are
+pub record IsAt (k : ℕ) (ss : Live) (i : ℕ) : Type 0 where
+  pub stands : StandsAt k ss i
+  pub number : (s : Space) → (slice_index_or ss i s).0 ≡ k
+  pub tables : (s : Space) → (slice_index_or ss i s).1.items ≡ tables_of ss k
 
 abbrev pub key_at : Live → ℕ × ℕ → Option ℕ
 key_at ss p = entry (tables_of ss p.0) p.1

@@ -1,21 +1,11 @@
-use Rattle.std.proofs.Common.{◌≡◌, ◌∷◌, [], true, false, ◌≤◌, ◌∙◌, ℕ, List, Some, length, is_some, sym, ap, subst}
+use Rattle.std.proofs.Common.{◌≡◌, ◌∷◌, [], true, false, ◌∙◌, ℕ, List, Some, is_some, sym, ap, subst}
 use Rattle.std.specs.Ordering.{nat_cmp}
 use Rattle.std.specs.FinSet as set
 use Rattle.std.proofs.lemmas.Result.{err_from_is_err_and}
-use Rattle.l4_spaces.specs.Tables.{Tables, space_tables}
-use Rattle.l4_spaces.specs.Rows.{Rows, entry, is_made, AreWhole, AreMade}
-use Rattle.l4_spaces.proofs.Below.{not_both}
-use Rattle.l4_spaces.proofs.Showing.{wrote, at_here, found_in, stands, laid, keys_put, keys_same, same_entries, there_more, there_same, keeps, pages_set, same_view, all_made}
+use Rattle.l4_spaces.specs.Tables.{Tables}
+use Rattle.l4_spaces.specs.Rows.{Rows, entry, is_made, AreMade}
+use Rattle.l4_spaces.proofs.Showing.{wrote, at_here, found_in, laid, keys_put, keys_same, same_entries, there_more, there_same, keeps, pages_set, same_view, all_made}
 use Rattle.l4_spaces.proofs.Spaces.claim.Goals as goal
-
-pub unreachable-requires : goal.unreachable-requires
-unreachable-requires c = not_both _ c.requires.there (stands c.self.inside.spaces.items c.args.self.now c.args.space c.self.view_is ∙ c.in_default.ensures.at)
-
-pub claim-requires-clause-whole : goal.claim-requires-clause-whole
-claim-requires-clause-whole c = subst AreWhole (at_here c.self.inside.spaces.items c.args.space c.in-Some.at c.index_mut.result.now c.in-Some.ensures.at c.index_mut.ensures.value) (c.self.invariant.whole c.args.space)
-
-pub claim-requires-clause-full : goal.claim-requires-clause-full
-claim-requires-clause-full c = subst (λ (ts : Rows). length ts ≤ space_tables) (at_here c.self.inside.spaces.items c.args.space c.in-Some.at c.index_mut.result.now c.in-Some.ensures.at c.index_mut.ensures.value) (c.self.invariant.full c.args.space)
 
 pub invariant_of-self : goal.invariant_of-self
 invariant_of-self c = laid (wrote c.self.inside.spaces.items c.args.space c.in-Some.at c.index_mut.result.now c.claim.new.tables c.in-Some.ensures.at c.index_mut.ensures.value) c.self.invariant (λ _. c.claim.ensures.whole) (λ _. c.claim.ensures.full)

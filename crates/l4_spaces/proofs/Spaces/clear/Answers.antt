@@ -3,12 +3,8 @@ use Rattle.std.specs.Ordering.{nat_cmp}
 use Rattle.std.specs.FinSet as set
 use Rattle.l4_spaces.specs.Tables.{Tables}
 use Rattle.l4_spaces.specs.Rows.{Rows, entry}
-use Rattle.l4_spaces.proofs.Finding.{no_tables_of}
-use Rattle.l4_spaces.proofs.Showing.{wrote, at_here, found, laid, whole_long, there_long, keys_put, keys_same, same_entries, keeps_same, same_view, pages_clear, pages_clear_none}
+use Rattle.l4_spaces.proofs.Showing.{wrote, at_here, found, laid, whole_long, there_long, keys_put, keys_same, same_entries, keeps_same, same_view, pages_clear}
 use Rattle.l4_spaces.proofs.Spaces.clear.Goals as goal
-
-pub returns-in_default-clause-pages : goal.returns-in_default-clause-pages
-returns-in_default-clause-pages c = grind (arith, pages_clear_none, no_tables_of)
 
 pub invariant_of-self : goal.invariant_of-self
 invariant_of-self c = laid (wrote c.self.inside.spaces.items c.args.space c.in-Some.at c.index_mut.result.now c.clear.new.tables c.in-Some.ensures.at c.index_mut.ensures.value) c.self.invariant (whole_long c.index_mut.result.now.1.items c.clear.new.tables.items c.clear.ensures.long) (λ le. omega (arith, c.clear.ensures.full, le))

@@ -1,11 +1,6 @@
-use Rattle.std.proofs.Common.{◌∙◌}
-use Rattle.l4_spaces.proofs.Below.{not_both}
-use Rattle.l4_spaces.proofs.Showing.{wrote, stands, laid}
+use Rattle.l4_spaces.proofs.Showing.{wrote, laid}
 use Rattle.l4_spaces.proofs.Aside.{aside_back, aside_room}
 use Rattle.l4_spaces.proofs.Spaces.put_tables.Goals as goal
-
-pub returns-in_default-clause-back : goal.returns-in_default-clause-back
-returns-in_default-clause-back c = absurd (not_both _ c.requires.there (stands c.self.inside.spaces.items c.args.self.now c.args.space c.self.view_is ∙ c.in_default.ensures.at))
 
 pub invariant_of-self : goal.invariant_of-self
 invariant_of-self c =

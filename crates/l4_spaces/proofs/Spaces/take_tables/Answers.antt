@@ -2,16 +2,12 @@ use Rattle.std.proofs.Common.{◌≡◌, ◌≤◌, [], ℕ, List, Option, Vec, 
 use Rattle.std.specs.declared.alloc.Global.{Global}
 use Rattle.l4_spaces.specs.Tables.{space_tables}
 use Rattle.l4_spaces.specs.Rows.{Rows, AreWhole}
-use Rattle.l4_spaces.proofs.Below.{not_both}
-use Rattle.l4_spaces.proofs.Showing.{wrote, stands, laid}
+use Rattle.l4_spaces.proofs.Showing.{wrote, laid}
 use Rattle.l4_spaces.proofs.Aside.{aside_out, aside_room}
 use Rattle.l4_spaces.proofs.Spaces.take_tables.Goals as goal
 
 abbrev rows_of : Vec (List (Option ℕ)) Global → Rows
 rows_of v = v.items
-
-pub returns-in_default-clause-out : goal.returns-in_default-clause-out
-returns-in_default-clause-out c = absurd (not_both _ c.requires.there (stands c.self.inside.spaces.items c.args.self.now c.args.space c.self.view_is ∙ c.in_default.ensures.at))
 
 pub invariant_of-self : goal.invariant_of-self
 invariant_of-self c =
