@@ -1,4 +1,4 @@
-//! Tests whether the pages of items can move, which takes no memory but for tables. Nothing else is written.
+//! Tests whether the pages of items can move, and counts the slots that they need. Allocates the tables of their places; writes nothing else.
 
 ghost use Rattle.std.specs.Prelude.{◌≡◌, ◌≤◌, ◌<◌, ◌+◌, ◌-◌, ◌/◌, ℕ, List, Option, length, IfSome, Some, false, true};
 ghost use Rattle.l4_spaces.specs.Tables.{Tables, IsPage, space_pages, space_tables, table_pages};

@@ -11,8 +11,8 @@ use crate::tangles::are_apart;
 use l4_links::Links;
 
 /// Delivers a message from one space to another, if its items are apart, maps go to places that are free or have leaves with parents, and
-/// grants go to free places and take no right from a page. Returns whether it was delivered; if not, nothing has changed: so too if an
-/// allocation fails.
+/// grants go to free places and take no right from a page. Returns whether it was delivered; if not, nothing has changed. It is not delivered
+/// either if an allocation fails.
 pub(crate) fn deliver_simple(links: &mut Links, from: u64, to: u64, items: &[ItemMove]) -> bool
     requires clean { IsClean links.old }
     requires there { IsTrue (set.contains links.old.spaces to) }
