@@ -27,11 +27,19 @@ void *__wrap_malloc(size_t size);
 void *__wrap_realloc(void *old, size_t size);
 void __wrap_free(void *old);
 
-/* The number of blocks that are allocated, and the number of the allocation from now on that fails, or 0. */
-static long blocks = 0, failing = 0;
+/* The number of blocks that are allocated, the allocations since fail_at was called, and the first and the last of them that fail. */
+static long blocks = 0, asked = 0, first_failing = 0, last_failing = 0;
 
 static int fails(void) {
-    return failing > 0 && --failing == 0;
+    asked++;
+    return asked >= first_failing && asked <= last_failing;
+}
+
+/* Makes the allocation with this number fail, counted from now on, and as many after it as `more` says. With 0 and 0, none fails. */
+static void fail_at(long number, long more) {
+    asked = 0;
+    first_failing = number;
+    last_failing = number + more;
 }
 
 void *__wrap_malloc(size_t size) {
@@ -210,16 +218,17 @@ static void refuses(uint8_t *bytes, size_t length) {
 /* A write whose Nth allocation fails writes nothing, and one without a failure writes the bytes. */
 static void lacks_to_write(l4_kernel *kernel, const uint8_t *bytes, size_t length) {
     uint8_t *out = malloc(length);
-    long number, left = 0, before = blocks;
-    for (number = 1; left == 0; number++) {
+    long number, before = blocks;
+    int failed = 1;
+    for (number = 1; failed; number++) {
         l4_count told;
         memset(out, 0xaa, length);
-        failing = number;
+        fail_at(number, 0);
         told = l4_checkpoint_write(kernel, FRAMES, ENTRIES, out, length);
-        left = failing;
-        failing = 0;
+        failed = asked >= number;
+        fail_at(0, 0);
         EXPECT(blocks == before);
-        if (left == 0)
+        if (failed)
             EXPECT(told.refusal == L4_NO_MEMORY && told.count == 0 && out[0] == 0xaa && out[length - 1] == 0xaa);
         else
             EXPECT(told.refusal == L4_OK && told.count == length && memcmp(out, bytes, length) == 0);
@@ -228,22 +237,37 @@ static void lacks_to_write(l4_kernel *kernel, const uint8_t *bytes, size_t lengt
     free(out);
 }
 
-/* A read whose Nth allocation fails leaves the handle empty, and one without a failure reads the kernel. */
+/* Reads the checkpoint while the allocation with this number fails, and as many after it as `more` says. Returns whether all of them failed. A
+ * refused read leaves the handle empty, and any other has read the kernel. */
+static int read_lacking(l4_kernel *kernel, const uint8_t *bytes, size_t length, long number, long more, l4_checkpoint *told) {
+    l4_kernel made = L4_EMPTY;
+    long before = blocks;
+    int failed;
+    fail_at(number, more);
+    *told = l4_checkpoint_read(&made, bytes, length);
+    failed = asked >= number + more;
+    fail_at(0, 0);
+    if (told->refusal == L4_NO_MEMORY)
+        EXPECT(told->fault == 0 && told->position == 0 && told->entries == 0 && told->frames == 0 && blocks == before);
+    else
+        EXPECT(told->refusal == L4_OK && told->frames == FRAMES && told->entries == ENTRIES && are_same(kernel, &made));
+    EXPECT(l4_enabled(&made).refusal == (told->refusal == L4_OK ? L4_OK : L4_B1));
+    l4_free(&made);
+    return failed;
+}
+
+/* A read whose Nth allocation fails is refused, or mappings that found no memory on one path took another, for which a further allocation
+ * has to fail. There are three paths: for one page, for tables and for all other messages. */
 static void lacks_to_read(l4_kernel *kernel, const uint8_t *bytes, size_t length) {
-    long number, left = 0, before = blocks;
-    for (number = 1; left == 0; number++) {
-        l4_kernel made = L4_EMPTY;
+    long number, before = blocks;
+    int failed = 1;
+    for (number = 1; failed; number++) {
         l4_checkpoint told;
-        failing = number;
-        told = l4_checkpoint_read(&made, bytes, length);
-        left = failing;
-        failing = 0;
-        if (left == 0)
-            EXPECT(told.refusal == L4_NO_MEMORY && told.fault == 0 && told.position == 0 && told.entries == 0 && told.frames == 0 && blocks == before);
-        else
-            EXPECT(told.refusal == L4_OK && told.frames == FRAMES && told.entries == ENTRIES && are_same(kernel, &made));
-        EXPECT(l4_enabled(&made).refusal == (left == 0 ? L4_B1 : L4_OK));
-        l4_free(&made);
+        long more = 0;
+        failed = read_lacking(kernel, bytes, length, number, 0, &told);
+        while (failed && told.refusal == L4_OK && more < 2)
+            EXPECT(read_lacking(kernel, bytes, length, number, ++more, &told));
+        EXPECT(told.refusal == (failed ? L4_NO_MEMORY : L4_OK));
     }
     EXPECT(number > 8 && blocks == before);
 }
