@@ -290,7 +290,7 @@ pub record Stays (Due : Option ℕ → Entry → Type 0) (key : ℕ) (place : Pl
   pub unfilled : ¬ (IsFilled Due place)
   pub not_given : (e : Entry) → ¬ (Due (Some key) e)
 
--- what is due can be under this key: under any one, or under its own
+-- what is due may be under this key: it has no key of its own, or this is it
 abbrev pub IsUnder : Option ℕ → ℕ → Type 0
 IsUnder own key = (own ≡ None) ⊎ (own ≡ Some key)
 

@@ -34,7 +34,7 @@ pub(crate) fn sharing(nodes: &Slots, key: usize, rights: Rights) -> Option<Node>
 }
 
 /// Puts a child of the node under the key `parent` in place of the leaf under the other key, which has a parent. If the leaf is its child
-/// already, it only gets the rights `left`, which are those of `rights` that the node has.
+/// already, it only gets the rights `left`, which are those of `rights` that the parent has.
 #[inline(never)]
 fn renew(nodes: &mut Slots, parent: usize, key: usize, left: Rights, rights: Rights)
     requires live { (first : Option ℕ) × (stamp : ℕ) × IsLive nodes.old.slots first stamp }
@@ -63,8 +63,8 @@ fn renew(nodes: &mut Slots, parent: usize, key: usize, left: Rights, rights: Rig
     link_under(nodes, parent, key, above, rights);
 }
 
-/// Moves the page that the first of the two entries names to the place, which has the second entry: an item that grants names the page there
-/// instead, and any other gives it a child. Does nothing if there is no key, or if no right is shared.
+/// Moves the page that the first of the two entries names to the place of the second one: the page itself if the item grants, and otherwise a
+/// child. Changes nothing if the first entry names no page, or if no right is shared.
 #[inline(always)]
 fn bring_at(
     nodes: &mut Slots,
@@ -201,7 +201,7 @@ fn bring_item(nodes: &mut Slots, sources: &mut Vec<Row>, targets: &mut Vec<Row>,
     }
 }
 
-/// Moves the pages of all items, if each of them can. Returns whether they can, and there is memory.
+/// Moves the pages of all items if each page can move and no allocation fails. Returns whether it did. If not, no slot has changed.
 pub(crate) fn bring_all(
     nodes: &mut Slots,
     sources: &mut Vec<Row>,

@@ -273,11 +273,11 @@ impl Links {
         self.stamp = fresh(self.stamp);
     }
 
-    /// Moves the pages of all items from one space to another, where the items are apart. Each page that shares a right with its item moves to its
-    /// place: by an item that grants the page itself, under its key, and by any other a child with the page's frame and those of the item's
-    /// rights that it has. What was at that place is gone. Returns whether this was done. It is not, and nothing changes, if something
-    /// descends from what is at one of these places, if the root of a tree is there, if a page would be granted to a place that has a key or
-    /// would lose a right, or if an allocation fails.
+    /// Moves the pages of all items from one space to another, where the items are apart. Only pages that share a right with their item move.
+    /// If the item grants, the page itself goes to its place and keeps its key. If it maps, a child comes there, with the page's frame and
+    /// those of the item's rights that the page has. What was at that place is gone. Returns whether this was done. Returns false and changes
+    /// nothing if something descends from what is at one of these places, if the root of a tree is there, if a page would be granted to a
+    /// place that has a key or would lose a right, or if an allocation fails.
     pub fn move_items(&mut self, from: u64, to: u64, items: &[ItemMove]) -> bool
         requires differ { from ≢ to }
         requires there { IsTrue (set.contains self.old.spaces to) }
@@ -299,8 +299,9 @@ impl Links {
         done
     }
 
-    /// Moves the items if there is no such source space, or if their only page is to be mapped to a place without a key, or shares no right. Returns
-    /// whether this was done, which takes memory. To take tables aside would cost more than the page.
+    /// Moves the items if the source space does not exist, or if they map a single page that has no key, shares no right, or goes to a place
+    /// without a key. Returns whether this was done. It is not if an allocation fails. For one page, taking the tables aside would cost more
+    /// than the move.
     fn move_alone(&mut self, from: u64, to: u64, items: &[ItemMove]) -> bool
         requires there { IsTrue (set.contains self.old.spaces to) }
         ensures moves { result ≡ true → MovesItems from to items.now self.old.entries self.new.entries }

@@ -114,7 +114,7 @@ pub(crate) fn link_under(nodes: &mut Slots, parent: usize, key: usize, above: No
     set_next(nodes, Link::to(parent), at);
 }
 
-/// Puts a node for a page straight after its parent, into the slot of the vacant key, which there is room for. Returns the link to it.
+/// Puts a node for a page directly after its parent, into a new slot, for which there must be room. Returns the link to it.
 #[inline(always)]
 pub(crate) fn add_under(
     nodes: &mut Slots,

@@ -19,8 +19,8 @@ use l4_nodes::{Node, Slots, node_of};
 use l4_spaces::Row;
 use l4_spaces::tables::{TABLE_PAGES, is_ready, key_in, make_all, next_page};
 
-/// Returns whether the node under the key would change if a child of this parent took its place, or None if it can't: it must have a parent,
-/// and nothing may descend from it.
+/// Returns whether the node under the key would change if a child of this parent took its place. Returns None if none can: the node must have
+/// a parent and no descendants.
 #[inline(always)]
 fn changes_at(
     nodes: &Slots,
@@ -50,12 +50,12 @@ fn changes_at(
 pub(crate) struct Wants {
     /// How many slots there must be room for.
     pub slots: usize,
-    /// Whether a page does not just have its child already.
+    /// Whether anything changes. Nothing does if each page already has its child.
     pub changes: bool,
 }
 
-/// Returns what the move of a page with this key, or with none, takes where its place has that key, or none: one slot for a child if there
-/// is no key. Returns None if the page cannot move, or would lose a right. A page that shares no right does not move.
+/// Returns what it takes to move the page with the key `key` to the place with the key `taken`. A child needs a slot if the place has no key.
+/// Returns None if the page cannot move, or if a grant would take a right from it. A page that has no key or shares no right does not move.
 #[inline(always)]
 fn wants_at(nodes: &Slots, key: Option<usize>, taken: Option<usize>, of: &Pages) -> Option<Wants>
     requires forest { (ks : List ℕ) × IsForest nodes.now.slots ks }

@@ -1,5 +1,5 @@
-//! The short path for a message from one space to another whose items are apart. It is taken if nothing descends from what is at the message's
-//! targets, and no granted page loses a right. Nothing is marked, and nothing is cut.
+//! The short path for a message from one space to another whose items are apart. It is taken if each target of a map is absent or a leaf with
+//! a parent, and each granted page goes to an absent target and loses no right. Nothing is marked, and nothing is cut.
 
 ghost use Rattle.std.specs.Prelude.{◌≡◌, ℕ, IsTrue, true, false};
 ghost use Rattle.std.specs.FinSet as set;
@@ -11,8 +11,8 @@ use crate::tangles::are_apart;
 use l4_links::Links;
 
 /// Delivers a message from one space to another, if its items are apart, maps go to places that are free or have leaves with parents, and
-/// grants go to free places and take no right from a page. Returns whether it was delivered; if not, nothing has changed. It is not delivered
-/// either if an allocation fails.
+/// grants go to free places and take no right from a page. Returns whether it was delivered. If not, nothing has changed. Returns false, too,
+/// if an allocation fails.
 pub(crate) fn deliver_simple(links: &mut Links, from: u64, to: u64, items: &[ItemMove]) -> bool
     requires clean { IsClean links.old }
     requires there { IsTrue (set.contains links.old.spaces to) }

@@ -33,8 +33,8 @@ fn move_into(
     move_out(links, from, to, items, item, page)
 }
 
-/// Returns whether each item fills pages after those that the items before it fill, and, if one of them is a grant, moves pages after those
-/// that they move.
+/// Returns whether each item fills pages after those that the items before it fill. From the first item that grants on, each item must also
+/// move pages after those that all items before it move.
 pub(crate) fn are_apart(items: &[ItemMove]) -> bool
     ensures { result ≡ true → AreApart items.now (length items.now) }
 {

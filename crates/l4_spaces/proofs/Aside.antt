@@ -37,11 +37,6 @@ module _ (k : ℕ) (ss new : Live) (old ts : Rows) (w : Wrote k ss new old ts) (
 
 -- a walk over the tables is one over the pages of the space
 module _ (s : Tables) (k page end : ℕ) (ts : Rows) (a : AreTablesOf s k ts) where
-  pub none_present : NoneIn ts page end → NonePresentIn s k page end
-  none_present none other le lt here =
-      let n : key_of s k other ≡ None = a.keys other ∙ none other le lt in
-      let e : false ≡ true = sym (ap is_some n) ∙ here in cc
-
   pub next_present : (next key : ℕ) → IsFirstIn ts page end next key → IsNextIn s k page end next × (key_of s k next ≡ Some key)
   next_present next key h =
       let shows : key_of s k next ≡ Some key = a.keys next ∙ h.shows in (
@@ -94,10 +89,6 @@ module _ (s : Tables) (k other page : ℕ) (ne : other ≢ k) where
 
   pub clear_away : (p : ℕ) → key_of (record s { pages = map.remove s.pages (k, page) }) other p ≡ key_of s other p
   clear_away p = clear_other s.pages (k, page) (other, p) (λ e. ne (ap (λ (q : ℕ × ℕ). q.0) e))
-
--- the tables of a space whose keys are as they were
-pub still_aside : (s t : Tables) (k : ℕ) (ts : Rows) → ((p : ℕ) → key_of t k p ≡ key_of s k p) → AreTablesOf s k ts → AreTablesOf t k ts
-still_aside s t k ts same a = record { keys = λ p. same p ∙ a.keys p; whole = a.whole; full = a.full }
 
 -- tables were made, which have no keys
 pub made_aside : (s : Tables) (k : ℕ) (old new : Rows) → AreTablesOf s k old → ((p : ℕ) → entry new p ≡ entry old p) → AreWhole new → length new ≤ space_tables → AreTablesOf s k new

@@ -1,4 +1,4 @@
-//! Page tables: the node of each present page of each space.
+//! Page tables: the key of each present page of each space.
 #![tactic(auto)]
 
 ghost use Rattle.std.specs.Prelude.{◌≡◌, ◌≢◌, ◌∷◌, [], ◌<◌, ◌≤◌, ◌⊎◌, ℕ, List, All, length, true, false, IsTrue, IsOk, IfOk, OnOk, OnErr, IfSome, MatchOption, Some, None, codes};

@@ -61,7 +61,7 @@ pub fn clear(tables: &mut Vec<Row>, page: u32)
     }
 }
 
-/// Makes the table with this number.
+/// Creates the table with this number.
 fn make(tables: &mut Vec<Row>, alloc: Global, high: usize) -> Result<(), AllocError>
     requires absent { row tables.old.items high ≡ [] }
     requires within { high < length tables.old.items }
@@ -77,7 +77,7 @@ fn make(tables: &mut Vec<Row>, alloc: Global, high: usize) -> Result<(), AllocEr
     Ok(())
 }
 
-/// Takes the table with this number away.
+/// Removes the table with this number.
 fn unmake(tables: &mut Vec<Row>, alloc: Global, high: usize)
     requires within { high < length tables.old.items }
     ensures gone { row tables.new.items high ≡ [] }
@@ -135,7 +135,7 @@ fn first_absent(tables: &Vec<Row>, pages: &[u32]) -> Option<usize>
     None
 }
 
-/// Makes the tables of all these pages. Where memory is refused, those that were made go again, but a root that grew stays.
+/// Creates the tables of all these pages. If an allocation fails, the tables that were created are removed again, but a longer root stays.
 #[cold]
 #[inline(never)]
 fn make_more(tables: &mut Vec<Row>, alloc: Global, pages: &[u32]) -> Result<(), AllocError>

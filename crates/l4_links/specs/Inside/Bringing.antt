@@ -21,7 +21,7 @@ pub record IsSpare (s : Entries) (key : ℕ) (e : Entry) : Type 0 where
   pub parent : plain.standing.parent ≢ None
   pub leaf : (low : ℕ) → parent_of s low ≢ Some key
 
--- What is due can take its places: a child the place of what is spare, and what is granted a place without a key.
+-- What is due can come to its places: a child to a place without a key or with a spare node, a granted page to one without a key.
 abbrev pub Fits : (Option ℕ → Entry → Type 0) → Entries → Type 0
 Fits Due s = (own : Option ℕ) (e : Entry) → Due own e → (key : ℕ) (was : Entry) → entry_at s key ≡ Some was → was.place ≡ e.place → (own ≡ None) × IsSpare s key was
 

@@ -125,7 +125,7 @@ pub record CanRun (of : Pages) (page f t n : ℕ) (line row : List (Option ℕ))
   pub fits : Fits (IsBrought of page of.end (entries_of store.slots)) (entries_of store.slots)
   pub room : HaveRoom of page 0 store
 
--- the first of these have
+-- the first `done` of these pages have moved
 abbrev pub BringsRow : Pages → (page f t n done : ℕ) → (line_old line_new row_old row_new : List (Option ℕ)) → (old new : Store) → Type 0
 BringsRow of page f t n done line_old line_new row_old row_new old new =
     (c : CanRun of page f t n line_old row_old old) → (later : Tables) × RunsUpTo of page (page + done) c.high c.other line_new row_new old new c.first c.head c.stamp c.all later
@@ -214,7 +214,7 @@ pub record IsChildOf (parent child : ℕ) (rights : RightsSet) (slots : Slots) :
   pub at_parent : node_at slots parent ≡ Some above
   pub rights_are : node.rights ≡ common above.rights rights
 
--- what is due is there
+-- a child of what is under the first key is there already, if that shares a right
 abbrev pub Holds : Pages → (key taken : Option ℕ) → Slots → Type 0
 Holds of key taken slots = (k : ℕ) → key ≡ Some k → SharesSome k of.rights slots → (of.grant ≡ false) × ((t : ℕ) × (taken ≡ Some t) × IsChildOf k t of.rights slots)
 
