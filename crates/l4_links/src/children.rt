@@ -192,12 +192,13 @@ fn bring_item(nodes: &mut Slots, sources: &mut Vec<Row>, targets: &mut Vec<Row>,
     if of.end - of.source.page == 1 {
         return bring_page(nodes, sources, targets, of);
     }
+    let of = *of;
     let mut page = of.source.page;
     loop {
         let Some((next, key)) = next_page(sources, page, of.end) else {
             return;
         };
-        page = bring_from(nodes, sources, targets, of, next, key);
+        page = bring_from(nodes, sources, targets, &of, next, key);
     }
 }
 

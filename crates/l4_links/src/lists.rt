@@ -229,6 +229,6 @@ pub(crate) fn remove(nodes: &mut Slots, pages: &mut Spaces, key: usize)
     let Some(place) = place_of(nodes, key) else {
         return;
     };
-    pages.clear(place.space, place.page);
     nodes.remove(key);
+    pages.clear(place.space, place.page);
 }

@@ -234,6 +234,7 @@ fn wants_item(
     if of.end - of.source.page == 1 {
         return wants_page(nodes, sources, targets, of);
     }
+    let of = *of;
     let mut page = of.source.page;
     let mut slots = 0;
     let mut changes = false;
@@ -241,7 +242,7 @@ fn wants_item(
         let Some((next, key)) = next_page(sources, page, of.end) else {
             return Some(Wants { slots, changes });
         };
-        let (after, more) = wants_from(nodes, sources, targets, of, next, key)?;
+        let (after, more) = wants_from(nodes, sources, targets, &of, next, key)?;
         slots += more.slots;
         changes |= more.changes;
         page = after;

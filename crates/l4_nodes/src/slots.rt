@@ -224,7 +224,7 @@ impl Slots {
     }
 
     /// Puts the page with this node into a new slot, without any record of a walk, and returns its key. There must be room for it.
-    #[inline]
+    #[inline(always)]
     pub fn insert_node(&mut self, place: Place, node: Node) -> usize
         requires room { HasRoomFor self.old 1 }
         requires fits { IsPage place.page }
