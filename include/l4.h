@@ -946,6 +946,11 @@ l4_count l4_orders_witness(l4_orders *orders, size_t outcome, char *out, size_t 
  * Refusals in this order: B1, NoMemory. */
 l4_count l4_orders_lines(l4_orders *orders, size_t outcome, uint64_t *lines, size_t room);
 
+/* Writes the rules that the outcome with this number breaks, in the same way as its answers: lines `never ..` and `always ..` of the plan.
+ * The text is empty if the outcome breaks no rule, or if there is no such outcome. Nothing is written after a refusal. Refusals in this
+ * order: B1, NoMemory. */
+l4_count l4_orders_broken(l4_orders *orders, size_t outcome, char *out, size_t room);
+
 /* Frees a search with its plan, and leaves the handle empty. */
 void l4_orders_free(l4_orders *orders);
 

@@ -68,11 +68,11 @@ class Answers {
     return { text: `${counted(items.length, "item")} in ${counted(messages, "message")}`, verdict, items, pages: pages.slice(0, MOST_SHOWN), claim: text };
   }
 
-  /** The outcomes of a plan over all orders of its calls, each with the script of an order that produces it. */
+  /** The outcomes of a plan over all orders of its calls, each with the script of an order that produces it, and the rules that it breaks. */
   orders(asked) {
     this.report("Searching the orders");
     const { end, orders, states, outcomes } = this.program.orders(ended(linesIn(asked.script)), machineOf(asked), asked.most);
-    const shown = outcomes.slice(0, MOST_SHOWN).map(({ answers, witness }) => ({ answers: cutList(answers), witness }));
+    const shown = outcomes.slice(0, MOST_SHOWN).map(({ answers, witness, broken }) => ({ answers: cutList(answers), witness, broken: cutList(broken) }));
     return { end, orders: grouped(end === "all" ? orders : 0), states, outcomeCount: outcomes.length, outcomes: shown };
   }
 

@@ -161,8 +161,8 @@ export class Program {
   }
 
   /** Searches all orders of a plan, and visits at most `most` states. Returns the outcomes with the lines of their answers, each with the
-   * script of an order that produces it; how the search ended ("all", "most", "memory" or "history"); and the numbers of orders (a BigInt)
-   * and states. */
+   * script of an order that produces it and the rules that it breaks; how the search ended ("all", "most", "memory" or "history"); and the
+   * numbers of orders (a BigInt) and states. */
   orders(plan, machine, most) {
     let told = this.search(plan, machine, most, SEARCH_ROOM, LENGTHS);
     if (told.length > MOST_TEXT) throw new Error(`The outcomes have ${megabytes(told.length)}. The page shows up to ${megabytes(MOST_TEXT)}; \`l4 orders\` prints all of them.`);
@@ -177,7 +177,7 @@ export class Program {
     const number = (at) => answer.getBigUint64(at, true), refusal = answer.getUint32(0, true), length = Number(number(48));
     const bytes = new Uint8Array(buffer, place, Math.min(length, room));
     if (refusal) throw new Refused(refusal, refusalText(refusal, answer.getUint32(4, true), number(8), new TextDecoder().decode(bytes)));
-    const lengthCount = 2 * Number(number(24));
+    const lengthCount = 3 * Number(number(24));
     return {
       length, lengthCount, bytes, end: ENDS[answer.getUint32(16, true)], orders: number(32), states: Number(number(40)),
       lengths: Array.from(new BigUint64Array(buffer, lengths, Math.min(lengthCount, count)), Number),
@@ -191,7 +191,7 @@ function refusalText(refusal, thread, line, meaning) {
   return `${line ? `line ${line}: ` : ""}${code}: ${meaning}`;
 }
 
-/** The outcomes in a text that has the answers of each and then its script, which have these lengths. */
+/** The outcomes in a text that has the answers of each, its script and the rules that it breaks, which have these lengths. */
 function outcomesIn(bytes, lengths) {
   const texts = [];
   let place = 0;
@@ -199,5 +199,5 @@ function outcomesIn(bytes, lengths) {
     texts.push(new TextDecoder().decode(bytes.subarray(place, place + length)));
     place += length;
   }
-  return Array.from({ length: texts.length / 2 }, (_, k) => ({ answers: linesIn(texts[2 * k]), witness: texts[2 * k + 1] }));
+  return Array.from({ length: texts.length / 3 }, (_, k) => ({ answers: linesIn(texts[3 * k]), witness: texts[3 * k + 1], broken: linesIn(texts[3 * k + 2]) }));
 }

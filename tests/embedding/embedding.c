@@ -807,6 +807,20 @@ static void found_orders(l4_orders *orders) {
     EXPECT(l4_orders_answers(orders, 0, NULL, 0).count == 49 && l4_orders_witness(orders, 0, NULL, 0).refusal == L4_OK);
 }
 
+/* One order has the answer that the first rule forbids, and not the one that the second rule demands. The third rule holds. */
+static void broken_rules(void) {
+    static const char ruled[] = "unordered\nsend 1 2 0x10000\nrecv 2 any 0\nfinally\nreply 2\nnever 2 ipc 00010000 0 1\nalways 2 waits\nalways 2 ipc 00010000 0 1\n";
+    static const char broken[] = "never 2 ipc 00010000 0 1\nalways 2 waits\n";
+    l4_orders orders = L4_EMPTY;
+    char text[100], cut[6] = "xxxxx";
+    EXPECT(l4_orders_broken(&orders, 0, text, 8).refusal == L4_B1);
+    EXPECT(l4_orders_search(&orders, 1, ruled, strlen(ruled), 100).refusal == L4_OK && l4_orders_found(&orders).outcomes == 1);
+    EXPECT(l4_orders_broken(&orders, 0, text, sizeof text).count == strlen(broken) && strcmp(text, broken) == 0);
+    EXPECT(l4_orders_broken(&orders, 0, cut, 5).count == strlen(broken) && strcmp(cut, "neve") == 0 && cut[5] == 0);
+    EXPECT(l4_orders_broken(&orders, 1, text, sizeof text).count == 0 && text[0] == 0);
+    l4_orders_free(&orders);
+}
+
 /* The refusal, the line and the thread of a text that is not a plan. */
 static int refuses(const char *text, uint32_t refusal, uint64_t line, uint32_t detail) {
     l4_orders orders = L4_EMPTY;
@@ -846,6 +860,7 @@ static void orders_of_plans(void) {
     l4_orders_free(&orders);
     EXPECT(l4_orders_found(&orders).refusal == L4_B1);
     bad_plans();
+    broken_rules();
 }
 
 /* The bytes are refused with this fault at this position, and the handle stays empty. */

@@ -467,6 +467,7 @@ FUNCTIONS: Dict[str, Tuple[Any, List[Any]]] = {
     "l4_orders_answers": (l4_count, [ORDERS, c_size_t, c_char_p, c_size_t]),
     "l4_orders_witness": (l4_count, [ORDERS, c_size_t, c_char_p, c_size_t]),
     "l4_orders_lines": (l4_count, [ORDERS, c_size_t, LINES, c_size_t]),
+    "l4_orders_broken": (l4_count, [ORDERS, c_size_t, c_char_p, c_size_t]),
     "l4_orders_free": (None, [ORDERS]),
     "l4_checkpoint_write": (l4_count, [KERNEL, c_uint32, c_size_t, c_char_p, c_size_t]),
     "l4_checkpoint_read": (l4_checkpoint, [KERNEL, c_char_p, c_size_t]),

@@ -314,7 +314,8 @@ def decode(asked: Dict[str, Any]) -> Dict[str, Any]:
 
 
 def orders(asked: Dict[str, Any]) -> Dict[str, Any]:
-    """Returns the outcomes of a plan over all orders of its calls, each with the script of an order that produces it."""
+    """Returns the outcomes of a plan over all orders of its calls, each with the script of an order that produces it, and the rules that it
+    breaks."""
     most = min(whole(asked, "most", 1 << 32, MOST_STATES), MOST_STATES)
     found = search(text_of(asked), whole(asked, "frames", MAX_FRAMES + 1, 256), page_bytes_of(asked), most)
     return {
@@ -322,7 +323,7 @@ def orders(asked: Dict[str, Any]) -> Dict[str, Any]:
         "orders": f"{found.order_count or 0:,}",
         "states": found.state_count,
         "outcomeCount": len(found.outcomes),
-        "outcomes": [{"answers": cut_list(list(it.answers)), "witness": it.witness} for it in found.outcomes[:_ITEMS]],
+        "outcomes": [{"answers": cut_list(list(it.answers)), "witness": it.witness, "broken": cut_list(list(it.broken))} for it in found.outcomes[:_ITEMS]],
     }
 
 

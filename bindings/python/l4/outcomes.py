@@ -36,12 +36,14 @@ class PlanOutcome:
 
     `answers` has the lines of the answers to the queries, and then a line `stuck N L` for each thread N that is left before its line L of the
     plan. `witness` is the script of an order that produces this outcome: `l4 run` and `Script.run` answer its queries so. `order` has the
-    numbers of the plan's lines in that order, from 1, without those before `unordered` and after `finally`.
+    numbers of the plan's lines in that order, from 1, without those before `unordered` and after `finally`. `broken` has the rules of the plan
+    that this outcome breaks: their lines `never ..` and `always ..`.
     """
 
     answers: Tuple[str, ...]
     witness: str
     order: Tuple[int, ...]
+    broken: Tuple[str, ...]
 
 
 @dataclass(frozen=True)
@@ -66,14 +68,20 @@ def _text(write: Callable[..., Any], search: _library.l4_orders, outcome: int) -
     return text.raw[:-1].decode("utf-8", "surrogateescape")
 
 
+def _text_lines(write: Callable[..., Any], search: _library.l4_orders, outcome: int) -> Tuple[str, ...]:
+    """Returns the lines of a text of an outcome. Each ends with a newline."""
+    return tuple(_text(write, search, outcome).split("\n")[:-1])
+
+
 def _lines(search: _library.l4_orders, outcome: int) -> Tuple[int, ...]:
     """Returns the numbers of the lines of an outcome's order."""
     return tuple(all_items(c_uint64, lambda out, room: library.l4_orders_lines(byref(search), outcome, out, room)))
 
 
 def _outcome(search: _library.l4_orders, place: int) -> PlanOutcome:
-    answers = _text(library.l4_orders_answers, search, place)
-    return PlanOutcome(tuple(answers.splitlines()), _text(library.l4_orders_witness, search, place), _lines(search, place))
+    answers = _text_lines(library.l4_orders_answers, search, place)
+    witness = _text(library.l4_orders_witness, search, place)
+    return PlanOutcome(answers, witness, _lines(search, place), _text_lines(library.l4_orders_broken, search, place))
 
 
 def _found(search: _library.l4_orders) -> Orders:

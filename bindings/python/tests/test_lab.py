@@ -73,7 +73,7 @@ class Labs(unittest.TestCase):
         turns = "ipc 2 3 nil 0x4000000 0 0x10000\n", "recv 3 any 0\n"
         told = self.ask("/orders", script=f"thread 3 new nil\nunordered\n{turns[0]}{turns[1]}finally\nreply 2\n", frames=1)
         witnesses = [f"thread 3 new nil\n{first}{second}reply 2\n" for first, second in (turns, turns[::-1])]
-        outcomes = [{"answers": [f"2 ipc 0000{tag} 2 nil" if tag == "8000" else "2 ipc 00000000 0 nil"], "witness": it} for tag, it in zip(("8000", "0000"), witnesses)]
+        outcomes = [{"answers": [f"2 ipc 0000{tag} 2 nil" if tag == "8000" else "2 ipc 00000000 0 nil"], "witness": it, "broken": []} for tag, it in zip(("8000", "0000"), witnesses)]
         self.assertEqual((told["end"], told["orders"], told["outcomeCount"], told["outcomes"]), ("all", "2", 2, outcomes))
         early = self.ask("/orders", script="unordered\nrecv 2 any 0\n", frames=1, most=1)
         self.assertEqual((early["end"], early["states"]), ("most", 1))

@@ -50,6 +50,12 @@ class Outcomes(unittest.TestCase):
         plan = "delegate 1 2 4 8 1 rwx\nunordered\nrecv 2 any 0x10\nfinally\nshow 2 0 16\n"
         self.assertEqual(orders(plan, 8, SMALL_PAGE_BYTES).outcomes[0].answers, ("page 8 frame 4 rwx", "shown 1"))
 
+    def test_the_rules_that_outcomes_break(self):
+        for name, broken in (("c_rules_hold", ()), ("d_rules_broken", (("always 5 waits",), ("never stuck 5 10", "always 3 ipc 00050000 0 5")))):
+            with self.subTest(name):
+                found = orders((PLANS / f"{name}.plan").read_text(), FRAMES)
+                self.assertEqual(tuple(it.broken for it in found.outcomes if it.broken), broken)
+
     def test_a_plan_without_queries(self):
         found = orders("unordered\nrecv 2 any 0\nrecv 2 any 0\n", 1)
         self.assertEqual([outcome.answers for outcome in found.outcomes], [("stuck 2 3",)])

@@ -560,6 +560,7 @@ functions! {
     fn l4_orders_answers(orders: *mut l4_orders, outcome: usize, out: *mut c_char, room: usize) -> l4_count;
     fn l4_orders_witness(orders: *mut l4_orders, outcome: usize, out: *mut c_char, room: usize) -> l4_count;
     fn l4_orders_lines(orders: *mut l4_orders, outcome: usize, lines: *mut u64, room: usize) -> l4_count;
+    fn l4_orders_broken(orders: *mut l4_orders, outcome: usize, out: *mut c_char, room: usize) -> l4_count;
     fn l4_orders_free(orders: *mut l4_orders) -> ();
     fn l4_checkpoint_write(kernel: *mut l4_kernel, frames: u32, entries: usize, out: *mut u8, room: usize) -> l4_count;
     fn l4_checkpoint_read(kernel: *mut l4_kernel, bytes: *const u8, length: usize) -> l4_checkpoint;
@@ -1084,6 +1085,12 @@ impl Handle<l4_orders> {
     pub(crate) fn witness(&self, outcome: usize) -> Result<String, u32> {
         // SAFETY: as in `answers`.
         whole(|out, room| unsafe { l4_orders_witness(self.cell.get(), outcome, out, room) })
+    }
+
+    /// Returns the rules that an outcome breaks, or the number of the refusal.
+    pub(crate) fn broken(&self, outcome: usize) -> Result<String, u32> {
+        // SAFETY: as in `answers`.
+        whole(|out, room| unsafe { l4_orders_broken(self.cell.get(), outcome, out, room) })
     }
 
     /// Returns the numbers of the lines of an outcome's order, or the number of the refusal.

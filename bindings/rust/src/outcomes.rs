@@ -40,6 +40,8 @@ pub struct PlanOutcome {
     pub witness: String,
     /// The numbers of the plan's lines in that order, from 1, without those before `unordered` and after `finally`.
     pub order: Vec<u64>,
+    /// The rules of the plan that this outcome breaks: their lines `never ..` and `always ..`.
+    pub broken: Vec<String>,
 }
 
 /// What a search found.
@@ -91,12 +93,13 @@ impl From<Refusal> for BadPlan {
 /// search is faster with few frames. It visits at most `most` states.
 ///
 /// ```
-/// let plan = "unordered\nsend 1 2 0x10000\nrecv 2 any 0\nfinally\nreply 2\n";
+/// let plan = "unordered\nsend 1 2 0x10000\nrecv 2 any 0\nfinally\nreply 2\nnever 2 waits\nalways 2 none\n";
 /// let found = l4::orders(plan, 1, 1_000)?;
 /// assert_eq!(found.order_count, Some(2));
 /// assert_eq!(found.outcomes.len(), 1);
 /// assert_eq!(found.outcomes[0].answers, ["2 ipc 00010000 0 1"]);
 /// assert_eq!(found.outcomes[0].order.len(), 2);
+/// assert_eq!(found.outcomes[0].broken, ["always 2 none"]);
 /// # Ok::<(), l4::BadPlan>(())
 /// ```
 ///
@@ -107,6 +110,11 @@ impl From<Refusal> for BadPlan {
 /// may also run out earlier.
 pub fn orders(plan: &str, frames: u32, most: u64) -> Result<Orders, BadPlan> {
     orders_sized(plan, frames, most, PageSize::Kib4)
+}
+
+/// Returns the lines of a text in which each line ends with a newline.
+fn lines_of(text: &str) -> Vec<String> {
+    text.split_terminator('\n').map(str::to_owned).collect()
 }
 
 /// Does the same as [`orders`] for pages and frames of this size.
@@ -123,15 +131,18 @@ pub fn orders_sized(plan: &str, frames: u32, most: u64, size: PageSize) -> Resul
     let end = SearchEnd::of(told.ended);
     let mut outcomes = Vec::new();
     for place in 0..told.outcomes as usize {
-        let answers = search.answers(place);
+        let broken = search
+            .broken(place)
+            .map_err(|number| Refusal::of(number, 0))?;
         outcomes.push(PlanOutcome {
-            answers: answers.lines().map(str::to_owned).collect(),
+            answers: lines_of(&search.answers(place)),
             witness: search
                 .witness(place)
                 .map_err(|number| Refusal::of(number, 0))?,
             order: search
                 .lines(place)
                 .map_err(|number| Refusal::of(number, 0))?,
+            broken: lines_of(&broken),
         });
     }
     Ok(Orders {

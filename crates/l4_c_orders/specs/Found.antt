@@ -3,6 +3,7 @@ use Rattle.std.specs.Prelude.{◌≡◌, ◌⊎◌, ℕ, List, [], ◌++◌, len
 use Rattle.std.specs.Option.{option_map_or}
 use Rattle.l4_merges.specs.declared.exploring.Explored.{Explored}
 use Rattle.l4_refusals.specs.Texts.{spelled}
+use Rattle.l4_orders.specs.Rules.{broken_rules}
 use Rattle.l4_orders.specs.Telling.{line_numbers, witness_text}
 use Rattle.l4_outcomes.specs.Counts.{end_number, counted_orders}
 use Rattle.l4_outcomes.specs.declared.searched.Searched.{Searched}
@@ -51,6 +52,18 @@ WritesWitness s number old r new = Writes (witness_in s number) old r new ⊎ ((
 abbrev pub TellsWitness : Option Searched → ℕ → List ℕ → CountResult → List ℕ → Type 0
 TellsWitness None number old r new = (r ≡ count_result (spelled (codes "B1")) 0) × (new ≡ old)
 TellsWitness (Some s) number old r new = WritesWitness s number old r new
+
+-- the rules that this outcome breaks, or no text
+abbrev pub broken_in : Searched → ℕ → List ℕ
+broken_in s number = option_map_or (λ one. broken_rules s.plan one.outcome.items) (slice_get s.explored.found.items number) []
+
+-- the rules are written, or memory ran out
+abbrev pub WritesBroken : Searched → ℕ → List ℕ → CountResult → List ℕ → Type 0
+WritesBroken s number old r new = Writes (broken_in s number) old r new ⊎ ((r ≡ count_result (spelled (codes "NoMemory")) 0) × (new ≡ old))
+
+abbrev pub TellsBroken : Option Searched → ℕ → List ℕ → CountResult → List ℕ → Type 0
+TellsBroken None number old r new = (r ≡ count_result (spelled (codes "B1")) 0) × (new ≡ old)
+TellsBroken (Some s) number old r new = WritesBroken s number old r new
 
 -- NUMBERS
 

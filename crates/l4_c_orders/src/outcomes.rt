@@ -1,11 +1,11 @@
 //! What a search found.
 ghost use Rattle.std.specs.Prelude.{◌≡◌, IfOk};
-ghost use Rattle.l4_c_orders.specs.Found.{found_result, no_found, count_result, answers_in, witness_in, lines_in, Writes, WritesNumbers, TellsFound, TellsAnswers, WritesWitness, TellsWitness, WritesLines, TellsLines};
+ghost use Rattle.l4_c_orders.specs.Found.{found_result, no_found, count_result, answers_in, witness_in, broken_in, lines_in, Writes, WritesNumbers, TellsFound, TellsAnswers, WritesWitness, TellsWitness, WritesBroken, TellsBroken, WritesLines, TellsLines};
 
 use crate::handles::OrdersHandle;
 use l4_c_texts::write_text;
 use l4_c_values::{EMPTY, NO_MEMORY};
-use l4_orders::{line_numbers, witness_text};
+use l4_orders::{broken_rules, line_numbers, witness_text};
 use l4_outcomes::{Searched, counts_of};
 use std::alloc::{AllocError, Global};
 
@@ -157,6 +157,46 @@ pub extern "C" fn l4_orders_witness(
         return counted(EMPTY, 0);
     };
     let told = write_witness(alloc, &search, outcome, out);
+    handle.put(search);
+    told
+}
+
+/// Returns the rules that the outcome with this number breaks, or no text.
+fn broken_in(alloc: Global, search: &Searched, number: usize) -> Result<Vec<u8>, AllocError>
+    ensures { IfOk result (λ text. text.items ≡ broken_in search.now number) }
+{
+    match search.explored.found.get(number) {
+        Some(one) => broken_rules(alloc, &search.plan, one.outcome.as_slice()),
+        None => Ok(Vec::new(alloc)),
+    }
+}
+
+/// Writes the rules that an outcome breaks.
+fn write_broken(alloc: Global, search: &Searched, number: usize, out: &mut [u8]) -> CountResult
+    ensures { WritesBroken search.now number out.old result out.new }
+{
+    match broken_in(alloc, search, number) {
+        Ok(text) => write(text.as_slice(), out),
+        Err(_) => counted(NO_MEMORY, 0),
+    }
+}
+
+/// Writes the rules that the outcome with this number, from 0, breaks, one per line, and returns the length of the text. The refusals are B1
+/// and NoMemory, in this order. Nothing is written after a refusal.
+#[unsafe(no_mangle)]
+pub extern "C" fn l4_orders_broken(
+    alloc: Global,
+    handle: &mut OrdersHandle,
+    outcome: usize,
+    out: &mut [u8],
+) -> CountResult
+    ensures kept { handle.new.value ≡ handle.old.value }
+    ensures told { TellsBroken handle.old.value outcome out.old result out.new }
+{
+    let Some(search) = handle.take(alloc) else {
+        return counted(EMPTY, 0);
+    };
+    let told = write_broken(alloc, &search, outcome, out);
     handle.put(search);
     told
 }

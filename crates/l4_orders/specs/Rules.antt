@@ -1,12 +1,12 @@
 -- The rules of a plan over the outcomes of its orders (this profile's own).
 use Rattle.std.specs.Prelude.{ℕ, ◌+◌, ◌&&◌, Bool, true, false, not, if◌then◌else◌, List, [], ◌∷◌, ◌++◌, codes, decimal, bytes_eq}
-use Rattle.std.specs.List.{flat_map, list_any}
+use Rattle.std.specs.List.{filter, flat_map, list_any}
 use Rattle.l4_text.specs.Grammar.{lines_of}
 use Rattle.l4_text.specs.Tokens.{tokens_of}
 use Rattle.l4_merges.specs.declared.found.Found.{Found}
 use Rattle.l4_orders.specs.declared.plans.Plan.{Plan}
 use Rattle.l4_orders.specs.declared.plans.PlanLine.{PlanLine}
-use Rattle.l4_orders.specs.Telling.{order_text}
+use Rattle.l4_orders.specs.Telling.{order_text, line_text}
 
 -- THE ANSWERS IN AN OUTCOME
 
@@ -53,3 +53,9 @@ first_text plan line number (one ∷ found) = if breaks line one then broken_tex
 -- each rule that is broken
 abbrev pub rules_text : Plan → List Found → List ℕ
 rules_text plan found = flat_map (λ line. first_text plan line 1 found) plan.queries.items
+
+-- THE RULES THAT AN OUTCOME BREAKS
+
+-- the lines of the plan whose rule this outcome breaks
+abbrev pub broken_rules : Plan → List ℕ → List ℕ
+broken_rules plan outcome = flat_map line_text (filter (λ line. is_broken (tokens_of line.bytes.items) outcome) plan.queries.items)

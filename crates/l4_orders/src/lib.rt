@@ -23,5 +23,5 @@ pub use orders::{all_orders, watched_orders};
 pub use parts::{LineFault, PlanFault};
 pub use plans::{Block, Plan, PlanLine};
 pub use reading::read_plan;
-pub use rules::{breaks_any, rules_text};
+pub use rules::{breaks_any, broken_rules, rules_text};
 pub use telling::{line_numbers, orders_text, summary_text, witness_text};

@@ -1,12 +1,13 @@
 //! The rules of a plan: answers that no outcome has, and answers that every outcome has.
 ghost use Rattle.std.specs.Prelude.{◌≡◌, ◌++◌, IfOk, OnOk};
-ghost use Rattle.std.specs.List.{flat_map, list_any};
+ghost use Rattle.std.specs.List.{filter, flat_map, list_any};
 ghost use Rattle.l4_text.specs.Tokens.{tokens_of};
-ghost use Rattle.l4_orders.specs.Rules.{same_tokens, has_answer, is_broken, breaks, breaks_any, broken_text, first_text, rules_text};
+ghost use Rattle.l4_orders.specs.Telling.{line_text};
+ghost use Rattle.l4_orders.specs.Rules.{same_tokens, has_answer, is_broken, breaks, breaks_any, broken_text, first_text, rules_text, broken_rules};
 
 use crate::numbers::put_number;
 use crate::plans::{Plan, PlanLine};
-use crate::telling::put_order;
+use crate::telling::{put_line, put_order};
 use l4_answers::{first_line, later_lines};
 use l4_merges::Found;
 use l4_text::next_token;
@@ -154,5 +155,29 @@ pub fn rules_text(alloc: Global, plan: &Plan, found: &[Found]) -> Result<Vec<u8>
 {
     let mut out = Vec::new(alloc);
     put_all(alloc, plan, plan.queries.as_slice(), found, &mut out)?;
+    Ok(out)
+}
+
+/// Appends the lines with a rule that the outcome breaks.
+fn put_broken_rules(lines: &[PlanLine], outcome: &[u8], out: &mut Vec<u8>) -> Result<(), AllocError>
+    ensures { OnOk result (out.new.items
+        ≡ out.old.items
+        ++ flat_map line_text
+        (filter (λ line. is_broken (tokens_of line.bytes.items) outcome.now) lines.now)) }
+{
+    for line in lines {
+        if is_broken(line.bytes.as_slice(), outcome) {
+            put_line(line, out)?;
+        }
+    }
+    Ok(())
+}
+
+/// Returns the lines of the rules that an outcome breaks.
+pub fn broken_rules(alloc: Global, plan: &Plan, outcome: &[u8]) -> Result<Vec<u8>, AllocError>
+    ensures { IfOk result (λ text. text.items ≡ broken_rules plan.now outcome.now) }
+{
+    let mut out = Vec::new(alloc);
+    put_broken_rules(plan.queries.as_slice(), outcome, &mut out)?;
     Ok(out)
 }

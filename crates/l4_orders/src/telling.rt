@@ -190,7 +190,7 @@ pub fn orders_text(
 }
 
 /// Appends a line of a script.
-fn put_line(line: &PlanLine, out: &mut Vec<u8>) -> Result<(), AllocError>
+pub(crate) fn put_line(line: &PlanLine, out: &mut Vec<u8>) -> Result<(), AllocError>
     ensures { OnOk result (out.new.items ≡ out.old.items ++ line_text line.now) }
 {
     out.extend_from_slice(line.bytes.as_slice())?;

@@ -4,6 +4,7 @@ use Rattle.std.specs.List.{flat_map}
 use Rattle.l4_fpage.specs.declared.sizes.PageSize.{PageSize}
 use Rattle.l4_refusals.specs.Texts.{texts, text_in}
 use Rattle.l4_merges.specs.declared.found.Found.{Found}
+use Rattle.l4_orders.specs.Rules.{broken_rules}
 use Rattle.l4_orders.specs.Telling.{witness_text}
 use Rattle.l4_orders.specs.declared.plans.Plan.{Plan}
 use Rattle.l4_outcomes.specs.Counts.{counts_of}
@@ -15,13 +16,13 @@ use Rattle.l4_outcomes.specs.declared.searched.Searched.{Searched}
 use Rattle.l4_page.specs.declared.outcomes.OutcomesTold.{OutcomesTold}
 use Rattle.l4_page.specs.Told.{placed}
 
--- the answers of an outcome, and the script of an order that produces it
+-- the answers of an outcome, the script of an order that produces it, and the rules that it breaks
 abbrev pub texts_of : Plan → Found → List ℕ
-texts_of plan one = one.outcome.items ++ witness_text plan one.order.items
+texts_of plan one = one.outcome.items ++ witness_text plan one.order.items ++ broken_rules plan one.outcome.items
 
--- the lengths of these two texts
+-- the lengths of these texts
 abbrev pub lengths_of : Plan → Found → List ℕ
-lengths_of plan one = length one.outcome.items ∷ length (witness_text plan one.order.items) ∷ []
+lengths_of plan one = length one.outcome.items ∷ length (witness_text plan one.order.items) ∷ length (broken_rules plan one.outcome.items) ∷ []
 
 -- the texts of all outcomes, one after another, and their lengths
 abbrev pub all_texts : Searched → List ℕ
@@ -51,8 +52,8 @@ TellsFound s old new lengths sizes told = (told ≡ found_told s) × (new ≡ pl
 abbrev pub TellsRefusal : SearchResult → List ℕ → List ℕ → OutcomesTold → Type 0
 TellsRefusal r old new told = (told ≡ refused_told r) × (new ≡ placed (meaning_of r.refusal) old)
 
--- THE RESULT OF A SEARCH: the outcomes that it found, with their answers and the scripts of orders that produce them; or why there is no
--- search. There is none either if memory ran out for the texts.
+-- THE RESULT OF A SEARCH: the outcomes that it found, with their answers, the scripts of orders that produce them, and the rules that they
+-- break; or why there is no search. There is none either if memory ran out for the texts.
 abbrev pub TellsOutcomes : ℕ → PageSize → List ℕ → List ℕ → List ℕ → List ℕ → List ℕ → OutcomesTold → Type 0
 TellsOutcomes frames size script old new lengths sizes told =
     ((s : Searched) × IsSearched frames size script s × TellsFound s old new lengths sizes told)

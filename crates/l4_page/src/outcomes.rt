@@ -9,7 +9,7 @@ use crate::given::{NO_SUCH_SIZE, size_of};
 use crate::telling::{NO_MEMORY, place};
 use l4_fpage::PageSize;
 use l4_merges::Found;
-use l4_orders::{Plan, witness_text};
+use l4_orders::{Plan, broken_rules, witness_text};
 use l4_outcomes::{SearchCounts, SearchResult, Searched, counts_of, search, without_line};
 use l4_refusals::text_of;
 use std::alloc::{AllocError, Global};
@@ -24,8 +24,8 @@ pub struct SearchGiven {
 }
 
 /// The result of a search. `length` is the length of the text, and as much of it was written as there is room for. After a refusal the text
-/// says what the refusal means. Otherwise it has the answers of each outcome, followed by the script of an order that produces it, and the
-/// length of each of these texts was written.
+/// says what the refusal means. Otherwise it has for each outcome its answers, the script of an order that produces it, and the rules that it
+/// breaks, and the length of each of these texts was written.
 #[repr(C)]
 #[derive(Clone, Copy)]
 pub struct OutcomesTold {
@@ -46,7 +46,7 @@ fn no_counts() -> SearchCounts
     }
 }
 
-/// Appends the answers of an outcome, the script of an order that produces it, and the lengths of both.
+/// Appends the answers of an outcome, the script of an order that produces it, the rules that it breaks, and the lengths of these texts.
 fn put_outcome(
     alloc: Global,
     plan: &Plan,
@@ -59,9 +59,15 @@ fn put_outcome(
         ≡ lengths.old.items ++ lengths_of plan.now one.now) }
 {
     let witness = witness_text(alloc, plan, one.order.as_slice())?;
+    let broken = broken_rules(alloc, plan, one.outcome.as_slice())?;
     texts.extend_from_slice(one.outcome.as_slice())?;
     texts.extend_from_slice(witness.as_slice())?;
-    lengths.extend_from_slice(&[one.outcome.len() as u64, witness.len() as u64])
+    texts.extend_from_slice(broken.as_slice())?;
+    lengths.extend_from_slice(&[
+        one.outcome.len() as u64,
+        witness.len() as u64,
+        broken.len() as u64,
+    ])
 }
 
 /// Appends the texts of outcomes, and their lengths.
@@ -135,8 +141,9 @@ fn searched(
     }
 }
 
-/// Searches all orders of a plan. Writes the answers of each outcome and the script of an order that produces it, and their lengths. After a
-/// refusal, writes what it means. The refusals are B4, K6, those of the text (S2 to S4, O1 to O6), NoMemory and L1, in this order.
+/// Searches all orders of a plan. Writes for each outcome its answers, the script of an order that produces it, the rules that it breaks, and
+/// the lengths of these texts. After a refusal, writes what it means. The refusals are B4, K6, those of the text (S2 to S4, O1 to O6),
+/// NoMemory and L1, in this order.
 #[unsafe(no_mangle)]
 pub extern "C" fn page_orders(
     alloc: Global,

@@ -1,4 +1,5 @@
-// Every order of a plan's calls: a table of outcomes. Each has a link that loads the script of an order that produces it.
+// Every order of a plan's calls: a table of outcomes and the rules that they break. Each outcome has a link that loads the script of an order
+// that produces it.
 import { fill, it, link, made } from "./dom.mjs";
 import { fields, number } from "./state.mjs";
 import { counted, grouped } from "./texts.mjs";
@@ -22,10 +23,11 @@ function summary({ outcomeCount, end, orders, states }) {
   return `${found}, ${visited}. The search ended early, because ${EARLY[end]}: there may be other outcomes.`;
 }
 
-function row({ answers, witness }, place, loads) {
+function row({ answers, witness, broken }, place, loads) {
   const name = `outcome ${place + 1}: load the script of an order`;
   const lines = answers.length ? answers.map((text) => made("div", {}, text)) : [made("span", { class: "hint" }, "no answer, and no thread is stuck")];
-  return made("tr", {}, made("td", {}, link(`${place + 1}`, () => loads(witness), name)), made("td", { class: "outcome" }, ...lines));
+  const rules = broken.map((text) => made("div", { class: "broken" }, `breaks: ${text}`));
+  return made("tr", {}, made("td", {}, link(`${place + 1}`, () => loads(witness), name)), made("td", { class: "outcome" }, ...lines, ...rules));
 }
 
 function show(told, asked, load) {
