@@ -5,7 +5,7 @@ use Rattle.l4_fpage.specs.declared.sizes.PageSize.{PageSize}
 use Rattle.l4_answers.specs.Reports.{Report, AddsAll, AllOut}
 use Rattle.l4_sinks.specs.declared.teller.Teller.{Teller}
 use Rattle.l4_sinks.specs.Texts.{AreAnswerTexts}
-use Rattle.l4_sinks.specs.Inside.Tellers.{HasReported, HasWritten}
+use Rattle.l4_sinks.specs.Tellers.{HasReported, HasWritten}
 use Rattle.l4_sinks.proofs.Running.{IsNew, nothing_reported}
 
 pub teller_text : {W : Type 0} (contents : W → Option (List ℕ)) (first told_to sent : Teller W) (writer : W) (told : List Report) → IsNew first writer false None

@@ -11,7 +11,7 @@ use Rattle.l4_shell.specs.ByLines.{state_of}
 use Rattle.l4_commands.specs.Requests.{asked_at}
 use Rattle.l4_shell.specs.Sessions.{State, AnswersLine}
 use Rattle.l4_sinks.specs.declared.teller.Teller.{Teller}
-use Rattle.l4_sinks.specs.Inside.Tellers.{HasReported, HasWritten}
+use Rattle.l4_sinks.specs.Tellers.{HasReported, HasWritten}
 use Rattle.l4_sinks.specs.Texts.{AreAnswerTexts, last_refusal}
 use Rattle.l4_sinks.proofs.Running.{IsNew, nothing_reported}
 use Rattle.l4_text.specs.declared.lines.Ending.{Ending}

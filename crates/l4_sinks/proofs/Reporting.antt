@@ -13,7 +13,7 @@ use Rattle.l4_decode.specs.Decoded.{IsMessageText}
 use Rattle.l4_threads.specs.declared.Reply.{Reply}
 use Rattle.l4_sinks.specs.Words.{says, received, reply_says}
 use Rattle.l4_sinks.specs.Texts.{mark, said, Means, Explains, IsAnswerText, AreAnswerTexts, last_refusal, sentence_text}
-use Rattle.l4_sinks.specs.Inside.Tellers.{HasReported, HasWritten}
+use Rattle.l4_sinks.specs.Tellers.{HasReported, HasWritten}
 
 -- one answer more
 texts_more : (explains : Option PageSize) (told : List Report) (text : List ℕ) (report : Report) (last : List ℕ) → AreAnswerTexts explains told text → IsAnswerText explains report last

@@ -16,7 +16,7 @@ use Rattle.l4_sinks.specs.declared.scripts.Ended.{Ended}
 use Rattle.l4_sinks.specs.declared.teller.Teller.{Teller}
 use Rattle.l4_sinks.specs.Words.{says}
 use Rattle.l4_sinks.specs.Texts.{AreAnswerTexts, last_refusal}
-use Rattle.l4_sinks.specs.Inside.Tellers.{HasReported, HasWritten, is_over}
+use Rattle.l4_sinks.specs.Tellers.{HasReported, HasWritten, is_over}
 use Rattle.l4_sinks.specs.Scripts.{explains_by, StopsAtRefusal, AnswersFirst, IsWritten, IsBegun, RunsScript}
 
 -- a teller to which nothing was reported

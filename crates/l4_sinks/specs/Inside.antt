@@ -1,2 +1,1 @@
 pub mod Silents
-pub mod Tellers

@@ -3,3 +3,4 @@ pub mod Words
 pub mod Texts
 pub mod Inside
 pub mod Scripts
+pub mod Tellers

@@ -8,7 +8,7 @@ ghost use Rattle.l4_decode.specs.Decoded.{IsMessageText};
 ghost use Rattle.l4_threads.specs.declared.IpcReply.{IpcReply as AnIpcReply};
 ghost use Rattle.l4_sinks.specs.Words.{refusal_says, transfer_says, words_of, received};
 ghost use Rattle.l4_sinks.specs.Texts.{mark, sentence_text, said, Means, IsAnswerText};
-ghost use Rattle.l4_sinks.specs.Inside.Tellers.{HasReported, HasWritten, is_over};
+ghost use Rattle.l4_sinks.specs.Tellers.{HasReported, HasWritten, is_over};
 
 use crate::reasons::{act_reason, refusal_reason, unread_reason};
 use crate::sentences::{
