@@ -18,17 +18,17 @@ abbrev pub led : ℕ → List (List ℕ) → List (List ℕ)
 led thread orders = map (λ order. thread ∷ order) orders
 
 -- a list has its head and what its tail has, and nothing else
-has_head : (x : List ℕ) (xs : List (List ℕ)) → Contains (x ∷ xs) x
+pub has_head : (x : List ℕ) (xs : List (List ℕ)) → Contains (x ∷ xs) x
 has_head x xs = (0, omega arith, refl)
 
-has_tail : (x y : List ℕ) (xs : List (List ℕ)) → Contains xs y → Contains (x ∷ xs) y
+pub has_tail : (x y : List ℕ) (xs : List (List ℕ)) → Contains xs y → Contains (x ∷ xs) y
 has_tail x y xs has = (suc has.0, (let lt = has.1 in omega (arith, lt)), has.2)
 
-head_or_tail : (x y : List ℕ) (xs : List (List ℕ)) → Contains (x ∷ xs) y → (x ≡ y) ⊎ Contains xs y
+pub head_or_tail : (x y : List ℕ) (xs : List (List ℕ)) → Contains (x ∷ xs) y → (x ≡ y) ⊎ Contains xs y
 head_or_tail x y xs (zero, lt, is) = inl is
 head_or_tail x y xs (suc k, lt, is) = inr (k, omega (arith, lt), is)
 
-has_none : (y : List ℕ) → Contains [] y → ⊥
+pub has_none : (y : List ℕ) → Contains [] y → ⊥
 has_none y has = let lt = has.1 in omega (arith, lt)
 
 led_has : (thread : ℕ) (orders : List (List ℕ)) (order : List ℕ) → Contains orders order → Contains (led thread orders) (thread ∷ order)
@@ -46,7 +46,7 @@ has_led thread (x ∷ orders) order has = elim (head_or_tail (thread ∷ x) orde
 ]
 
 -- apart from each later one, and those apart
-apart_cons : (x : List ℕ) (xs : List (List ℕ)) → ((y : List ℕ) → Contains xs y → x ≡ y → ⊥) → AreApart xs → AreApart (x ∷ xs)
+pub apart_cons : (x : List ℕ) (xs : List (List ℕ)) → ((y : List ℕ) → Contains xs y → x ≡ y → ⊥) → AreApart xs → AreApart (x ∷ xs)
 apart_cons x xs head tail zero zero d lt within = absurd (omega (arith, lt))
 apart_cons x xs head tail zero (suc j) d lt within = head (get_or xs j d) (j, omega (arith, within), same_at xs j d (get_or xs j d) (omega (arith, within))) where
   same_at : (l : List (List ℕ)) (k : ℕ) (d e : List ℕ) → k < length l → get_or l k e ≡ get_or l k d
@@ -54,10 +54,10 @@ apart_cons x xs head tail zero (suc j) d lt within = head (get_or xs j d) (j, om
 apart_cons x xs head tail (suc i) zero d lt within = absurd (omega (arith, lt))
 apart_cons x xs head tail (suc i) (suc j) d lt within = tail i j d (omega (arith, lt)) (omega (arith, within))
 
-apart_tail : (x : List ℕ) (xs : List (List ℕ)) → AreApart (x ∷ xs) → AreApart xs
+pub apart_tail : (x : List ℕ) (xs : List (List ℕ)) → AreApart (x ∷ xs) → AreApart xs
 apart_tail x xs apart i j d lt within = apart (suc i) (suc j) d (omega (arith, lt)) (omega (arith, within))
 
-apart_head : (x : List ℕ) (xs : List (List ℕ)) → AreApart (x ∷ xs) → (y : List ℕ) → Contains xs y → x ≡ y → ⊥
+pub apart_head : (x : List ℕ) (xs : List (List ℕ)) → AreApart (x ∷ xs) → (y : List ℕ) → Contains xs y → x ≡ y → ⊥
 apart_head x xs apart y has same = let lt = has.1 in apart zero (suc has.0) y (omega arith) (omega (arith, lt)) (same ∙ sym has.2)
 
 led_apart : (thread : ℕ) (orders : List (List ℕ)) → AreApart orders → AreApart (led thread orders)
@@ -73,7 +73,7 @@ led_apart thread (x ∷ orders) apart =
       tails_same : (a b : List ℕ) → thread ∷ a ≡ thread ∷ b → a ≡ b
       tails_same a b e = ap tail_of e
 
-append_apart : (xs ys : List (List ℕ)) → AreApart xs → AreApart ys → ((x y : List ℕ) → Contains xs x → Contains ys y → x ≡ y → ⊥) → AreApart (xs ++ ys)
+pub append_apart : (xs ys : List (List ℕ)) → AreApart xs → AreApart ys → ((x y : List ℕ) → Contains xs x → Contains ys y → x ≡ y → ⊥) → AreApart (xs ++ ys)
 append_apart [] ys p q across = q
 append_apart (x ∷ xs) ys p q across =
     apart_cons x (xs ++ ys)

@@ -1,15 +1,15 @@
 -- What is found of a state, of what comes from the states after it.
 use Rattle.std.proofs.Common.{◌≡◌, ℕ, ◌+◌, ◌<◌, Bool, true, false, List, [], ◌∷◌, ◌++◌, refl, sym, ap, subst, ◌∙◌, arith, inl, inr, get_or}
-use Rattle.std.specs.Prelude.{Contains, Result, Ok, Err, OnOk, Option, Some, None, MatchOption, length}
+use Rattle.std.specs.Prelude.{Result, Ok, Err, OnOk, Option, Some, None, MatchOption, length}
 use Rattle.std.specs.Option.{option_to_list}
 use Rattle.std.proofs.lemmas.List.{append-nil, append_assoc, same_from_push, length_push, get_or_default}
 use Rattle.std.proofs.Math.Seq.{get_or-append_seam}
 use Rattle.std.proofs.lemmas.Bool.{false≢true, cases_lt}
 use Rattle.std.proofs.lemmas.List.Quantifiers.{all_pairs_push}
-use Rattle.std.proofs.lemmas.List.Elements.{Contains-append_left, Contains-push, Contains-push_cases}
+use Rattle.std.proofs.lemmas.List.Elements.{Contains-append_left, Contains-push_cases}
 use Rattle.l4_merges.specs.declared.found.Found.{Found}
 use Rattle.l4_merges.specs.Graphs.{IsFoundAt, HasOutcomeAt}
-use Rattle.l4_merges.specs.Orders.{IsRun, IsOver, IsOrder, IsFound, FindsEnd, LeavesOne, IsComplete, IsWitnessed, KeepsFound, FindsOn}
+use Rattle.l4_merges.specs.Orders.{IsRun, IsOver, IsOrder, FindsEnd, LeavesOne, IsComplete, IsWitnessed, KeepsFound, FindsOn}
 
 -- none of these outcomes is this one
 abbrev pub IsNew : List Found → List ℕ → Type 0

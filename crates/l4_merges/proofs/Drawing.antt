@@ -1,11 +1,13 @@
 -- The turns in a state, found thread by thread, and the graph of all states.
-use Rattle.std.proofs.Common.{◌≡◌, ℕ, zero, suc, ◌+◌, ◌<◌, ◌≤◌, ◌⊎◌, ◌↔◌, ◌==◌, Bool, true, false, List, [], ◌∷◌, ◌++◌, length, get_or, refl, sym, ap, subst, ◌∙◌, arith, inl, inr}
+use Rattle.std.proofs.Common.{◌≡◌, ℕ, ◌+◌, ◌<◌, ◌≤◌, ◌⊎◌, ◌↔◌, ◌==◌, Bool, true, false, List, [], ◌∷◌, ◌++◌, length, get_or, refl, sym, ap, subst, ◌∙◌, arith, inl, inr}
 use Rattle.std.specs.Prelude.{Contains, Option, Some, None, Result, Ok, Err, IfOk, OnOk}
 use Rattle.std.proofs.Math.Seq.{get_or-append_seam}
 use Rattle.std.proofs.lemmas.Bool.{false≢true, cases_lt}
 use Rattle.std.proofs.lemmas.Bool.Decides.{nat_tests}
 use Rattle.std.proofs.lemmas.List.{append-nil, append_assoc, length-append, length_push, get_or_default, get_or_append_left}
-use Rattle.std.proofs.lemmas.List.Elements.{Contains-append_left, Contains-append_cases, Contains-push, Contains-push_cases}
+use Rattle.std.specs.List.{AllPairs}
+use Rattle.std.proofs.lemmas.List.Quantifiers.{all_pairs_push}
+use Rattle.std.proofs.lemmas.List.Elements.{Contains-get_or, Contains-append_left, Contains-append_cases, Contains-push, Contains-push_cases}
 use Rattle.l4_merges.specs.declared.exploring.Reached.{Reached}
 use Rattle.l4_merges.specs.declared.found.Found.{Found}
 use Rattle.l4_merges.specs.declared.graph.Edge.{Edge}
@@ -48,11 +50,15 @@ module _ {S : Type 0} (enabled : S → ℕ → Bool) (Turns : S → ℕ → S �
   pub record EdgesBelow (At : S → ℕ → Type 0) (s : S) (below : ℕ) (edges : List Edge) : Type 0 where
     pub each : (edge : Edge) → Contains edges edge → (enabled s edge.thread ≡ true) × (edge.name ≡ name s edge.thread) × ((t : S) × Turns s edge.thread t × At t edge.to)
     pub all : (thread : ℕ) → thread < below → enabled s thread ≡ true → (edge : Edge) × Contains edges edge × (edge.thread ≡ thread)
+    pub low : (edge : Edge) → Contains edges edge → edge.thread < below
+    pub once : AllPairs (λ a b. a.thread ≡ b.thread → ⊥) edges
 
   pub no_edges : (At : S → ℕ → Type 0) (s : S) → EdgesBelow At s 0 []
   no_edges At s = record {
     each = λ edge has. let lt = has.1 in absurd (omega (arith, lt));
     all = λ thread lt able. absurd (omega (arith, lt));
+    low = λ edge has. let lt = has.1 in absurd (omega (arith, lt));
+    once = λ i j d lt within. absurd (omega (arith, within));
   }
 
   -- a thread that can't go on has no edge
@@ -65,6 +71,8 @@ module _ {S : Type 0} (enabled : S → ℕ → Bool) (Turns : S → ℕ → S �
           let there : other ≡ thread = omega (arith, lt, past) in
           absurd (false≢true (sym not ∙ subst (λ (n : ℕ). enabled s n ≡ true) there able))
     ];
+    low = λ edge has. let lt = is.low edge has in omega (arith, lt);
+    once = is.once;
   }
 
   -- one more edge
@@ -81,6 +89,12 @@ module _ {S : Type 0} (enabled : S → ℕ → Bool) (Turns : S → ℕ → S �
           | inl before ↦ let one = is.all other before can in (one.0, Contains-append_left edges (edge ∷ []) one.0 one.1, one.2)
           | inr past ↦ (edge, Contains-push edges edge, goes ∙ at_last other thread lt past)
         ];
+        low = λ other has. elim (Contains-push_cases edges edge other has) [
+          | inl old ↦ let lt = is.low other old in omega (arith, lt)
+          | inr same ↦ (let at : other.thread ≡ thread = ap (λ (e : Edge). e.thread) (sym same) ∙ goes in omega (arith, at))
+        ];
+        once = all_pairs_push (λ (a b : Edge). a.thread ≡ b.thread → ⊥) edges edge is.once
+            (λ k d lt same. let low = is.low (get_or edges k d) (Contains-get_or edges k d lt) in omega (arith, low, same, goes));
       }) where
         at_last : (a b : ℕ) → a < b + 1 → b ≤ a → b ≡ a
         at_last a b lt past = omega (arith, lt, past)
@@ -91,6 +105,7 @@ module _ {S : Type 0} (enabled : S → ℕ → Bool) (Turns : S → ℕ → S �
   all_edges At threads below s edges past within is = record {
     each = is.each;
     all = λ thread able. let lt = within thread able in is.all thread (omega (arith, lt, past)) able;
+    once = is.once;
   }
 
   -- no thread can go on from a state without edges
@@ -105,12 +120,20 @@ module _ {S : Type 0} (enabled : S → ℕ → Bool) (Turns : S → ℕ → S �
   some_goes_on At s [] some is = absurd (some refl)
   some_goes_on At s (edge ∷ edges) some is = (edge.thread, (is.each edge (0, omega arith, refl)).0)
 
+  -- edges that are listed twice are none
+  pub edges_once : (At : S → ℕ → Type 0) (s : S) (edges : List Edge) → AreEdges enabled Turns name At s (edges ++ edges) → edges ≡ []
+  edges_once At s [] is = refl
+  edges_once At s (edge ∷ edges) is =
+      absurd (is.once 0 (length (edge ∷ edges)) edge (omega arith) (let size = length-append (edge ∷ edges) (edge ∷ edges) in omega (arith, size))
+      (ap (λ (e : Edge). e.thread) (sym (get_or-append_seam (edge ∷ edges) edge edges edge))))
+
   -- the states that the edges lead to have places in another sense too
   pub edges_at : (At Also : S → ℕ → Type 0) (s : S) (edges : List Edge) → ((thread : ℕ) (t : S) (k : ℕ) → Turns s thread t → At t k → Also t k) → AreEdges enabled Turns name At s edges
       → AreEdges enabled Turns name Also s edges
   edges_at At Also s edges to is = record {
     each = λ edge has. let one = is.each edge has in (one.0, one.1, (one.2.0, one.2.1, to edge.thread one.2.0 edge.to one.2.1 one.2.2));
     all = is.all;
+    once = is.once;
   }
 
 -- ENTRIES
@@ -172,11 +195,11 @@ module _ {S : Type 0} (enabled : S → ℕ → Bool) (Turns : S → ℕ → S �
 
 module _ {S : Type 0} (enabled : S → ℕ → Bool) (Turns : S → ℕ → S → Type 0) (name : S → ℕ → ℕ) (HasOutcome : S → List ℕ → Type 0) (HasKey : S → List ℕ → Type 0) (Akin : S → S → Type 0) where
   -- a run stays in its system
-  akin_on : (own : (s : S) → Akin s s) (stays : (s : S) (thread : ℕ) (t : S) → Turns s thread t → (u : S) → Akin s u ↔ Akin t u) (s : S) (path : List ℕ) (t u : S) → IsRun enabled Turns s path t → Akin s u → Akin t u
+  pub akin_on : (own : (s : S) → Akin s s) (stays : (s : S) (thread : ℕ) (t : S) → Turns s thread t → (u : S) → Akin s u ↔ Akin t u) (s : S) (path : List ℕ) (t u : S) → IsRun enabled Turns s path t → Akin s u → Akin t u
   akin_on own stays s [] t u run akin = subst (λ (v : S). Akin v u) (sym run) akin
   akin_on own stays s (thread ∷ path) t u run akin = akin_on own stays run.1.0 path t u run.1.2 ((stays s thread run.1.0 run.1.1 u).0 akin)
 
-  akin_to : (own : (s : S) → Akin s s) (stays : (s : S) (thread : ℕ) (t : S) → Turns s thread t → (u : S) → Akin s u ↔ Akin t u) (s : S) (path : List ℕ) (t : S) → IsRun enabled Turns s path t → Akin s t
+  pub akin_to : (own : (s : S) → Akin s s) (stays : (s : S) (thread : ℕ) (t : S) → Turns s thread t → (u : S) → Akin s u ↔ Akin t u) (s : S) (path : List ℕ) (t : S) → IsRun enabled Turns s path t → Akin s t
   akin_to own stays s [] t run = subst (λ (v : S). Akin s v) (sym run) (own s)
   akin_to own stays s (thread ∷ path) t run = (stays s thread run.1.0 run.1.1 t).1 (akin_to own stays run.1.0 path t run.1.2)
 

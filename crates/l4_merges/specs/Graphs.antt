@@ -1,5 +1,6 @@
 -- The graph of the states that a search visits (this profile's own).
 use Rattle.std.specs.Prelude.{◌≡◌, ℕ, ◌<◌, Bool, true, List, ◌++◌, length, get_or, Option, Some, None, Contains}
+use Rattle.std.specs.List.{AllPairs}
 use Rattle.l4_merges.specs.declared.exploring.Reached.{Reached}
 use Rattle.l4_merges.specs.declared.found.Found.{Found}
 use Rattle.l4_merges.specs.declared.graph.Edge.{Edge}
@@ -19,10 +20,11 @@ abbrev pub IsEnd : {S : Type 0} → (S → ℕ → Bool) → (S → List ℕ →
 IsEnd enabled HasOutcome s found None = (thread : ℕ) × (enabled s thread ≡ true)
 IsEnd enabled HasOutcome s found (Some place) = IsOver enabled s × HasOutcomeAt HasOutcome s found place
 
--- these are the turns that threads can take in the state, each with its name, and with the place of a state that it leads to
+-- these are the turns that threads can take in the state, each once and with its name, and with the place of a state that it leads to
 pub record AreEdges {S : Type 0} (enabled : S → ℕ → Bool) (Turns : S → ℕ → S → Type 0) (name : S → ℕ → ℕ) (At : S → ℕ → Type 0) (s : S) (edges : List Edge) : Type 0 where
   pub each : (edge : Edge) → Contains edges edge → (enabled s edge.thread ≡ true) × (edge.name ≡ name s edge.thread) × ((t : S) × Turns s edge.thread t × At t edge.to)
   pub all : (thread : ℕ) → enabled s thread ≡ true → (edge : Edge) × Contains edges edge × (edge.thread ≡ thread)
+  pub once : AllPairs (λ a b. a.thread ≡ b.thread → ⊥) edges
 
 -- the entry has the turns that threads can take in the state, or the place of its outcome
 pub record IsNode {S : Type 0} (enabled : S → ℕ → Bool) (Turns : S → ℕ → S → Type 0) (name : S → ℕ → ℕ) (HasOutcome : S → List ℕ → Type 0) (At : S → ℕ → Type 0) (s : S) (found : List Found) (one : Seen) : Type 0 where

@@ -1,11 +1,12 @@
 //! The depth-first search through all orders.
-ghost use Rattle.std.specs.Prelude.{◌≡◌, ℕ, ◌<◌, length, ◌++◌, List, ◌∷◌, [], All, true, false, is_some, IfOk, IfSome, OnOk};
+ghost use Rattle.std.specs.Prelude.{◌≡◌, ℕ, ◌+◌, ◌<◌, ◌≤◌, Err, length, ◌++◌, List, ◌∷◌, [], All, true, false, is_some, IfOk, IfSome, OnOk};
 ghost use Rattle.l4_merges.specs.Orders.{IsOver, IsComplete, IsSound, AreDistinct, CountsOrders, FindsOn};
 ghost use Rattle.l4_merges.specs.Graphs.{IsFoundAt, HasOutcomeAt, IsPlacedAt, IsNoted, Grows, AreExplored, IsGraph};
 
 use crate::found::Found;
 use crate::graph::{Edge, Seen};
 use crate::machine::{Failure, Machine};
+use crate::table::{Table, digest_of};
 use crate::watching::Watch;
 use std::alloc::{AllocError, Global};
 
@@ -38,15 +39,14 @@ pub struct Explored {
 }
 
 /// Returns why a search ends if the machine fails.
-fn given_up(failure: Failure) -> GaveUp {
+pub(crate) fn given_up(failure: Failure) -> GaveUp
+    ensures { result ≡ GaveUp.Bound → ⊥ }
+{
     match failure {
         Failure::Memory => GaveUp::Memory,
         Failure::Full => GaveUp::Full,
     }
 }
-
-/// The number of hints.
-const HINTS: u64 = 65_536;
 
 /// A state that was searched: its place in `seen`, and the number of orders from it.
 #[derive(Clone, Copy)]
@@ -56,31 +56,18 @@ pub(crate) struct Reached {
 }
 
 /// A search: what was found so far, the keys of the states from which everything was searched, the path to the current state, and the number
-/// of states that may still be visited. A hint leads from a digest to a place in `seen`, and `earlier` from there to the key noted before it.
-/// The invariants say nothing about hints, because each key that a hint leads to is compared.
+/// of states that may still be visited. The table leads from the digest of a key to places in `seen`.
 #[derive(Drop)]
 struct Search {
     found: Vec<Found>,
     seen: Vec<Seen>,
-    hints: Vec<usize>,
-    earlier: Vec<usize>,
+    table: Table,
     path: Vec<usize>,
     budget: u64,
 }
 
-/// Returns the place of a key's hint.
-fn slot_of(key: &[u32]) -> usize {
-    let mut digest = 0u64;
-    for word in key {
-        digest = (digest ^ u64::from(*word))
-            .wrapping_mul(0x9e37_79b9_7f4a_7c15)
-            .rotate_left(29);
-    }
-    (digest % HINTS) as usize
-}
-
 /// Returns the place of this outcome, if it was found.
-fn found_at(found: &[Found], outcome: &[u8]) -> Option<usize>
+pub(crate) fn found_at(found: &[Found], outcome: &[u8]) -> Option<usize>
     ensures place { IfSome result (IsFoundAt found.now outcome.now) }
     ensures new { is_some result ≡ false → All (λ one. one.outcome.items ≡ outcome.now → ⊥) found.now }
 {
@@ -107,42 +94,25 @@ fn reached_at(seen: &[Seen], place: usize, key: &[u32]) -> Option<Reached>
     None
 }
 
-/// Returns the state with this key, if it was searched. Follows the hints from this one on: a hint is a place plus 1, or 0 for none.
-fn reached_by(seen: &[Seen], earlier: &[usize], hint: usize, key: &[u32]) -> Option<Reached>
+/// Returns the state with this key, if it was searched. Follows the table from the last place of its digest on.
+fn reached_by(seen: &[Seen], table: &Table, digest: u64, key: &[u32]) -> Option<Reached>
     ensures { IfSome result (IsNoted seen.now key.now) }
 {
-    let mut next = hint;
+    let mut next = table.last(digest);
     for _ in 0..seen.len() {
-        if next == 0 || next > seen.len() || next > earlier.len() {
+        if next == 0 || next > seen.len() {
             return None;
         }
         if let Some(reached) = reached_at(seen, next - 1, key) {
             return Some(reached);
         }
-        next = earlier[next - 1];
+        next = table.before(next - 1);
     }
     None
 }
 
-/// Returns the hint at a place, or 0 if there is none.
-fn hint_at(hints: &[usize], slot: usize) -> usize {
-    if slot < hints.len() {
-        return hints[slot];
-    }
-    0
-}
-
-/// Makes the hint at a place lead to the key that was added last.
-fn note(hints: &mut Vec<usize>, earlier: &mut Vec<usize>, slot: usize, count: usize) {
-    if slot >= hints.len() || earlier.reserve(1).is_err() {
-        return;
-    }
-    earlier.push_reserved(hints[slot]);
-    hints[slot] = count;
-}
-
 /// Copies an order.
-fn copied(alloc: Global, path: &[usize]) -> Result<Vec<usize>, AllocError>
+pub(crate) fn copied(alloc: Global, path: &[usize]) -> Result<Vec<usize>, AllocError>
     ensures { IfOk result (λ copy. copy.items ≡ path.now) }
 {
     let mut copy = Vec::new(alloc);
@@ -164,6 +134,8 @@ fn note_outcome<M: Machine>(alloc: Global, state: &M, search: &mut Search) -> Re
     ensures on { FindsOn M.enabled M.Turns M.HasOutcome search.old.path.items state.now search.old.found.items search.new.found.items }
     ensures seen { search.new.seen.items ≡ search.old.seen.items }
     ensures path { search.new.path.items ≡ search.old.path.items }
+    ensures budget { search.new.budget ≡ search.old.budget }
+    ensures bound { result ≡ Err GaveUp.Bound → ⊥ }
 {
     let outcome = match state.outcome() {
         Ok(outcome) => outcome,
@@ -184,38 +156,36 @@ fn note_outcome<M: Machine>(alloc: Global, state: &M, search: &mut Search) -> Re
 }
 
 /// Notes a state from which everything was searched. Returns its place, and the number of its orders.
-fn keep(one: Seen, slot: usize, search: &mut Search) -> Result<Reached, GaveUp>
+fn keep(one: Seen, digest: u64, search: &mut Search) -> Result<Reached, GaveUp>
     ensures seen { OnOk result (search.new.seen.items ≡ search.old.seen.items ++ one ∷ []) }
     ensures place { IfOk result (λ r. r.place ≡ length search.old.seen.items) }
     ensures orders { IfOk result (λ r. r.orders ≡ one.orders) }
     ensures found { search.new.found.items ≡ search.old.found.items }
     ensures path { search.new.path.items ≡ search.old.path.items }
+    ensures budget { search.new.budget ≡ search.old.budget }
+    ensures bound { result ≡ Err GaveUp.Bound → ⊥ }
 {
+    if !search.table.add(digest) {
+        return Err(GaveUp::Memory);
+    }
     if search.seen.reserve(1).is_err() {
         return Err(GaveUp::Memory);
     }
     let place = search.seen.len();
     let orders = one.orders;
     search.seen.push_reserved(one);
-    note(
-        &mut search.hints,
-        &mut search.earlier,
-        slot,
-        search.seen.len(),
-    );
     Ok(Reached { place, orders })
 }
 
-/// Returns the state with this key, if it was searched. The key has its hint in this slot.
-fn known(search: &Search, slot: usize, key: &[u32]) -> Option<Reached>
+/// Returns the state with this key, if it was searched. The key has this digest.
+fn known(search: &Search, digest: u64, key: &[u32]) -> Option<Reached>
     ensures { IfSome result (IsNoted search.now.seen.items key.now) }
 {
-    let hint = hint_at(search.hints.as_slice(), slot);
-    reached_by(search.seen.as_slice(), search.earlier.as_slice(), hint, key)
+    reached_by(search.seen.as_slice(), &search.table, digest, key)
 }
 
 /// Adds a turn to the path. Returns false if there is not enough memory.
-fn push_turn(path: &mut Vec<usize>, thread: usize) -> bool
+pub(crate) fn push_turn(path: &mut Vec<usize>, thread: usize) -> bool
     ensures { result ≡ true → path.new.items ≡ path.old.items ++ thread ∷ [] }
 {
     if path.reserve(1).is_err() {
@@ -267,13 +237,16 @@ fn search_from<M: Machine, W: Watch>(
     ensures explored { OnOk result (AreExplored M.enabled M.Turns M.name M.HasOutcome M.HasKey (M.Akin state) search.new.seen.items search.new.found.items) }
     ensures on { FindsOn M.enabled M.Turns M.HasOutcome search.old.path.items state search.old.found.items search.new.found.items }
     ensures path { OnOk result (search.new.path.items ≡ search.old.path.items) }
+    ensures budget { OnOk result (search.new.budget + length search.new.seen.items
+        ≡ search.old.budget + length search.old.seen.items) }
+    ensures bound { result ≡ Err GaveUp.Bound → search.new.budget ≡ 0 }
 {
     let key = match state.key() {
         Ok(key) => key,
         Err(failure) => return Err(given_up(failure)),
     };
-    let slot = slot_of(key.as_slice());
-    if let Some(reached) = known(search, slot, key.as_slice()) {
+    let digest = digest_of(key.as_slice());
+    if let Some(reached) = known(search, digest, key.as_slice()) {
         return Ok(reached);
     }
     if search.budget == 0 {
@@ -309,41 +282,29 @@ fn search_from<M: Machine, W: Watch>(
             Ok(place) => Some(place),
             Err(why) => return Err(why),
         };
-        return keep(entry(key, 1, edges, end), slot, search);
+        return keep(entry(key, 1, edges, end), digest, search);
     }
-    keep(entry(key, orders, edges, None), slot, search)
-}
-
-/// Returns hints that lead nowhere.
-fn no_hints(alloc: Global) -> Result<Vec<usize>, AllocError> {
-    vec![in alloc; 0usize; 65_536]
+    keep(entry(key, orders, edges, None), digest, search)
 }
 
 /// Searches all orders from a state, and visits at most `most` states. Returns the outcomes that it found, each once and with an order that
 /// produces it. If the search ends by itself, no order has another outcome, and the graph has all states that orders reach. If it ends early,
-/// the outcomes that it found are still sound.
+/// the outcomes that it found are still sound. Each state that it visits is counted, and has an entry if the search ends by itself. It ends early at
+/// the bound only if it has visited `most` states.
 pub fn explore<M: Machine, W: Watch>(alloc: Global, state: M, most: u64, watch: &mut W) -> Explored
     ensures sound { IsSound M.enabled M.Turns M.HasOutcome state result.found.items }
     ensures distinct { AreDistinct result.found.items }
     ensures orders { OnOk result.ended (CountsOrders M.enabled M.Turns state result.orders) }
     ensures complete { OnOk result.ended (IsComplete M.enabled M.Turns M.HasOutcome state result.found.items) }
     ensures graph { OnOk result.ended (IsGraph M.enabled M.Turns M.name M.HasOutcome state result.found.items result.seen.items result.start) }
+    ensures most { result.states ≤ most }
+    ensures states { OnOk result.ended (result.states ≡ length result.seen.items) }
+    ensures bound { result.ended ≡ Err GaveUp.Bound → result.states ≡ most }
 {
-    let Ok(hints) = no_hints(alloc) else {
-        return Explored {
-            found: Vec::new(alloc),
-            states: 0,
-            orders: 0,
-            seen: Vec::new(alloc),
-            start: 0,
-            ended: Err(GaveUp::Memory),
-        };
-    };
     let mut search = Search {
         found: Vec::new(alloc),
         seen: Vec::new(alloc),
-        hints,
-        earlier: Vec::new(alloc),
+        table: Table::new(alloc),
         path: Vec::new(alloc),
         budget: most,
     };
@@ -351,8 +312,7 @@ pub fn explore<M: Machine, W: Watch>(alloc: Global, state: M, most: u64, watch: 
     let Search {
         found,
         seen,
-        hints: _,
-        earlier: _,
+        table: _,
         path: _,
         budget,
     } = search;

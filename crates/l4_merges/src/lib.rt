@@ -5,6 +5,7 @@ mod exploring;
 mod found;
 mod graph;
 mod machine;
+mod table;
 mod watching;
 
 pub use exploring::{Explored, GaveUp, explore};

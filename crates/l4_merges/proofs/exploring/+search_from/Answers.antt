@@ -20,6 +20,7 @@ loop-thread-preserved-then-not-enabled g t c =
       orders = disabled_more g.M.Machine.enabled g.M.Machine.Turns c.args.state c.loop-thread.thread c.loop-thread.orders not inv.orders;
       edges = no_edge g.M.Machine.enabled g.M.Machine.Turns g.M.Machine.name (IsPlacedAt g.M.Machine.HasKey c.loop-thread.search.seen.items) c.args.state c.loop-thread.thread c.loop-thread.edges.items not inv.edges;
       grows = inv.grows;
+      budget = inv.budget;
     }
 
 pub loop-thread-init : goal.loop-thread-init
@@ -32,6 +33,7 @@ loop-thread-init g t c = record {
   edges = subst (λ (l : List Edge). EdgesBelow g.M.Machine.enabled g.M.Machine.Turns g.M.Machine.name (IsPlacedAt g.M.Machine.HasKey c.args.search.now.seen.items) c.args.state 0 l) (sym c.new-edges.ensures.items)
       (no_edges g.M.Machine.enabled g.M.Machine.Turns g.M.Machine.name (IsPlacedAt g.M.Machine.HasKey c.args.search.now.seen.items) c.args.state);
   grows = grows_not g.M.Machine.enabled g.M.Machine.Turns g.M.Machine.HasKey c.args.state c.args.search.now.seen.items;
+  budget = omega (arith, c.if-search-eq0.false);
 }
 
 pub returns-in-Err-search_from-clause-on : goal.returns-in-Err-search_from-clause-on
@@ -76,6 +78,7 @@ loop-thread-preserved g t c =
           c.loop-thread.edges.items c.add_edge.new.edges.items edge c.in-Ok-after_turn.next (λ u k. placed_on g.M.Machine.enabled g.M.Machine.Turns g.M.Machine.HasKey c.in-Ok-after_turn.next c.loop-thread.search.seen.items c.search_from.new.search.seen.items u k grown)
           (c.add_edge.ensures c.if-not-add_edge.false) refl refl able turns c.in-Ok-search_from.ensures.place inv.edges;
       grows = grows_turn g.M.Machine.enabled g.M.Machine.Turns g.M.Machine.HasKey c.args.state c.loop-thread.thread c.in-Ok-after_turn.next c.args.search.now.seen.items c.loop-thread.search.seen.items c.search_from.new.search.seen.items able turns inv.grows grown;
+      budget = (let a = inv.budget in let b = c.in-Ok-search_from.ensures.budget in omega (arith, a, b));
     }
 
 pub search_from-requires : goal.search_from-requires
