@@ -190,12 +190,12 @@ uint32_t l4_version(void);
 #define L4_S2 UINT32_C(0x5332) /* the line has too few tokens, too many, or an invalid one */
 #define L4_S3 UINT32_C(0x5333) /* the line is longer than 4,096 bytes */
 #define L4_S4 UINT32_C(0x5334) /* the line does not end with a newline */
-#define L4_O1 UINT32_C(0x4F31) /* a plan has one unordered line, and after it at most one finally line */
+#define L4_O1 UINT32_C(0x4F31) /* a litmus test has one unordered line, and after it at most one finally line */
 #define L4_O2 UINT32_C(0x4F32) /* a query or a rule is allowed only after the finally line, and a name only before the unordered line */
 #define L4_O3 UINT32_C(0x4F33) /* after the finally line, only show, parent, reply, never and always are allowed */
 #define L4_O4 UINT32_C(0x4F34) /* steps is not allowed, because its answer depends on the whole order */
 #define L4_O5 UINT32_C(0x4F35) /* no line creates the thread (detail) whose call this is */
-#define L4_O6 UINT32_C(0x4F36) /* the plan has no unordered line */
+#define L4_O6 UINT32_C(0x4F36) /* the litmus test has no unordered line */
 #define L4_NO_MEMORY UINT32_C(0x4E6F) /* there was not enough memory */
 
 /* Write the printed code of a refusal ("K1", "NoMemory"), or a line of text that explains it, to out. At most the first `room` - 1 bytes
@@ -880,11 +880,11 @@ l4_verdict l4_lock_close(l4_lock *lock, const uint32_t *seats, size_t count);
 
 /* ORDERS OF CALLS
  *
- * A script in the language of `l4 run` with a line `unordered` is a plan: the lines after it may be executed in any order, except that the
- * lines of one thread keep theirs. The queries after a line `finally` are the outcome of an order. The user guide describes plans, and the
- * program `l4 orders` prints what these functions return. */
+ * A script in the language of `l4 run` with a line `unordered` is a litmus test: the lines after it may be executed in any order, except
+ * that the lines of one thread keep theirs. The queries after a line `finally` are the outcome of an order. The user guide describes litmus
+ * tests, and the program `l4 orders` prints what these functions return. */
 
-/* The search of a plan: the plan, and the outcomes that its orders have. */
+/* The search of a litmus test: the test, and the outcomes that its orders have. */
 typedef struct l4_orders {
     void *hidden;
 } l4_orders;
@@ -897,14 +897,14 @@ typedef struct l4_searched {
     uint64_t line;
 } l4_searched;
 
-/* Reads a plan of `length` bytes, and executes it in all its orders on a new kernel with 1 to 4,096 frames. It visits at most `most`
+/* Reads a litmus test of `length` bytes, and executes it in all its orders on a new kernel with 1 to 4,096 frames. It visits at most `most`
  * states. A state is visited once, even if several orders lead to it. Fewer frames make a search faster.
  *
  * The handle must be empty; it then owns the search, and you free it with l4_orders_free. Each outcome that was found is that of an order,
  * and none was found twice. Every order's outcome was found if l4_orders_found says so. After a refusal the handle is unchanged. Refusals
- * in this order: B2; K6; S2, S3, S4 or O1 to O4 for the first line that cannot be part of a plan; O6; O5 for the first line of a thread
- * that is neither there at boot nor created; NoMemory, or L1 if a history is full, before the search has begun. NoMemory may come before
- * any of those of the plan. */
+ * in this order: B2; K6; S2, S3, S4 or O1 to O4 for the first line that cannot be part of a litmus test; O6; O5 for the first line of a
+ * thread that is neither there at boot nor created; NoMemory, or L1 if a history is full, before the search has begun. NoMemory may come
+ * before any of those of the test. */
 l4_searched l4_orders_search(l4_orders *orders, uint32_t frames, const char *plan, size_t length, uint64_t most);
 
 /* Does the same as l4_orders_search for pages and frames of page_bytes bytes. B4 comes before every other refusal. */
@@ -918,7 +918,7 @@ l4_searched l4_orders_search_sized(l4_orders *orders, uint32_t frames, const cha
 #define L4_LACKED_HISTORY UINT32_C(4)
 
 /* How a search ended (L4_ALL_ORDERS ..), the number of outcomes, the number of orders, and the number of states that were visited. If the
- * search ended early, orders is 0, and the plan may have more outcomes. If there are more than 2^64 - 1 orders, orders is 2^64 - 1. */
+ * search ended early, orders is 0, and the test may have more outcomes. If there are more than 2^64 - 1 orders, orders is 2^64 - 1. */
 typedef struct l4_found {
     uint32_t refusal;
     uint32_t ended;
@@ -931,7 +931,7 @@ typedef struct l4_found {
 l4_found l4_orders_found(l4_orders *orders);
 
 /* Writes the answers of the outcome with this number, from 0: the answers to the queries, a line each, and then a line `stuck N L` for each
- * thread N that was left before its line L of the plan. At most the first `room` - 1 bytes are written, and a 0 after them; nothing is
+ * thread N that was left before its line L of the test. At most the first `room` - 1 bytes are written, and a 0 after them; nothing is
  * written if room is 0. count is the length of the whole text without the 0. The text is empty if there is no such outcome. Refusals:
  * B1. */
 l4_count l4_orders_answers(l4_orders *orders, size_t outcome, char *out, size_t room);
@@ -941,12 +941,12 @@ l4_count l4_orders_answers(l4_orders *orders, size_t outcome, char *out, size_t 
  * order: B1, NoMemory. */
 l4_count l4_orders_witness(l4_orders *orders, size_t outcome, char *out, size_t room);
 
-/* Writes the numbers of the lines of that order, from 1, as they are in the plan, and in the order in which they were executed. At most
+/* Writes the numbers of the lines of that order, from 1, as they are in the test, and in the order in which they were executed. At most
  * `room` numbers are written; count is the number of all of them. It is 0 if there is no such outcome. Nothing is written after a refusal.
  * Refusals in this order: B1, NoMemory. */
 l4_count l4_orders_lines(l4_orders *orders, size_t outcome, uint64_t *lines, size_t room);
 
-/* Writes the rules that the outcome with this number breaks, in the same way as its answers: lines `never ..` and `always ..` of the plan.
+/* Writes the rules that the outcome with this number breaks, in the same way as its answers: lines `never ..` and `always ..` of the test.
  * The text is empty if the outcome breaks no rule, or if there is no such outcome. Nothing is written after a refusal. Refusals in this
  * order: B1, NoMemory. */
 l4_count l4_orders_broken(l4_orders *orders, size_t outcome, char *out, size_t room);

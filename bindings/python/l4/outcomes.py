@@ -1,7 +1,7 @@
-"""The outcomes that a plan has over all orders of its threads' calls; `l4 orders` prints the same outcomes.
+"""The outcomes that a litmus test has over all orders of its threads' calls; `l4 orders` prints the same outcomes.
 
-A plan is a script with a line `unordered`. The lines after it may be executed in any order, but the lines of one thread keep theirs. The
-queries after a line `finally` are the outcome. The user guide describes plans.
+A litmus test is a script with a line `unordered`. The lines after it may be executed in any order, but the lines of one thread keep
+theirs. The queries after a line `finally` are the outcome. The user guide describes litmus tests.
 """
 from __future__ import annotations
 
@@ -35,9 +35,9 @@ class PlanOutcome:
     """An outcome that some order of the calls has.
 
     `answers` has the lines of the answers to the queries, and then a line `stuck N L` for each thread N that is left before its line L of the
-    plan. `witness` is the script of an order that produces this outcome: `l4 run` and `Script.run` answer its queries so. `order` has the
-    numbers of the plan's lines in that order, from 1, without those before `unordered` and after `finally`. `broken` has the rules of the plan
-    that this outcome breaks: their lines `never ..` and `always ..`.
+    test. `witness` is the script of an order that produces this outcome: `l4 run` and `Script.run` answer its queries so. `order` has the
+    numbers of the test's lines in that order, from 1, without those before `unordered` and after `finally`. `broken` has the rules of the
+    test that this outcome breaks: their lines `never ..` and `always ..`.
     """
 
     answers: Tuple[str, ...]
@@ -58,7 +58,7 @@ class Orders:
 
     @property
     def complete(self) -> bool:
-        """Returns whether every order was followed. The plan then has no other outcomes."""
+        """Returns whether every order was followed. The test then has no other outcomes."""
         return self.end is SearchEnd.ALL_ORDERS
 
 
@@ -93,7 +93,8 @@ def _found(search: _library.l4_orders) -> Orders:
 
 
 def orders(script: str, frames: int = 256, page_bytes: int = PAGE_BYTES, most: int = MOST_STATES) -> Orders:
-    """Executes a plan in all orders of its threads' calls, and returns its outcomes, each with the script of an order that produces it.
+    """Executes a litmus test in all orders of its threads' calls, and returns its outcomes, each with the script of an order that produces
+    it.
 
     Each order is executed on a new kernel with this number of frames. A search is faster with few frames. It visits at most `most` states.
 

@@ -56,8 +56,8 @@ class TooLong(Refused):
 
 
 class BadPlan(Refused):
-    """A script that is not a plan (S2 to S4, O1 to O6). `line` is the number of the refused line, from 1, or None if no line is `unordered`
-    (O6)."""
+    """A script that is not a litmus test (S2 to S4, O1 to O6). `line` is the number of the refused line, from 1, or None if no line is
+    `unordered` (O6)."""
 
     line: Optional[int]
 

@@ -79,7 +79,7 @@ class Labs(unittest.TestCase):
         self.assertEqual((early["end"], early["states"]), ("most", 1))
 
     def test_a_script_that_is_no_plan(self):
-        self.assertEqual(self.ask("/orders", 400, script="recv 2 any 0\n")["error"], "O6: the plan has no unordered line")
+        self.assertEqual(self.ask("/orders", 400, script="recv 2 any 0\n")["error"], "O6: the litmus test has no unordered line")
         self.assertEqual(self.ask("/orders", 400, script="unordered\nrecv 9 any 0\n")["error"], "line 2: O5 9: no line creates the thread whose call this is")
         self.assertEqual(self.ask("/orders", 400, script="unordered\n", most=-1)["error"], "most is a number below 4,294,967,296")
 

@@ -21,7 +21,7 @@ def text(found):
 
 class Outcomes(unittest.TestCase):
     def test_each_plan_has_its_outcomes(self):
-        plans = sorted(PLANS.glob("[1-9]_*.plan"))
+        plans = sorted(PLANS.glob("[1-9]_*.litmus"))
         self.assertGreaterEqual(len(plans), 9)
         for plan in plans:
             with self.subTest(plan.name):
@@ -30,7 +30,7 @@ class Outcomes(unittest.TestCase):
                 self.assertTrue(found.complete)
 
     def test_each_witness_has_its_answers(self):
-        for plan in (PLANS / f"{name}.plan" for name in ("1_two_senders", "3_two_delegations", "5_delete_and_send", "9_flush_and_grant")):
+        for plan in (PLANS / f"{name}.litmus" for name in ("1_two_senders", "3_two_delegations", "5_delete_and_send", "9_flush_and_grant")):
             for outcome in orders(plan.read_text(), FRAMES).outcomes:
                 with self.subTest(plan.name, answers=outcome.answers):
                     answers = [line for line in outcome.answers if not line.startswith("stuck ")]
@@ -53,7 +53,7 @@ class Outcomes(unittest.TestCase):
     def test_the_rules_that_outcomes_break(self):
         for name, broken in (("c_rules_hold", ()), ("d_rules_broken", (("always 5 waits",), ("never stuck 5 10", "always 3 ipc 00050000 0 5")))):
             with self.subTest(name):
-                found = orders((PLANS / f"{name}.plan").read_text(), FRAMES)
+                found = orders((PLANS / f"{name}.litmus").read_text(), FRAMES)
                 self.assertEqual(tuple(it.broken for it in found.outcomes if it.broken), broken)
 
     def test_a_plan_without_queries(self):

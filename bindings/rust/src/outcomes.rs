@@ -1,4 +1,4 @@
-//! The outcomes that a plan has over all orders of its threads' calls.
+//! The outcomes that a litmus test has over all orders of its threads' calls.
 use crate::ffi::{self, Handle};
 use crate::refusals::{unknown, Refusal};
 use crate::words::PageSize;
@@ -9,7 +9,7 @@ use std::fmt;
 #[derive(Clone, Copy, Debug, PartialEq, Eq, Hash)]
 #[non_exhaustive]
 pub enum SearchEnd {
-    /// It followed every order: the plan has no other outcomes.
+    /// It followed every order: the test has no other outcomes.
     AllOrders,
     /// It ended early, because it had visited as many states as it may.
     MostStates,
@@ -38,9 +38,9 @@ pub struct PlanOutcome {
     pub answers: Vec<String>,
     /// The script of an order that produces this outcome: `l4 run` answers its queries so.
     pub witness: String,
-    /// The numbers of the plan's lines in that order, from 1, without those before `unordered` and after `finally`.
+    /// The numbers of the test's lines in that order, from 1, without those before `unordered` and after `finally`.
     pub order: Vec<u64>,
-    /// The rules of the plan that this outcome breaks: their lines `never ..` and `always ..`.
+    /// The rules of the test that this outcome breaks: their lines `never ..` and `always ..`.
     pub broken: Vec<String>,
 }
 
@@ -57,7 +57,7 @@ pub struct Orders {
     pub state_count: u64,
 }
 
-/// A plan that is refused.
+/// A litmus test that is refused.
 #[derive(Clone, Copy, Debug, PartialEq, Eq, Hash)]
 pub struct BadPlan {
     /// Why it is refused.
@@ -86,11 +86,11 @@ impl From<Refusal> for BadPlan {
     }
 }
 
-/// Executes a plan in all orders of its threads' calls, and returns its outcomes, each with the script of an order that produces it.
+/// Executes a litmus test in all orders of its threads' calls, and returns its outcomes, each with the script of an order that produces it.
 ///
-/// A plan is a script with a line `unordered`. The lines after it may be executed in any order, but the lines of one thread keep theirs. The
-/// queries after a line `finally` are the outcome. Each order is executed on a new kernel with this number of frames, of 4 KiB each. The
-/// search is faster with few frames. It visits at most `most` states.
+/// A litmus test is a script with a line `unordered`. The lines after it may be executed in any order, but the lines of one thread keep
+/// theirs. The queries after a line `finally` are the outcome. Each order is executed on a new kernel with this number of frames, of 4 KiB
+/// each. The search is faster with few frames. It visits at most `most` states.
 ///
 /// ```
 /// let plan = "unordered\nsend 1 2 0x10000\nrecv 2 any 0\nfinally\nreply 2\nnever 2 waits\nalways 2 none\n";
@@ -105,7 +105,7 @@ impl From<Refusal> for BadPlan {
 ///
 /// # Errors
 ///
-/// In this order: [`Refusal::FrameCount`]; a line that cannot be part of a plan, which the error names; [`Refusal::NoUnordered`];
+/// In this order: [`Refusal::FrameCount`]; a line that cannot be part of a litmus test, which the error names; [`Refusal::NoUnordered`];
 /// [`Refusal::NeverCreated`]; and [`Refusal::NoMemory`], or [`Refusal::HistoryFull`] if a history is full before the search has begun. Memory
 /// may also run out earlier.
 pub fn orders(plan: &str, frames: u32, most: u64) -> Result<Orders, BadPlan> {

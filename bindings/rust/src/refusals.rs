@@ -125,12 +125,12 @@ refusals! {
     BadLine = L4_S2 "S2" "the line has too few tokens, too many, or an invalid one";
     LongLine = L4_S3 "S3" "the line is longer than 4,096 bytes";
     CutLine = L4_S4 "S4" "the line does not end with a newline";
-    PartRepeated = L4_O1 "O1" "a plan has one unordered line, and after it at most one finally line";
+    PartRepeated = L4_O1 "O1" "a litmus test has one unordered line, and after it at most one finally line";
     LineOfNoThread = L4_O2 "O2" "a query or a rule is allowed only after the finally line, and a name only before the unordered line";
     NotAQuery = L4_O3 "O3" "after the finally line, only show, parent, reply, never and always are allowed";
     StepsInPlan = L4_O4 "O4" "steps is not allowed, because its answer depends on the whole order";
     NeverCreated(u32) = L4_O5 "O5" "no line creates the thread whose call this is";
-    NoUnordered = L4_O6 "O6" "the plan has no unordered line";
+    NoUnordered = L4_O6 "O6" "the litmus test has no unordered line";
     NoMemory = L4_NO_MEMORY "NoMemory" "there was not enough memory";
 }
 

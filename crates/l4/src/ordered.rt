@@ -24,7 +24,7 @@ use std::{io, str};
 /// The exit status if not every order was followed.
 const INCOMPLETE: u8 = 1;
 
-/// The exit status if an outcome breaks a rule of the plan.
+/// The exit status if an outcome breaks a rule of the test.
 const BROKEN: u8 = 1;
 
 /// What is printed: the script of one outcome, the graph of the states if `dot`, or the outcomes, without their orders if `brief`.
@@ -44,12 +44,12 @@ pub(crate) fn wanted_by(witness: Option<u32>, brief: bool, dot: bool) -> Wanted 
     }
 }
 
-/// Returns the code of a line that cannot be part of a plan.
+/// Returns the code of a line that cannot be part of a litmus test.
 pub(crate) fn code_of(fault: LineFault) -> &'static str {
     str::from_utf8(line_code(fault)).unwrap_or("")
 }
 
-/// Returns what a code means of a line of a plan.
+/// Returns what a code means of a line of a litmus test.
 pub(crate) fn words_of(code: &str) -> &'static str {
     if code == "S2" {
         return "the line is not a command, or has too few tokens, too many, or an invalid one";
@@ -57,7 +57,7 @@ pub(crate) fn words_of(code: &str) -> &'static str {
     str::from_utf8(text_of(number_of(code.as_bytes())).line).unwrap_or("")
 }
 
-/// Reports that a line cannot be part of a plan.
+/// Reports that a line cannot be part of a litmus test.
 fn report_line(rt: &impl Eprint, number: u64, fault: LineFault) {
     let code = code_of(fault);
     if let LineFault::NoThread(thread) = fault {
@@ -68,7 +68,7 @@ fn report_line(rt: &impl Eprint, number: u64, fault: LineFault) {
     let _ = eprintln!(rt; "error: line {number}: {code}: {words}");
 }
 
-/// Reports why a file is not a plan. Returns the exit status.
+/// Reports why a file is not a litmus test. Returns the exit status.
 fn no_plan<Q: Read>(
     rt: &impl Eprint,
     fault: PlanFault,
@@ -112,7 +112,7 @@ fn search_status(explored: &Explored) -> u8
     }
 }
 
-/// Returns the exit status of a search, by whether an outcome breaks a rule of the plan.
+/// Returns the exit status of a search, by whether an outcome breaks a rule of the test.
 pub(crate) fn ruled_status(plan: &Plan, explored: &Explored) -> u8
     ensures { result
         ≡ ruled_status (breaks_any plan.now explored.now.found.items) explored.now.ended }
@@ -166,7 +166,8 @@ fn print_found<R: AllocGlobal + Print + Eprint>(
     ruled_status(plan, explored)
 }
 
-/// Searches all orders of a plan, and prints what is wanted, and its progress if standard error is a terminal. Returns the exit status.
+/// Searches all orders of a litmus test, and prints what is wanted, and its progress if standard error is a terminal. Returns the exit
+/// status.
 #[inline(never)]
 pub(crate) fn print_orders<R: AllocGlobal + Files + Input + Print + Eprint + Clock>(
     rt: &R,

@@ -1,4 +1,4 @@
-//! `l4 test` over plans.
+//! `l4 test` over litmus tests.
 ghost use Rattle.std.specs.Prelude.{◌≡◌, ◌⊎◌, ◌≤◌};
 ghost use Rattle.l4_fpage.specs.Pages.{max_frames};
 ghost use Rattle.l4_orders.specs.Rules.{breaks_any};
@@ -16,22 +16,24 @@ use std::alloc::{AllocError, Global};
 use std::io::Read;
 use std::{io, str};
 
-/// The end of the name of a file with a plan.
+/// The ends of the names of litmus tests.
+const LITMUS: &str = ".litmus";
+
 const PLAN: &str = ".plan";
 
 /// The number of states that are visited at most.
 const MOST: u64 = 1_000_000;
 
-/// Returns whether a file has a plan, by its name.
+/// Returns whether a file has a litmus test, by its name.
 pub(crate) fn is_plan(file: &str) -> bool {
-    file.ends_with(PLAN)
+    file.ends_with(LITMUS) || file.ends_with(PLAN)
 }
 
-/// Prints on standard error that a plan has no copy with actual answers.
+/// Prints on standard error that a litmus test has no copy with actual answers.
 pub(crate) fn report_not_copied(rt: &impl Eprint, file: &str) -> u8
     ensures { result ≡ 2 }
 {
-    let _ = eprintln!(rt; "error: {file}: a plan has no expectations, and so no copy");
+    let _ = eprintln!(rt; "error: {file}: a litmus test has no expectations, and so no copy");
     NOT_UNDERSTOOD
 }
 
@@ -102,7 +104,7 @@ fn report_searched<R: AllocGlobal + Print + Eprint>(
     printed(rt, written, status)
 }
 
-/// Prints on standard error why a file is not a plan, and the result in TAP. Returns the exit status.
+/// Prints on standard error why a file is not a litmus test, and the result in TAP. Returns the exit status.
 fn report_code<R: Print + Eprint>(rt: &R, place: &Place<'_>, line: u64, code: &str) -> u8
     ensures { (result ≡ 2) ⊎ (result ≡ 3) }
 {
@@ -117,7 +119,7 @@ fn report_code<R: Print + Eprint>(rt: &R, place: &Place<'_>, line: u64, code: &s
     NOT_UNDERSTOOD
 }
 
-/// Prints why a file is not a plan. Returns the exit status.
+/// Prints why a file is not a litmus test. Returns the exit status.
 fn report_no_plan<Q: Read, R: Print + Eprint>(
     rt: &R,
     place: &Place<'_>,

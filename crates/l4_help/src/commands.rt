@@ -209,9 +209,9 @@ that is not there. If there are more answers than expected, L is the line that t
 answer. Expectations are answers without the additions of --explain, --number and
 --moves.
 
-A file whose name ends in .plan is a plan for 'l4 orders', which visits at most
-1,000,000 states. It passes if every order was followed and no rule is broken.
-Prints its summary, and below it the rules that are broken, as 'l4 orders' does:
+A file whose name ends in .litmus or .plan is a litmus test (see l4 orders). At most
+1,000,000 states are visited. It passes if every order was followed and no rule is
+broken. Prints its summary, and below it the rules that are broken, as 'l4 orders' does:
 
   FILE: N outcomes, M orders, S states, passed
   FILE: N outcomes, M orders, S states, failed
@@ -220,7 +220,8 @@ With --write, no script is compared. A copy of each script is written to FILE.ne
 It expects all answers, directly below their lines. It has no other expectations, so
 '#= ..' is replaced too. All other lines are as in FILE, in the same order. The copy
 passes the test. FILE itself is not changed, and a FILE.new that exists is not
-overwritten. A plan has no expectations, so it is refused. Prints one line per file:
+overwritten. A litmus test has no expectations, so it is refused. Prints one line
+per file:
 
   FILE: N lines, M expectations, written to FILE.new
 
@@ -231,8 +232,8 @@ enough memory. With several files, the greatest of their statuses.";
 
 /// The help of `l4 orders`.
 pub const ORDERS: &str = "\
-Reads a plan from FILE, or from standard input if FILE is omitted: a script with the
-lines 'unordered' and 'finally'. Runs the lines before 'unordered' in their order.
+Reads a litmus test from FILE, or from standard input if FILE is omitted: a script with
+the lines 'unordered' and 'finally'. Runs the lines before 'unordered' in their order.
 Then lets the threads run their lines in every possible order, in which the lines of
 each thread keep theirs. At the end of an order, answers the queries after 'finally'.
 Prints every outcome that some order has:
@@ -240,7 +241,7 @@ Prints every outcome that some order has:
   outcome K                  the answers follow, with the line numbers of the
                              outcome's script
   stuck N L                  at the end of the order, thread N waits, or does not
-                             exist, and its next line is line L of the plan
+                             exist, and its next line is line L of the test
   order L L ..               an order that produces the outcome: line numbers
   N outcomes, M orders, S states
                              every order was followed: there are M orders, with N
@@ -258,8 +259,8 @@ delete, and P for region P and serve P. A thread runs its next line, with all st
 and acts of served threads that follow, unless it waits or does not exist. Only
 show, parent, reply, never and always are allowed after 'finally', and none of them
 before it. 'never ANSWER' states that no outcome has this line, and 'always ANSWER'
-that every outcome has it. 'l4 run' executes a plan in the order in which it is
-written, and checks no rule.
+that every outcome has it. 'l4 run' executes a litmus test in the order in which it
+is written, and checks no rule.
 
 With --dot, prints the graph of the states in the DOT language of Graphviz. An arrow
 without a line leads to the state at 'unordered'. Every other edge has the number of
@@ -270,20 +271,21 @@ If not every order was followed, no state is printed. The exit status is as with
 
   l4 orders --dot FILE | dot -Tsvg > states.svg
 
-A line that cannot be part of a plan has one of these codes, or S2, S3 or S4 (see
-l4 --help):
+A line that cannot be part of a litmus test has one of these codes, or S2, S3 or S4
+(see l4 --help):
 
-  O1    a plan has one unordered line, and after it at most one finally line
+  O1    a litmus test has one unordered line, and after it at most one finally
+        line
   O2    a query or a rule is allowed only after the finally line, and a name only
         before the unordered line
   O3    after the finally line, only show, parent, reply, never and always are
         allowed
   O4    steps is not allowed, because its answer depends on the whole order
   O5    no line creates the thread whose call this is
-  O6    the plan has no unordered line
+  O6    the litmus test has no unordered line
 
 Exit status: 0 if every order was followed and no rule is broken, 1 otherwise, 2 if
-the command line or a line of the plan is invalid or FILE cannot be opened, 3 if a
+the command line or a line of the test is invalid or FILE cannot be opened, 3 if a
 read or a write failed, 4 if there is not enough memory.";
 
 /// The help of `l4 encode`.
@@ -395,7 +397,7 @@ lines that begin with #, are skipped.
   steps                  prints the number of steps so far: calls that started,
                          transfers and expiries
   unordered, finally, never ANSWER, always ANSWER
-                         begin parts of a plan, and state its rules (see
+                         begin parts of a litmus test, and state its rules (see
                          l4 orders --help); they do nothing here
 
 N, like every other thread in a line, is a thread number, below 262144, or a

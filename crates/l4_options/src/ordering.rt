@@ -64,7 +64,7 @@ pub(crate) fn of_orders<'a>(alloc: Global) -> Result<Command<'a>, AllocError>
     Command::new(alloc, "orders")
         .about("Prints every outcome that some order of the threads' calls can have")
         .after_help(ORDERS)
-        .arg(file_argument(alloc, "The plan [default: standard input]"))?
+        .arg(file_argument(alloc, "The litmus test [default: standard input]"))?
         .arg(frames_option(alloc))?
         .arg(size_option(alloc))?
         .arg(most_option(alloc))?

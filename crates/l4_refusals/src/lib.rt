@@ -205,7 +205,7 @@ fn table_texts() -> [Text; 13]
     ]
 }
 
-/// Returns the refusals of a plan of orders, by its lines.
+/// Returns the refusals of a litmus test, by its lines.
 fn order_texts() -> [Text; 9]
     ensures { map bytes_of result ≡ order_texts }
 {
@@ -218,7 +218,7 @@ fn order_texts() -> [Text; 9]
         meaning(b"S4", b"the line does not end with a newline"),
         meaning(
             b"O1",
-            b"a plan has one unordered line, and after it at most one finally line",
+            b"a litmus test has one unordered line, and after it at most one finally line",
         ),
         meaning(
             b"O2",
@@ -233,7 +233,7 @@ fn order_texts() -> [Text; 9]
             b"steps is not allowed, because its answer depends on the whole order",
         ),
         meaning(b"O5", b"no line creates the thread whose call this is"),
-        meaning(b"O6", b"the plan has no unordered line"),
+        meaning(b"O6", b"the litmus test has no unordered line"),
     ]
 }
 
