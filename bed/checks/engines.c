@@ -215,6 +215,34 @@ static void check_floats(void) {
     kind->unmap(engine, space, 0x700);
     kind->forget(engine, space, &first);
     kind->forget(engine, space, &second);
+    next_code += 2 * CODE_BYTES;
+}
+
+/* Far calls and jumps whose operand is a register. Unicorn calls abort() when it translates them. */
+static void check_untranslatable(void) {
+    static const unsigned char code[] = {
+        0xd9, 0xe8,                 /* fld1 */
+        0x66, 0x0f, 0x6e, 0xc8,     /* movd xmm1, eax */
+        0xff, 0xe9,                 /* a far jump */
+        0x66, 0x0f, 0x7e, 0xc8,     /* movd eax, xmm1 */
+        0xdb, 0x1d, 0, 1, 0x50, 0,  /* fistp dword [0x500100] */
+        0x03, 0x05, 0, 1, 0x50, 0,  /* add eax, [0x500100] */
+        0x0f, 0x0b}, at_end[] = {0x40, 0xff, 0xd8};
+    RUN("far call", 0xff, 0xd8);
+    RUN("far call behind others", 0x40, 0x40, 0x66, 0xff, 0xdf);
+    RUN("far call behind a fault", 0xa1, 0, 0, 0x70, 0, 0xff, 0xd8); /* mov eax, [0x700000] */
+    RUN("far jump behind a division", 0x31, 0xc9, 0xf7, 0xf1, 0xff, 0xe8);
+    kind->map(engine, space, CODE / PAGE_BYTES + 2, 3, L4_READ | L4_EXECUTE);
+    run_at_end("far call at the end", at_end, 3, 0);
+    kind->unmap(engine, space, CODE / PAGE_BYTES + 2);
+    memcpy(frame(0) + (next_code - CODE), code, sizeof code);
+    reset(&registers, next_code);
+    registers.eax = 0x11110000;
+    next_code += CODE_BYTES;
+    run("floats before a far jump", &registers);
+    registers.eax = 0;
+    registers.eip += 2;
+    run("floats behind a far jump", &registers);
 }
 
 static void open_space(void) {
@@ -281,6 +309,7 @@ int main(int count, char **words) {
     check_mappings();
     check_replaced_code();
     check_floats();
+    check_untranslatable();
     kind->forget(engine, space, &registers);
     kind->free_space(engine, space);
     check_spaces();

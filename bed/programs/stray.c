@@ -5,9 +5,9 @@ static unsigned char no_code[] = {0xc3}; /* ret, in a page with rw- */
 
 int main(void) {
     switch (L4_ThreadNo(L4_Myself())) {
-    case 3: __asm__ volatile("hlt"); break;
-    case 4: __asm__ volatile("ud2"); break;
-    case 5: __asm__ volatile("divl %%ecx" : : "a"(1), "d"(0), "c"(0) : "cc"); break;
+    case 3: __asm__ volatile("stray_halt: hlt\n\tnop\n\tnop\n\tnop"); break;
+    case 4: __asm__ volatile("stray_invalid: ud2\n\tnop\n\tnop"); break;
+    case 5: __asm__ volatile("stray_division: divl %%ecx\n\tnop\n\tnop" : : "a"(1), "d"(0), "c"(0) : "cc"); break;
     case 6: *(volatile L4_Word_t *)0x10000 = 1; break;
     case 7: *(volatile L4_Word_t *)CHILD_KIP = 1; break;
     case 8: ((void (*)(void))0x700000)(); break;

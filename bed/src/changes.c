@@ -92,7 +92,7 @@ static uint32_t rounded(struct bed *bed, uint32_t rights) {
     if (!(rights & (L4_WRITE | L4_EXECUTE)) || rights & L4_READ)
         return rights;
     if (!bed->rounded_rights)
-        fprintf(stderr, "l4_bed: note: a page with w or x and without r can be read all the same, because the processor has no such rights\n");
+        note("a page with w or x and without r can be read all the same, because the processor has no such rights");
     bed->rounded_rights = 1;
     return rights | L4_READ;
 }

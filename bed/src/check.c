@@ -9,15 +9,27 @@
 /* The texts of the library are shorter than this. */
 #define TEXT_ROOM 160
 
+static void print_message(const char *kind, const char *format, va_list arguments) {
+    fflush(stdout);
+    fputs(kind, stderr);
+    vfprintf(stderr, format, arguments);
+    fputc('\n', stderr);
+    fflush(stderr);
+}
+
 void fail(int status, const char *format, ...) {
     va_list arguments;
-    fflush(stdout);
-    fputs("l4_bed: ", stderr);
     va_start(arguments, format);
-    vfprintf(stderr, format, arguments);
+    print_message("l4_bed: ", format, arguments);
     va_end(arguments);
-    fputc('\n', stderr);
     exit(status);
+}
+
+void note(const char *format, ...) {
+    va_list arguments;
+    va_start(arguments, format);
+    print_message("l4_bed: note: ", format, arguments);
+    va_end(arguments);
 }
 
 void check_library(uint32_t refusal, const char *what) {

@@ -11,6 +11,9 @@ enum { STATUS_ENDED = 0, STATUS_STUCK = 1, STATUS_INPUT = 2, STATUS_OUTPUT = 3, 
 /* Ends the bed with this status and message. */
 _Noreturn void fail(int status, const char *format, ...) __attribute__((format(printf, 2, 3)));
 
+/* Prints a note on standard error. */
+void note(const char *format, ...) __attribute__((format(printf, 1, 2)));
+
 /* Ends the bed with STATUS_HOST if the library refuses a call that must succeed. */
 void check_library(uint32_t refusal, const char *what);
 

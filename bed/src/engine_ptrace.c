@@ -251,7 +251,7 @@ static void close_engine(struct engine *engine) {
 /* The bed continues without the space: its threads raise an exception when they run. */
 static void lose(struct engine_space *space, const char *why, int error) {
     if (!space->is_lost)
-        fprintf(stderr, "l4_bed: note: a space can no longer run: %s%s\n", why, error == 0 ? "" : strerror(error));
+        note("a space can no longer run: %s%s", why, error == 0 ? "" : strerror(error));
     space->is_lost = 1;
 }
 

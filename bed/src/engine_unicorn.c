@@ -4,6 +4,7 @@
  * memory at the virtual address, and later versions at the physical address; here both are the same.) */
 #define _GNU_SOURCE
 #include "check.h"
+#include "crash.h"
 #include "engine.h"
 #include "tables.h"
 #include <errno.h>
@@ -26,6 +27,10 @@
 #define FIRST_NO_EXCEPTION 32u
 #define FEATURES_MSR UINT32_C(0xc0000080)
 
+/* The flag with which a processor raises DEBUG after each instruction; and more instructions than a block has. */
+#define TRAP_FLAG UINT32_C(0x100)
+#define MAX_STEPS 4096u
+
 struct engine {
     const struct memory *memory;
 };
@@ -44,6 +49,7 @@ struct engine_space {
     uint32_t blocks, block_first, block_bytes;
     int has_accessed; /* the block has accessed memory, last with the right `access` */
     uint32_t access;
+    int has_raised;  /* the processor has raised an exception */
     uint32_t run_on; /* the address of a page that the block continues into and may not execute, or 0 */
 };
 
@@ -56,6 +62,7 @@ static struct engine *open_engine(const struct memory *memory) {
     struct engine *engine = malloc(sizeof *engine);
     check_holds(engine != NULL, "there is not enough memory for an engine");
     engine->memory = memory;
+    crash_begin();
     return engine;
 }
 
@@ -109,23 +116,44 @@ static int is_executable(const struct engine_space *space, uint32_t address) {
     return (tables_find(&space->tables, space->root, address / PAGE_BYTES) & EXECUTABLE) != 0;
 }
 
-/* An instruction that reads and writes one operand faults for w on a processor, and for r in Unicorn. */
-static int writes_what_it_reads(const struct engine_space *space, uint32_t eip) {
-    unsigned char code[MAX_INSTRUCTION + 2] = {0};
+/* Reads the code from eip on, as far as it may be executed, and returns the place of the first byte that is no prefix. Behind the last byte
+ * there are zeros. */
+#define CODE_ROOM (MAX_INSTRUCTION + 2)
+static uint32_t read_code(const struct engine_space *space, uint32_t eip, unsigned char *code) {
     uint32_t k;
+    memset(code, 0, CODE_ROOM);
     for (k = 0; k < MAX_INSTRUCTION && is_executable(space, eip + k); k++)
         code[k] = space->area[eip + k];
     for (k = 0; k < MAX_INSTRUCTION && is_prefix(code[k]); k++)
         continue;
+    return k;
+}
+
+/* Returns whether the instruction is a far call or jump whose operand is a register, which a processor does not have. Unicorn calls abort() when
+ * it translates one, unless an instruction before it in the block has an operand in memory: then Unicorn takes that operand's address. */
+static int is_invalid(const struct engine_space *space, uint32_t eip) {
+    unsigned char code[CODE_ROOM];
+    uint32_t k = read_code(space, eip, code);
+    return code[k] == 0xff && (code[k + 1] & 0xf0) >= 0xd0 && (code[k + 1] & 8) != 0 && code[k + 1] < 0xf0;
+}
+
+static void set_invalid(struct stop *stop) {
+    stop->kind = STOP_BY_TRAP;
+    stop->number = INVALID_OPCODE;
+}
+
+/* An instruction that reads and writes one operand faults for w on a processor, and for r in Unicorn. */
+static int writes_what_it_reads(const struct engine_space *space, uint32_t eip) {
+    unsigned char code[CODE_ROOM];
+    uint32_t k = read_code(space, eip, code);
     if (code[k] == 0x0f)
         return code[k + 2] < 0xc0 && writes_long(code[k + 1], code[k + 2] >> 3 & 7);
     return code[k + 1] < 0xc0 && writes_short(code[k], code[k + 1] >> 3 & 7);
 }
 
 /* The fault belongs to an access of the present block, or to the fetch of the next. */
-static void take_page_fault(struct engine_space *space) {
+static void take_page_fault(struct engine_space *space, uint32_t eip) {
     uint64_t address = 0;
-    uint32_t eip = eip_of(space);
     int is_data = space->has_accessed && eip - space->block_first < space->block_bytes;
     uint32_t access = is_data ? space->access : L4_EXECUTE;
     check_unicorn(uc_reg_read(space->unicorn, UC_X86_REG_CR2, &address), "uc_reg_read");
@@ -136,20 +164,24 @@ static void take_page_fault(struct engine_space *space) {
 
 static void on_exception(uc_engine *unicorn, uint32_t number, void *user) {
     struct engine_space *space = user;
-    if (number == PAGE_FAULT) {
-        take_page_fault(space);
+    uint32_t eip = eip_of(space);
+    space->has_raised = 1;
+    if ((number == PAGE_FAULT || number == GENERAL_PROTECTION) && is_invalid(space, eip)) {
+        set_invalid(space->stop);
+    } else if (number == PAGE_FAULT) {
+        take_page_fault(space, eip);
         return;
+    } else {
+        space->stop->kind = STOP_BY_EXCEPTION;
+        space->stop->number = number;
     }
-    space->stop->kind = STOP_BY_EXCEPTION;
-    space->stop->number = number;
     check_unicorn(uc_emu_stop(unicorn), "uc_emu_stop");
 }
 
 static bool on_invalid(uc_engine *unicorn, void *user) {
     struct engine_space *space = user;
     (void)unicorn;
-    space->stop->kind = STOP_BY_TRAP;
-    space->stop->number = INVALID_OPCODE;
+    set_invalid(space->stop);
     return false;
 }
 
@@ -243,8 +275,21 @@ static void open_memory(struct engine_space *space) {
     tables_open(&space->tables, SHIM);
     space->root = tables_new_tree(&space->tables);
     tables_words(&space->tables, SHIM_DIRECTORY)[LAST_LARGE_PAGE] |= USER;
+}
+
+/* Opens a processor over the memory of the space. */
+static void open_processor(struct engine_space *space) {
+    check_unicorn(uc_open(UC_ARCH_X86, UC_MODE_64, &space->unicorn), "uc_open");
     check_unicorn(uc_mem_map_ptr(space->unicorn, 0, AREA_BYTES, UC_PROT_ALL, space->area), "uc_mem_map_ptr");
     check_unicorn(uc_mem_map_ptr(space->unicorn, SHIM, SYSTEM_BYTES, UC_PROT_ALL, space->tables.system), "uc_mem_map_ptr");
+    set_processor(space);
+}
+
+static void add_hooks(struct engine_space *space) {
+    hook(space, UC_HOOK_INTR, (uintptr_t)on_exception);
+    hook(space, UC_HOOK_INSN_INVALID, (uintptr_t)on_invalid);
+    hook(space, UC_HOOK_MEM_READ | UC_HOOK_MEM_WRITE, (uintptr_t)on_access);
+    hook(space, UC_HOOK_BLOCK, (uintptr_t)on_block);
 }
 
 static struct engine_space *new_space(struct engine *engine, uint32_t gs_base) {
@@ -252,15 +297,11 @@ static struct engine_space *new_space(struct engine *engine, uint32_t gs_base) {
     (void)engine;
     check_holds(space != NULL, "there is not enough memory for a space");
     space->gs_base = gs_base;
-    check_unicorn(uc_open(UC_ARCH_X86, UC_MODE_64, &space->unicorn), "uc_open");
-    check_unicorn(uc_context_alloc(space->unicorn, &space->clean), "uc_context_alloc");
     open_memory(space);
-    set_processor(space);
+    open_processor(space);
+    check_unicorn(uc_context_alloc(space->unicorn, &space->clean), "uc_context_alloc");
     enter_ring_3(space);
-    hook(space, UC_HOOK_INTR, (uintptr_t)on_exception);
-    hook(space, UC_HOOK_INSN_INVALID, (uintptr_t)on_invalid);
-    hook(space, UC_HOOK_MEM_READ | UC_HOOK_MEM_WRITE, (uintptr_t)on_access);
-    hook(space, UC_HOOK_BLOCK, (uintptr_t)on_block);
+    add_hooks(space);
     return space;
 }
 
@@ -400,18 +441,71 @@ static void end_exception(struct engine_space *space) {
     check_unicorn(uc_context_restore(space->unicorn, space->clean), "uc_context_restore");
 }
 
-static void start(struct engine_space *space, uint32_t from, uint64_t until) {
+/* Returns 0 if Unicorn cannot translate the next block: it calls abort() then. */
+static int start(struct engine_space *space, uint32_t from, uint64_t until) {
     space->stop->kind = STOP_BY_BUDGET;
     space->run_on = 0;
     space->blocks = space->block_bytes = 0;
-    space->has_accessed = 0;
+    space->has_accessed = space->has_raised = 0;
+    if (sigsetjmp(crash_return, 0) != 0) {
+        crash_forget();
+        return 0;
+    }
+    crash_is_caught = 1;
     /* the result is known from the hooks */
     uc_emu_start(space->unicorn, from, until, 0, 0);
+    crash_is_caught = 0;
+    return 1;
+}
+
+/* A processor that called abort() is not used again: the space gets another one, in ring 3. */
+static void renew_processor(struct engine_space *space) {
+    keep_floats(space);
+    check_unicorn(uc_close(space->unicorn), "uc_close");
+    open_processor(space);
+    check_unicorn(uc_context_restore(space->unicorn, space->clean), "uc_context_restore");
+    add_hooks(space);
+}
+
+/* Executes one instruction, by the flag that makes the processor raise DEBUG behind it. Returns 0 if Unicorn cannot translate it. */
+static int step(struct engine_space *space, struct registers *registers) {
+    struct registers from = *registers;
+    int is_done;
+    from.eflags |= TRAP_FLAG;
+    load_floats(space, registers);
+    load_general(space, &from);
+    is_done = start(space, registers->eip, RUN_END);
+    keep_general(space, registers);
+    if (is_done)
+        end_exception(space);
+    return is_done;
+}
+
+/* Unicorn could not translate a block. Its instructions are executed one by one, up to the one that Unicorn cannot translate, and that one is an
+ * invalid instruction. */
+static void step_up(struct engine_space *space, struct registers *registers, struct stop *stop) {
+    uint32_t steps, eip;
+    keep_general(space, registers);
+    renew_processor(space);
+    for (steps = 0; steps < MAX_STEPS; steps++) {
+        eip = registers->eip;
+        if (!step(space, registers)) {
+            renew_processor(space);
+            if (registers->eip != eip)
+                continue;
+            set_invalid(stop);
+            return;
+        }
+        if (stop->kind != STOP_BY_EXCEPTION || stop->number != DEBUG)
+            return;
+    }
+    stop->kind = STOP_BY_BUDGET;
 }
 
 /* Unicorn translates a block before it runs the first instruction. If the block continues into a page that may not be executed, the
- * instructions before that page run here: up to the page, or to an instruction that lies in both pages. */
-static void run_up_to(struct engine_space *space, uint32_t page) {
+ * instructions before that page run here: up to the page, or to an instruction that lies in both pages. Returns 0 if Unicorn cannot translate
+ * them. */
+static int run_up_to(struct engine_space *space, uint32_t page) {
     struct registers *owner = space->float_owner, general;
     uint32_t first = eip_of(space), bytes;
     keep_general(space, &general);
@@ -420,15 +514,17 @@ static void run_up_to(struct engine_space *space, uint32_t page) {
         end_exception(space);
         load_floats(space, owner);
         load_general(space, &general);
-        start(space, first, page - bytes);
+        if (!start(space, first, page - bytes))
+            return 0;
         if (space->run_on != 0 || (space->stop->kind == STOP_BY_FAULT && space->stop->access == L4_EXECUTE && eip_of(space) == first))
             continue;
         check_unicorn(uc_ctl_remove_cache(space->unicorn, first, page), "uc_ctl_remove_cache");
         if (space->stop->kind != STOP_BY_BUDGET || eip_of(space) != page - bytes)
-            return;
+            return 1;
         break;
     }
     set_fault(space, page, L4_EXECUTE);
+    return 1;
 }
 
 /* Returns the page that the next block continues into and may not execute, or 0. */
@@ -450,23 +546,31 @@ static void take_interrupt(struct registers *registers, struct stop *stop) {
     registers->eip -= INT_BYTES;
 }
 
-static void run(struct engine *engine, struct engine_space *space, struct registers *registers, struct stop *stop) {
+/* Returns 0 if Unicorn cannot translate a block. */
+static int execute(struct engine_space *space, struct registers *registers) {
     uint32_t page;
+    load_floats(space, registers);
+    load_general(space, registers);
+    if (!start(space, registers->eip, RUN_END))
+        return 0;
+    page = page_ahead(space);
+    if (page != 0 && !run_up_to(space, page))
+        return 0;
+    keep_general(space, registers);
+    if (space->stop->kind == STOP_BY_FAULT || space->has_raised)
+        end_exception(space);
+    return 1;
+}
+
+static void run(struct engine *engine, struct engine_space *space, struct registers *registers, struct stop *stop) {
     (void)engine;
     space->stop = stop;
     if (space->is_changed)
         flush(space);
     space->is_changed = 0;
-    load_floats(space, registers);
-    load_general(space, registers);
-    start(space, registers->eip, RUN_END);
-    page = page_ahead(space);
-    if (page != 0)
-        run_up_to(space, page);
-    keep_general(space, registers);
+    if (!execute(space, registers))
+        step_up(space, registers, stop);
     take_interrupt(registers, stop);
-    if (stop->kind == STOP_BY_FAULT || stop->kind == STOP_BY_EXCEPTION)
-        end_exception(space);
 }
 
 static void forget(struct engine *engine, struct engine_space *space, const struct registers *registers) {

@@ -154,7 +154,7 @@ static void close_output(FILE *file, const char *option) {
 
 void record_end(struct bed *bed) {
     if (bed->script_gaps > 0)
-        fprintf(stderr, "l4_bed: note: the script lacks %u calls that scripts cannot express; --steps writes them all\n", bed->script_gaps);
+        note("the script lacks %u calls that scripts cannot express; --steps writes them all", bed->script_gaps);
     close_output(bed->script, "--script");
     close_output(bed->steps, "--steps");
     bed->script = bed->steps = NULL;

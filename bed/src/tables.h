@@ -38,7 +38,7 @@ enum { PRESENT = 1, WRITABLE = 2, USER = 4, LARGE = 0x80, EXECUTABLE = 0x200 };
 enum { FAULT_WRITE = 2, FAULT_FETCH = 16 };
 
 /* Numbers of exceptions. */
-enum { BREAKPOINT = 3, OVERFLOW = 4, INVALID_OPCODE = 6, NO_COPROCESSOR = 7, GENERAL_PROTECTION = 13, PAGE_FAULT = 14 };
+enum { DEBUG = 1, BREAKPOINT = 3, OVERFLOW = 4, INVALID_OPCODE = 6, NO_COPROCESSOR = 7, GENERAL_PROTECTION = 13, PAGE_FAULT = 14 };
 
 /* Values of the control registers. TASK_SWITCHED makes the next instruction that uses floats raise NO_COPROCESSOR. */
 #define CONTROL_0 UINT64_C(0x80010033) /* paging, write protection, exceptions of the coprocessor, protection */

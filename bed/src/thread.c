@@ -144,9 +144,20 @@ static void point_to_words(struct registers *registers, uint32_t **words) {
     memcpy(words, places, sizeof places);
 }
 
+/* The first bytes of the instruction at which the thread was stopped, as far as it may read them. */
+#define SHOWN_BYTES 4u
+
 static void stop_by_exception(struct bed *bed, struct thread *thread, uint32_t number) {
-    char why[80];
-    snprintf(why, sizeof why, "exception %u (%s), and it has no exception handler", number, exception_text(number));
+    char why[120], bytes[3 * SHOWN_BYTES + 1] = "";
+    uint32_t eip = thread->registers.eip, k;
+    for (k = 0; k < SHOWN_BYTES; k++) {
+        const unsigned char *byte = space_byte(bed, thread->space, eip + k);
+        if (byte == NULL)
+            break;
+        snprintf(bytes + 3 * k, sizeof bytes - 3 * k, " %02x", *byte);
+    }
+    snprintf(why, sizeof why, "exception %u (%s) at %08x%s%s, and it has no exception handler", number, exception_text(number), eip,
+             k > 0 ? ":" : "", bytes);
     stop(bed, thread, why);
 }
 
