@@ -58,6 +58,7 @@ impl Kernel {
     ghost use Rattle.l4_ipc.specs.Events.{Event, IsTrace, IsOnlyTrace};
     ghost use Rattle.l4_ipc.specs.Provenance.{HaveProvenance, NoneThroughFlushed};
     ghost use Rattle.l4_ipc.specs.Delegation.{DeliversDelegations};
+    ghost use Rattle.l4_ipc.specs.Placed.{PlacesDelegations};
     ghost use Rattle.l4_ipc.specs.Reading.{reply_of};
     ghost use Rattle.l4_ipc.specs.declared.steps.Refused.TheVariants.{BadFrames, Lower as IsLower};
     ghost use Rattle.l4_ipc.specs.declared.steps.Lower.TheVariants.{NoMemory as WantOfMemory};
@@ -240,6 +241,8 @@ impl Kernel {
             (λ answers. (events : List Event)
             → IsTrace self.old steps.now answers.items events self.new
             → All DeliversDelegations events) }
+        ensures placed { IfOk result (λ answers. (events : List Event) → IsTrace self.old steps.now answers.items events self.new
+            → All PlacesDelegations events) }
     {
         let mut answers = Vec::with_capacity(self.alloc, steps.len())?;
         self.law_forest();
