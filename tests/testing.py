@@ -20,13 +20,15 @@ TOP = pathlib.Path(__file__).resolve().parents[1]
 PROGRAMS = {"l4": ("L4", "make"), "l4_steps": ("L4_STEPS", "make"), "l4_judge": ("L4_JUDGE", "make test-programs"), "l4_growths": ("L4_GROWTHS", "make test-programs"),
             "l4_resumed": ("L4_RESUMED", "make test-programs")}
 # other files that a test may need
+UNPROVED = bool(os.environ.get("UNPROVED"))
 FILES = {
-    "the C library": ("crates/l4_c/out/libl4_c.a", "make"),
-    "the page": ("web/l4.html", "make web"),
+    "the C library": ("out/unproved/lib/libl4.a", "make try-library") if UNPROVED else ("crates/l4_c/out/libl4_c.a", "make"),
+    "the page": ("out/unproved/l4.html", "make web UNPROVED=yes") if UNPROVED else ("web/l4.html", "make web"),
     "l4 as Rattle's own compiler builds it": ("crates/l4/out/l4.by-rattle", "make test-programs"),
     "l4_steps as Rattle's own compiler builds it": ("crates/l4_steps/out/l4_steps.by-rattle", "make test-programs"),
 }
-ENVIRONMENT = "environment: L4, L4_STEPS, L4_JUDGE, L4_GROWTHS and L4_RESUMED name other programs than those in crates/NAME/out"
+ENVIRONMENT = """environment: L4, L4_STEPS, L4_JUDGE, L4_GROWTHS and L4_RESUMED name other programs than those in crates/NAME/out; UNPROVED=yes tests
+what was built without proofs"""
 SECONDS = 600
 MOST_LINES, MOST_BYTES = 12, 2000
 
@@ -34,7 +36,9 @@ MOST_LINES, MOST_BYTES = 12, 2000
 def program(name):
     """The file of a program under test."""
     variable, _ = PROGRAMS[name]
-    return pathlib.Path(os.environ.get(variable) or TOP / "crates" / name / "out" / name).absolute()
+    tried = TOP / "out/unproved" / name
+    built = tried if UNPROVED and tried.is_file() else TOP / "crates" / name / "out" / name
+    return pathlib.Path(os.environ.get(variable) or built).absolute()
 
 
 def shown(path):

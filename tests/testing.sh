@@ -2,6 +2,10 @@
 #
 # A test program sources this file from the top of the repository, with its description in `about`. `holds` counts a case, `skip` names a
 # part that is left out, and `finish` prints the counts and ends the program.
+if [ -n "${UNPROVED:-}" ]; then
+    # the programs and the library that `make try` and `make try-library` build
+    export L4="${L4:-$PWD/out/unproved/l4}" L4_STEPS="${L4_STEPS:-$PWD/out/unproved/l4_steps}"
+fi
 passed=0
 failed=0
 skipped=
@@ -12,7 +16,7 @@ again=${again#"$PWD"/}
 trap 'rm -rf "$work"' EXIT
 case ${1:-} in
 -h | --help)
-    printf 'usage: %s [--help]\n\n%s\n\nenvironment: none\n' "$again" "$about"
+    printf 'usage: %s [--help]\n\n%s\n\nenvironment: UNPROVED=yes tests the library that `make try-library` builds\n' "$again" "$about"
     exit 0
     ;;
 '') ;;
@@ -75,6 +79,10 @@ needs() {
     local name=$1 tool part
     shift
     for tool; do there "$tool" || { skip "$name" "no $tool"; finish; }; done
+    if [ -n "${UNPROVED:-}" ]; then
+        [ -f out/unproved/lib/libl4.a ] || { skip "$name" 'out/unproved/lib/libl4.a is not there; `make try-library` builds it'; finish; }
+        return
+    fi
     for part in l4_c l4_c_orders l4_c_checkpoints; do
         [ -f crates/$part/out/lib$part.a ] || { skip "$name" "crates/$part/out/lib$part.a is not there; \`make\` builds it"; finish; }
     done
