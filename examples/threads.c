@@ -12,10 +12,10 @@
 #define ROUNDS 100
 #define FIRST 3 /* the members are the L4 threads 3 to 6 */
 
-/* A locked kernel has no lock inside. The mutex protects the handle, and a thread whose call waits sleeps on the condition. */
+/* A locked kernel has no lock inside. The mutex protects the handle, and a thread whose call waits sleeps on the condition of its seat. */
 static l4_lock kernel = L4_EMPTY;
 static pthread_mutex_t mutex = PTHREAD_MUTEX_INITIALIZER;
-static pthread_cond_t changed = PTHREAD_COND_INITIALIZER;
+static pthread_cond_t ended[FIRST + MEMBERS];
 
 /* Returns the id of the thread with this number, version 1. */
 static uint32_t id(uint32_t number) {
@@ -29,18 +29,31 @@ static void stop(const char *where, uint32_t refusal) {
     exit(1);
 }
 
+/* Wakes the seats whose calls ended in the entries from this one on. */
+static void wake(uint64_t number) {
+    uint64_t count = l4_lock_length(&kernel).count;
+    for (; number < count; number++) {
+        l4_entry entry = l4_lock_entry(&kernel, (size_t)number);
+        uint32_t place;
+        for (place = 0; place < entry.ended_count; place++)
+            pthread_cond_signal(&ended[entry.ended[place]]);
+    }
+}
+
 /* Makes a call of the seat's thread, and returns its reply, which another thread's call may have to bring about first. */
 static l4_reply make(uint32_t seat, const l4_call *call, const uint32_t *words, size_t count) {
     l4_seated entered;
     l4_reply reply;
+    uint64_t before;
     pthread_mutex_lock(&mutex);
+    before = l4_lock_length(&kernel).count;
     entered = l4_lock_enter(&kernel, seat, call, words, count);
     if (entered.refusal != L4_OK)
         stop("a call was refused", entered.refusal);
     reply = entered.reply;
-    pthread_cond_broadcast(&changed); /* the call may have ended calls of other seats */
+    wake(before);
     while (reply.kind == L4_NONE) {
-        pthread_cond_wait(&changed, &mutex);
+        pthread_cond_wait(&ended[seat], &mutex);
         reply = l4_lock_take(&kernel, seat);
     }
     pthread_mutex_unlock(&mutex);
@@ -81,6 +94,8 @@ int main(void) {
     pthread_t threads[MEMBERS];
     if (refusal != L4_OK)
         stop("no kernel", refusal);
+    for (member = 0; member < FIRST + MEMBERS; member++)
+        pthread_cond_init(&ended[member], NULL);
     l4_lock_give(&kernel, 2); /* root, which creates the members */
     for (member = 0; member < MEMBERS; member++) {
         l4_call create = {0};

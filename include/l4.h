@@ -684,8 +684,12 @@ l4_verdict l4_check_too_long_sized(const l4_region *region, const uint32_t *page
  * it keeps a receipt of every call that has ended. Use it to share one kernel among the threads of a program.
  *
  * There is no lock inside. Protect the handle with a lock of your own: one call at a time, as for every handle. If l4_lock_enter leaves a
- * call waiting, a later call of another seat may end it. Let the waiting thread sleep, for instance on a condition variable of your lock,
+ * call waiting, a later call of another seat may end it. Let the waiting thread sleep, for instance on a condition variable of its seat,
  * and then fetch the reply with l4_lock_take.
+ *
+ * After l4_lock_enter, wake the seats whose calls ended. These are the members `ended` of the entries that the call appended: those from
+ * the length that l4_lock_length returned before the call. examples/threads.c does this. If you wake every waiting thread instead, each
+ * call costs a wake-up of all of them.
  *
  * The lock keeps at most 1,000,000 entries of the history. Once it keeps more than 999,871, l4_lock_enter refuses every call with L1, and
  * every other function still works. To run longer, hand out the entries from time to time with l4_lock_hand_out. Entries and receipts are

@@ -6,7 +6,7 @@ import time
 from ctypes import byref, c_char
 from dataclasses import dataclass
 from itertools import count
-from typing import Any, Callable, ContextManager, Iterable, Iterator, List, Optional, Set, Tuple, Union
+from typing import Any, Callable, ContextManager, Dict, Iterable, Iterator, List, Optional, Set, Tuple, Union
 
 from . import _library
 from ._handles import Handle, Unique, all_items
@@ -120,11 +120,12 @@ def _receipt(told: _library.l4_receipt) -> Optional[Receipt]:
 
 
 class _Lock(Handle):
-    """A locked kernel of the library. Each call holds the lock, and a condition variable of the lock wakes the threads that wait."""
+    """A locked kernel of the library. Each call holds the lock, and each seat has a condition variable of the lock, on which its thread
+    waits."""
 
     def __init__(self, frames: int, page_bytes: int) -> None:
         super().__init__(_library.l4_lock(), library.l4_lock_new_sized, library.l4_lock_free, frames, page_bytes)
-        self._entered = threading.Condition(self._lock)
+        self._wakers: Dict[int, threading.Condition] = {}
         # the seats whose waits are to end
         self.ended: Set[int] = set()
 
@@ -133,17 +134,26 @@ class _Lock(Handle):
         return SharedKernel.__name__
 
     @property
-    def entered(self) -> threading.Condition:
-        """Returns the condition variable. Raises RuntimeError if `Handle._turn` does."""
-        Forks.check()
-        return self._entered
+    def entered(self) -> ContextManager[Any]:
+        """Returns the lock. Raises RuntimeError if `Handle._turn` does."""
+        return self._turn
+
+    def waker(self, seat: int) -> threading.Condition:
+        """Returns the condition variable of a seat. The lock must be held."""
+        return self._wakers.setdefault(seat, threading.Condition(self._lock))
+
+    def wake(self, seat: int) -> None:
+        """Wakes the thread that waits in a call of this seat, if there is one. The lock must be held."""
+        if seat in self._wakers:
+            self._wakers[seat].notify_all()
 
     def close(self) -> None:
         """Frees the kernel, even if calls wait, and wakes the threads that wait for them."""
         super().close()
         if not Forks.among_threads:
-            with self._entered:
-                self._entered.notify_all()
+            with self._lock:
+                for seat in self._wakers:
+                    self.wake(seat)
 
     def answer(self, function: Callable[..., Any], *values: Any) -> Any:
         """Calls the library function, and returns its result. Raises ValueError if the kernel is closed."""
@@ -245,7 +255,7 @@ class SharedKernel(Unique, Queries):
         the call continues. This has no effect on a seat that does not wait in one of them."""
         with self._lock.entered:
             self._lock.ended.add(number(number_of_thread, "a thread number"))
-            self._lock.entered.notify_all()
+            self._lock.wake(number_of_thread)
 
     def steps(self) -> int:
         """Returns the number of steps since boot when the last call was entered. It never decreases, and the method never waits."""
@@ -381,7 +391,7 @@ class Seat(Unique):
         with entered:
             reply = self._enter(call)
             while reply is None:
-                entered.wait()
+                self._kernel._lock.waker(self._number).wait()
                 reply = self.take()
             return reply
 
@@ -392,8 +402,13 @@ class Seat(Unique):
         told = kernel._lock.answer(library.l4_lock_enter, self._number, *given)
         if told.refusal:
             raise Refused(told.refusal, told.detail)
-        kernel._steps = kernel._lock.answer(library.l4_lock_length).count
-        kernel._lock.entered.notify_all()
+        steps = kernel._lock.answer(library.l4_lock_length).count
+        # if an exception ends this loop, the next call wakes these seats
+        for place in range(kernel._steps, steps):
+            entry = kernel._lock.answer(library.l4_lock_entry, place)
+            for seat in entry.ended[: entry.ended_count]:
+                kernel._lock.wake(seat)
+        kernel._steps = steps
         return reply_of(told.reply)
 
     def call_for(self, call: Call, seconds: float) -> Optional[Reply]:
@@ -423,7 +438,7 @@ class Seat(Unique):
                 reply, left = self.take(), end - time.monotonic()
                 if reply is not None or left <= 0 or self._number in lock.ended:
                     return reply
-                lock.entered.wait(left)
+                lock.waker(self._number).wait(left)
 
     def poll(self) -> bool:
         """Returns whether an earlier call has ended since, so that `take` returns its reply. This method never waits for the end of a call."""

@@ -3,7 +3,7 @@ use crate::ffi::{self, Handle};
 use crate::{
     queries, Call, Kernel, Mapping, Outcome, PageSize, Place, Refusal, Reply, Rights, Step, Thread,
 };
-use std::collections::HashSet;
+use std::collections::{HashMap, HashSet};
 use std::error::Error;
 use std::fmt;
 use std::sync::atomic::{AtomicU64, Ordering};
@@ -215,12 +215,11 @@ impl fmt::Debug for Segment {
     }
 }
 
-/// What threads share: the locked kernel, the condition variable that wakes waiting threads when a call is entered or a wait is ended, the
-/// seats whose waits are to end, the history's length, and the number of frames at boot. The seats are changed only while the kernel is
-/// locked.
+/// What threads share: the locked kernel, the condition variable of each seat, the seats whose waits are to end, the history's length, and
+/// the number of frames at boot. All but the length are used only while the kernel is locked.
 struct Shared {
     lock: Mutex<Handle<ffi::l4_lock>>,
-    entered: Condvar,
+    wakers: Mutex<HashMap<u32, Arc<Condvar>>>,
     ended: Mutex<HashSet<u32>>,
     steps: AtomicU64,
     frames: u32,
@@ -235,6 +234,26 @@ impl Shared {
     /// Returns the seats whose waits are to end.
     fn ended(&self) -> MutexGuard<'_, HashSet<u32>> {
         self.ended.lock().unwrap_or_else(PoisonError::into_inner)
+    }
+
+    /// Returns the condition variable of each seat.
+    fn wakers(&self) -> MutexGuard<'_, HashMap<u32, Arc<Condvar>>> {
+        self.wakers.lock().unwrap_or_else(PoisonError::into_inner)
+    }
+
+    /// Wakes the threads of other seats whose calls ended in the entries since `first`, and notes the history's length.
+    fn wake(&self, lock: &Handle<ffi::l4_lock>, first: u64, own: u32) {
+        let count = lock.length().count;
+        self.steps.store(count, Ordering::SeqCst);
+        let wakers = self.wakers();
+        for number in first..count {
+            let entry = lock.entry(number as usize);
+            for ended in &entry.ended[..entry.ended_count as usize] {
+                if let Some(waker) = wakers.get(ended).filter(|_| *ended != own) {
+                    waker.notify_one();
+                }
+            }
+        }
     }
 }
 
@@ -275,7 +294,7 @@ impl SharedKernel {
             Ok(handle) => Ok(SharedKernel {
                 shared: Arc::new(Shared {
                     lock: Mutex::new(handle),
-                    entered: Condvar::new(),
+                    wakers: Mutex::new(HashMap::new()),
                     ended: Mutex::new(HashSet::new()),
                     steps: AtomicU64::new(0),
                     frames,
@@ -291,11 +310,17 @@ impl SharedKernel {
     ///
     /// In this order: L4, NoMemory.
     pub fn seat(&self, number: u32) -> Result<Seat, Refusal> {
-        match self.shared.lock().give(number) {
-            ffi::L4_OK => Ok(Seat {
-                shared: Arc::clone(&self.shared),
-                number,
-            }),
+        let mut lock = self.shared.lock();
+        match lock.give(number) {
+            ffi::L4_OK => {
+                let woken = Arc::new(Condvar::new());
+                self.shared.wakers().insert(number, Arc::clone(&woken));
+                Ok(Seat {
+                    shared: Arc::clone(&self.shared),
+                    woken,
+                    number,
+                })
+            }
             refusal => Err(Refusal::of(refusal, 0)),
         }
     }
@@ -305,7 +330,9 @@ impl SharedKernel {
     pub fn end_wait(&self, number: u32) {
         let _lock = self.shared.lock();
         self.shared.ended().insert(number);
-        self.shared.entered.notify_all();
+        if let Some(waker) = self.shared.wakers().get(&number) {
+            waker.notify_one();
+        }
     }
 
     /// Returns the number of steps since boot when the last call was entered. It never decreases, and the method never waits.
@@ -532,6 +559,7 @@ impl Error for Unclosed {}
 /// The right to make the calls of one thread number, from [`SharedKernel::seat`].
 pub struct Seat {
     shared: Arc<Shared>,
+    woken: Arc<Condvar>,
     number: u32,
 }
 
@@ -556,8 +584,7 @@ impl Seat {
                 return Ok(reply);
             }
             lock = self
-                .shared
-                .entered
+                .woken
                 .wait(lock)
                 .unwrap_or_else(PoisonError::into_inner);
             reply = Reply::of(&lock.take(self.number));
@@ -571,14 +598,12 @@ impl Seat {
         call: &Call,
     ) -> Result<Option<Reply>, Refusal> {
         let (given, words) = call.given();
+        let first = self.shared.steps.load(Ordering::SeqCst);
         let told = lock.enter(self.number, given, words);
         if told.refusal != ffi::L4_OK {
             return Err(Refusal::of(told.refusal, told.detail));
         }
-        self.shared
-            .steps
-            .store(lock.length().count, Ordering::SeqCst);
-        self.shared.entered.notify_all();
+        self.shared.wake(lock, first, self.number);
         Ok(Reply::of(&told.reply))
     }
 
@@ -645,8 +670,7 @@ impl Seat {
                 return None;
             }
             lock = self
-                .shared
-                .entered
+                .woken
                 .wait_timeout(lock, left)
                 .unwrap_or_else(PoisonError::into_inner)
                 .0;
