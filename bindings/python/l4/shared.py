@@ -264,8 +264,33 @@ class SharedKernel(Unique, Queries):
     def history(self) -> Tuple[Entry, ...]:
         """Returns the steps that the kernel keeps: those since the last segment was handed out, or since boot."""
         with self._lock.entered:
-            first = self._lock.answer(library.l4_lock_kept_from).count
-            return tuple(_until_none(_entry(self._lock.answer(library.l4_lock_entry, number)) for number in count(first)))
+            return self.entries(self._lock.answer(library.l4_lock_kept_from).count)
+
+    def entries(self, since: int) -> Tuple[Entry, ...]:
+        """Returns the steps from this number on, which counts since boot from 0. Raises Refused with L8 if the step with this number was
+        handed out.
+
+        To follow a run, pass the number of the first step that you have not seen: the method reads only the steps from there on. There is
+        none if the number is not below `steps`.
+
+        >>> from l4 import Call, SharedKernel, ThreadId
+        >>> kernel = SharedKernel(1)
+        >>> root = kernel.seat(2)
+        >>> _ = root.call(Call.set_pager(ThreadId.ROOT, ThreadId.NIL)), root.call_for(Call.receive(), 0)
+        >>> [str(entry) for entry in kernel.entries(1)]
+        ['start 2 ipc 0x00000000 0xffffffff 0x00000000 0x00000000']
+        """
+        first = number(since, "an entry", 64)
+        with self._lock.entered:
+            return tuple(_until_none(self.entry(place) for place in count(first)))
+
+    def entry(self, number_of_entry: int) -> Optional[Entry]:
+        """Returns the step with this number, which counts since boot from 0, or None if there is no such step yet. Raises Refused with L8
+        if the step was handed out."""
+        told = self._lock.answer(library.l4_lock_entry, number(number_of_entry, "an entry", 64))
+        if told.refusal:
+            raise Refused(told.refusal)
+        return _entry(told)
 
     def hand_out(self) -> Segment:
         """Hands out the steps that the kernel keeps, and forgets the receipts of all seats.

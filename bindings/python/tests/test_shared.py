@@ -170,6 +170,29 @@ class Shared(unittest.TestCase):
         self.assertEqual(kernel.close([root]), ())
         self.assertEqual(len(list(later)), 1)
 
+    def test_later_steps_are_read_alone(self):
+        kernel = SharedKernel()
+        root = kernel.seat(2)
+        for number in range(3, 6):
+            root.call(create(number))
+        history = kernel.history()
+        self.assertEqual(len(history), 3)
+        self.assertEqual(kernel.entries(0), history)
+        self.assertEqual(kernel.entries(2), history[2:])
+        self.assertEqual((kernel.entries(3), kernel.entries(2**64 - 1)), ((), ()))
+        self.assertEqual((kernel.entry(1), kernel.entry(3)), (history[1], None))
+        kernel.hand_out()
+        root.call(create(6))
+        for read_step in (kernel.entries, kernel.entry):
+            with self.assertRaises(Refused) as refused:
+                read_step(2)
+            self.assertEqual(refused.exception.code, "L8")
+        self.assertEqual(kernel.entries(3), kernel.history())
+        self.assertEqual(len(kernel.history()), 1)
+        for bad in (-1, 2**64):
+            self.assertRaises(ValueError, kernel.entries, bad)
+            self.assertRaises(ValueError, kernel.entry, bad)
+
     def test_a_call_goes_on_after_its_wait(self):
         kernel = SharedKernel(1)
         sigma0, root = kernel.seat(1), kernel.seat(2)

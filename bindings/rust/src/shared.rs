@@ -343,9 +343,46 @@ impl SharedKernel {
     /// Returns the steps that the kernel keeps: those since the last segment was handed out, or since boot.
     pub fn history(&self) -> Vec<Entry> {
         let lock = self.shared.lock();
-        (lock.kept_from().count..)
-            .map_while(|number| Entry::of(&lock.entry(number as usize)))
-            .collect()
+        entries_of(&lock, lock.kept_from().count)
+    }
+
+    /// Returns the steps from this number on, which counts since boot from 0. To follow a run, pass the number of the first step that you
+    /// have not seen: the method reads only the steps from there on. There is none if the number is not below [`steps`](SharedKernel::steps).
+    ///
+    /// ```
+    /// use l4::{Call, Fpage, SharedKernel, ThreadId, Timeout};
+    /// use std::time::Duration;
+    /// let kernel = SharedKernel::new(1)?;
+    /// let mut root = kernel.seat(2)?;
+    /// root.call(&Call::set_pager(ThreadId::ROOT, ThreadId::NIL))?;
+    /// root.call_for(&Call::receive(ThreadId::ANY, Fpage::NIL, Timeout::Never), Duration::ZERO)?;
+    /// assert_eq!(kernel.entries(1)?[0].to_string(), "start 2 ipc 0x00000000 0xffffffff 0x00000000 0x00000000");
+    /// assert_eq!(kernel.entries(2)?, []);
+    /// # Ok::<(), l4::Refusal>(())
+    /// ```
+    ///
+    /// # Errors
+    ///
+    /// L8 if the step with this number was handed out.
+    pub fn entries(&self, since: u64) -> Result<Vec<Entry>, Refusal> {
+        let lock = self.shared.lock();
+        if since < lock.kept_from().count {
+            return Err(Refusal::of(ffi::L4_L8, 0));
+        }
+        Ok(entries_of(&lock, since))
+    }
+
+    /// Returns the step with this number, which counts since boot from 0, or `None` if there is no such step yet.
+    ///
+    /// # Errors
+    ///
+    /// L8 if the step was handed out.
+    pub fn entry(&self, number: u64) -> Result<Option<Entry>, Refusal> {
+        let told = self.shared.lock().entry(number as usize);
+        match told.refusal {
+            ffi::L4_OK => Ok(Entry::of(&told)),
+            refusal => Err(Refusal::of(refusal, 0)),
+        }
     }
 
     /// Hands out the steps that the kernel keeps, and forgets the receipts of all seats. From then on, the kernel keeps the steps and
@@ -695,6 +732,13 @@ impl fmt::Debug for Seat {
     fn fmt(&self, out: &mut fmt::Formatter<'_>) -> fmt::Result {
         write!(out, "Seat({})", self.number)
     }
+}
+
+/// Returns the entries from this number on.
+fn entries_of(lock: &Handle<ffi::l4_lock>, since: u64) -> Vec<Entry> {
+    (since..lock.length().count)
+        .map_while(|number| Entry::of(&lock.entry(number as usize)))
+        .collect()
 }
 
 /// Returns the receipt that the library reports, or `None` if there is none.

@@ -209,6 +209,29 @@ fn receipts_and_steps_of_later_calls_continue_their_numbers() {
 }
 
 #[test]
+fn later_steps_are_read_alone() {
+    let kernel = SharedKernel::new(256).unwrap();
+    let mut root = kernel.seat(2).unwrap();
+    for number in 3..6 {
+        root.call(&create(number, ThreadId::NIL)).unwrap();
+    }
+    let history = kernel.history();
+    assert_eq!(history.len(), 3);
+    assert_eq!(kernel.entries(0).unwrap(), history);
+    assert_eq!(kernel.entries(2).unwrap(), history[2..]);
+    assert_eq!(kernel.entries(3), Ok(Vec::new()));
+    assert_eq!(kernel.entries(u64::MAX), Ok(Vec::new()));
+    assert_eq!(kernel.entry(1).unwrap().as_ref(), Some(&history[1]));
+    assert_eq!(kernel.entry(3), Ok(None));
+    kernel.hand_out().unwrap();
+    root.call(&create(6, ThreadId::NIL)).unwrap();
+    assert_eq!(kernel.entries(2), Err(Refusal::HandedOut));
+    assert_eq!(kernel.entry(2), Err(Refusal::HandedOut));
+    assert_eq!(kernel.entries(3).unwrap(), kernel.history());
+    assert_eq!(kernel.history().len(), 1);
+}
+
+#[test]
 fn a_call_goes_on_after_its_wait() {
     let kernel = SharedKernel::new(1).unwrap();
     let [mut sigma0, mut root] = [1, 2].map(|number| kernel.seat(number).unwrap());
