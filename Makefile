@@ -17,7 +17,10 @@ VERSION = 0.1.0
 # The archive calls three of the toolchain's functions for memory, which are in this archive.
 HEAP = $(dir $(firstword $(shell rt doc)))c/liblibc_c.a
 PART = $(patsubst lib%.a,%,$(@F))
-SONAME = libl4.so.0
+# Versions fit together if their first numbers are equal and, where these are 0, their second numbers are equal too. So these numbers are in
+# the soname, and in the version of each name that the shared library exports.
+ABI = $(if $(filter 0.%,$(VERSION)),$(basename $(VERSION)),$(basename $(basename $(VERSION))))
+SONAME = libl4.so.$(ABI)
 TRY = out/unproved
 NOT_PROVED = nothing in it is proved; `make` builds the proved one
 
@@ -99,9 +102,9 @@ $(OUT)/libl4.a: $(PARTS)
 	cd $(OUT) && ar x $(HEAP) heap.pic.o && ar qs libl4.a heap.pic.o && rm heap.pic.o
 
 # The shared library is all of the archive, and shows the names of the header alone.
-$(OUT)/exports: include/l4.h
+$(OUT)/exports: include/l4.h Makefile
 	mkdir -p $(@D)
-	{ echo '{ global:'; sed -n 's/^[a-z0-9_]* \(l4_[a-z0-9_]*\)(.*/    \1;/p' $<; echo '    local: *; };'; } > $@
+	{ echo 'LIBL4_$(ABI) { global:'; sed -n 's/^[a-z0-9_]* \(l4_[a-z0-9_]*\)(.*/    \1;/p' $<; echo '    local: *; };'; } > $@
 
 $(OUT)/$(SONAME): $(OUT)/libl4.a $(OUT)/exports
 	$(CC) -shared -o $@ -Wl,-soname,$(SONAME) -Wl,--version-script=$(OUT)/exports -Wl,--whole-archive $< -Wl,--no-whole-archive

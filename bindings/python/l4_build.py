@@ -64,9 +64,9 @@ def platform_tag(library: bytes) -> str:
     """Returns the platform tag of a wheel with this library. If the library depends only on glibc, the wheel works on every Linux for this
     processor whose glibc is new enough (PEP 600); otherwise the tag is that of this machine."""
     own = re.sub("[-.]", "_", sysconfig.get_platform())
-    needed = set(re.findall(rb"\0((?:lib|ld-)[\w.+-]*\.so[.\d]*)(?=\0)", library))
+    needed = {name for name in re.findall(rb"\0((?:lib|ld-)[\w.+-]*\.so[.\d]*)(?=\0)", library) if not name.startswith(b"libl4.so.")}
     versions = [int(minor) for minor in re.findall(rb"\0GLIBC_2\.(\d+)", library)]
-    if own.startswith("linux_") and versions and needed <= {b"libl4.so.0", b"libc.so.6", b"ld-linux-x86-64.so.2", b"ld-linux-aarch64.so.1"}:
+    if own.startswith("linux_") and versions and needed <= {b"libc.so.6", b"ld-linux-x86-64.so.2", b"ld-linux-aarch64.so.1"}:
         return f"manylinux_2_{max(5, *versions)}_{own[len('linux_'):]}"
     return own
 
