@@ -24,7 +24,10 @@ from typing import Any, Dict, List, Optional
 HERE = Path(__file__).resolve().parent
 # where the package loads the library from
 BESIDE = HERE / "l4" / "libl4.so"
-GET = "make install-library PREFIX=$HOME/l4 builds it; then set L4_LIB_DIR to $HOME/l4/lib, or PKG_CONFIG_PATH to $HOME/l4/lib/pkgconfig"
+GET = (
+    "make install-library PREFIX=$HOME/l4 proves and builds it; then set L4_LIB_DIR to $HOME/l4/lib, or PKG_CONFIG_PATH to $HOME/l4/lib/pkgconfig. "
+    "make try-library builds it without proofs in a few minutes; then set L4_LIB_DIR to out/unproved/usr/lib in the folder of the repository"
+)
 
 
 class Unbuilt(Exception):

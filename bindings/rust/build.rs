@@ -53,7 +53,7 @@ fn main() {
         }
         Err(why) => {
             println!("cargo:rustc-cfg=l4_missing");
-            println!("cargo:rustc-env=L4_MISSING={why}. Run `make install-library PREFIX=$HOME/l4`, and set L4_LIB_DIR=$HOME/l4/lib or PKG_CONFIG_PATH=$HOME/l4/lib/pkgconfig");
+            println!("cargo:rustc-env=L4_MISSING={why}. Run `make install-library PREFIX=$HOME/l4`, and set L4_LIB_DIR=$HOME/l4/lib or PKG_CONFIG_PATH=$HOME/l4/lib/pkgconfig. This proves the library first, which takes long. To try the library without proofs, run `make try-library` in the folder LYCHEEYARD of the repository, and set L4_LIB_DIR=LYCHEEYARD/out/unproved/usr/lib");
         }
     }
 }
