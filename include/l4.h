@@ -198,6 +198,68 @@ uint32_t l4_version(void);
 #define L4_O6 UINT32_C(0x4F36) /* the litmus test has no unordered line */
 #define L4_NO_MEMORY UINT32_C(0x4E6F) /* there was not enough memory */
 
+/* The same refusals by name. */
+#define L4_EMPTY_HANDLE L4_B1
+#define L4_HANDLE_IN_USE L4_B2
+#define L4_UNKNOWN_CALL L4_B3
+#define L4_BAD_PAGE_SIZE L4_B4
+#define L4_NOT_A_STEP L4_B5
+#define L4_NOT_A_CHECKPOINT L4_B6
+#define L4_STEP_NOT_ENABLED L4_K1
+#define L4_NO_SUCH_THREAD L4_K2
+#define L4_STILL_WAITING L4_K3
+#define L4_BAD_TIMEOUT L4_K4
+#define L4_BAD_FRAME_COUNT L4_K6
+#define L4_TOO_MANY_WORDS L4_M1
+#define L4_ODD_ITEM_WORDS L4_M2
+#define L4_BAD_ITEM L4_M3
+#define L4_UNSUPPORTED_ITEM L4_M4
+#define L4_TAG_HAS_FLAGS L4_M5
+#define L4_BAD_WINDOW L4_M6
+#define L4_TOO_FEW_WORDS L4_M7
+#define L4_NOT_ROOT L4_H1
+#define L4_BAD_THREAD_ID L4_H2
+#define L4_THREAD_EXISTS L4_H3
+#define L4_NO_SUCH_ID L4_H4
+#define L4_TOO_MANY_THREADS L4_H5
+#define L4_UNDELETABLE L4_H6
+#define L4_BAD_UNMAP_WORD L4_U1
+#define L4_TOO_FEW_UNMAP_WORDS L4_U2
+#define L4_EMPTY_REGION L4_N1
+#define L4_REGION_BEYOND_SPACE L4_N2
+#define L4_REGION_WITHOUT_RIGHTS L4_N3
+#define L4_PLAN_TOO_LONG L4_N4
+#define L4_SEVERAL_MESSAGES L4_N5
+#define L4_NO_SUCH_MESSAGE L4_N6
+#define L4_FOREIGN_ITEM L4_C1
+#define L4_PAGE_NOT_MOVED L4_C2
+#define L4_FOREIGN_PAGE L4_C3
+#define L4_PAGE_NOT_APART L4_C4
+#define L4_BAD_PAGE_COUNT L4_C5
+#define L4_REFUSED_REGION L4_C6
+#define L4_REGIONS_OVERLAP L4_P1
+#define L4_NOT_SERVED L4_P2
+#define L4_FULL_TABLE L4_P3
+#define L4_BAD_REGION L4_P4
+#define L4_HISTORY_FULL L4_L1
+#define L4_REPLY_WAITING L4_L3
+#define L4_SEAT_TAKEN L4_L4
+#define L4_MEMORY_FOUND_SINCE L4_L6
+#define L4_OTHER_PROVENANCE L4_L7
+#define L4_HANDED_OUT L4_L8
+#define L4_SEAT_MISSING L4_X1
+#define L4_SEAT_FOREIGN L4_X2
+#define L4_SEAT_WRONG L4_X3
+#define L4_BAD_LINE L4_S2
+#define L4_LONG_LINE L4_S3
+#define L4_CUT_LINE L4_S4
+#define L4_PART_REPEATED L4_O1
+#define L4_LINE_OF_NO_THREAD L4_O2
+#define L4_NOT_A_QUERY L4_O3
+#define L4_STEPS_IN_PLAN L4_O4
+#define L4_NEVER_CREATED L4_O5
+#define L4_NO_UNORDERED L4_O6
+
 /* Write the printed code of a refusal ("K1", "NoMemory"), or a line of text that explains it, to out. At most the first `room` - 1 bytes
  * are written, and a 0 after them; nothing is written if room is 0. Both functions return the length of the whole text without the 0. It is
  * below 160, and 0 for a number that is not a refusal. */
@@ -1005,14 +1067,24 @@ typedef struct l4_checkpoint {
  * checkpoint, or NoMemory. */
 l4_checkpoint l4_checkpoint_read(l4_kernel *kernel, const uint8_t *bytes, size_t length);
 
-/* CONSTRUCTORS AND READERS. These functions are inline, and do not call the library unless they take a handle. */
+/* CONSTRUCTORS AND READERS. These functions are inline, and do not call the library unless they take a handle.
+ *
+ * A constructor takes each argument modulo the range that its comment gives: of a greater number, the higher bits are dropped. If
+ * L4_CHECK_RANGES is defined where this header is included, the constructors assert these ranges with the assert of assert.h instead. */
+#ifdef L4_CHECK_RANGES
+#include <assert.h>
+#define L4_IN_RANGE(holds) assert(holds)
+#else
+#define L4_IN_RANGE(holds) ((void)0)
+#endif
 
 /* The thread ids of sigma0 and root. */
 #define L4_SIGMA0_ID UINT32_C(0x4001)
 #define L4_ROOT_ID UINT32_C(0x8001)
 
-/* Returns the thread id of a thread number, 1 to 262,143, and a version, 1 to 16,383. */
+/* Returns the thread id of a thread number below 2^18 and a version below 2^14. l4_id_is_valid says whether a thread can have it. */
 static inline uint32_t l4_id(uint32_t number, uint32_t version) {
+    L4_IN_RANGE(number < UINT32_C(1) << 18 && version < UINT32_C(1) << 14);
     return number << 14 | (version & 0x3FFF);
 }
 
@@ -1032,8 +1104,10 @@ static inline int l4_id_is_valid(uint32_t id) {
     return id >> 14 != 0 && (id & 0x3F) != 0 && id != L4_ANYTHREAD;
 }
 
-/* Returns the timeouts member of a call. Each timeout is 0, which means never, or L4_ZERO_TIMEOUT. */
+/* Returns the timeouts member of a call. Each timeout is 0, which means never, or L4_ZERO_TIMEOUT. A receive timeout of 2^16 or more also
+ * sets bits of the send timeout. */
 static inline uint32_t l4_timeouts(uint32_t send, uint32_t receive) {
+    L4_IN_RANGE(send < UINT32_C(1) << 16 && receive < UINT32_C(1) << 16);
     return send << 16 | receive;
 }
 
@@ -1052,8 +1126,9 @@ static inline uint32_t l4_fpage(uint32_t base, uint32_t log, uint32_t rights) {
     return base >> log << log | log << 4 | (rights & 7);
 }
 
-/* Returns the fpage of one page of L4_PAGE_BYTES bytes, from its page number, with these rights. */
+/* Returns the fpage of one page of L4_PAGE_BYTES bytes, from its page number below L4_SPACE_PAGES (2^20), with these rights. */
 static inline uint32_t l4_fpage_of_page(uint32_t page, uint32_t rights) {
+    L4_IN_RANGE(page < L4_SPACE_PAGES);
     return l4_fpage(page << L4_PAGE_LOG, L4_PAGE_LOG, rights);
 }
 
@@ -1106,8 +1181,10 @@ static inline uint32_t l4_item_base(uint32_t first) {
     return first >> 10 << 10;
 }
 
-/* Returns the tag of a message: its label, of 16 bits, its number of untyped words, and its number of words of items, two for each. */
+/* Returns the tag of a message: its label below 2^16, its number of untyped words below 2^6, and its number of words of items, two for
+ * each, below 2^6. */
 static inline uint32_t l4_tag(uint32_t label, uint32_t untyped, uint32_t typed) {
+    L4_IN_RANGE(label < UINT32_C(1) << 16 && untyped < 64 && typed < 64);
     return label << 16 | (typed & 63) << 6 | (untyped & 63);
 }
 

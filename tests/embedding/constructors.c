@@ -86,6 +86,9 @@ static void ids(l4_kernel *kernel) {
         }
     }
     EXPECT(l4_id(1, 1) == L4_SIGMA0_ID && l4_id(2, 1) == L4_ROOT_ID, 1);
+    /* the higher bits of a greater number are dropped */
+    EXPECT(l4_id(UINT32_C(1) << 18 | 2, UINT32_C(1) << 14 | 1) == L4_ROOT_ID && l4_tag(0x12345, 64 | 1, 64 | 2) == 0x23450081, 2);
+    EXPECT(l4_fpage_of_page(L4_SPACE_PAGES | 16, 8 | 7) == 0x100c7, 3);
 }
 
 /* The items and the tag of a plan's message. */
