@@ -2,6 +2,7 @@
 #define _GNU_SOURCE
 #include "../src/check.h"
 #include "../src/engine.h"
+#include "../src/signals.h"
 #include <l4.h>
 #include <stdio.h>
 #include <string.h>
@@ -292,7 +293,11 @@ static const struct engine_kind *named(const char *name) {
     fail(STATUS_INPUT, "%s: no such engine", name);
 }
 
+static void save_nothing(void) {
+}
+
 int main(int count, char **words) {
+    signals_begin(save_nothing);
     check_holds(count == 2, "usage: engines NAME");
     kind = named(words[1]);
     memory.frames = FRAMES;

@@ -3,8 +3,8 @@
 #define BED_H
 
 #include "engine.h"
+#include "output.h"
 #include <l4.h>
-#include <stdio.h>
 
 #define SIGMA0 1u
 #define ROOT 2u
@@ -75,6 +75,13 @@ struct costs {
     uint64_t calls, faults, runs, mapped, unmapped;
 };
 
+/* Limits of a run: seconds of the host, calls of the kernel, and mebibytes of the host's memory. 0 means that there is none. */
+struct limits {
+    uint64_t seconds, calls, memory;
+};
+
+enum end { NOT_ENDED, ENDED_BY_PROGRAM, ENDED_BY_LIMIT, ENDED_BY_SIGNAL, ENDED_BY_OUTPUT };
+
 struct bed {
     const struct engine_kind *kind;
     struct engine *engine;
@@ -90,10 +97,15 @@ struct bed {
     struct changes changes;
     int prints_lines, verifies;
     uint32_t traced; /* the number of the thread whose calls are printed, or 0 */
-    FILE *script, *steps;
     uint32_t script_gaps; /* calls that the language of scripts cannot express */
     int rounded_rights;   /* the bed has said that the engine rounds rights up */
-    int is_over;
+    struct limits limits;
+    struct {
+        uint64_t start, last; /* times in nanoseconds */
+        int memory;           /* the file from which the bed reads its own memory */
+    } watch;
+    enum end end;
+    char end_reason[80];
     struct costs costs;
 };
 
@@ -117,10 +129,19 @@ void kernel_begin_sigma0(struct bed *bed);
 void print_line(const struct bed *bed, const char *format, ...) __attribute__((format(printf, 2, 3)));
 const char *rights_text(uint32_t rights);
 
+/* end.c */
+void end_begin(struct bed *bed);
+/* Ends the run if it has reached a limit, if a signal asks for it, or if an output cannot be written. Writes whole lines from time to time. */
+void end_watch(struct bed *bed);
+/* Prints why the run has ended, and what each thread does, unless a program has ended it. */
+void end_report(const struct bed *bed);
+/* Returns the exit status; or ends the bed by the signal that has ended the run. */
+int end_status(const struct bed *bed);
+
 /* record.c: the run as a script for `l4`, and as a list for `l4_steps`. */
 void record_begin(struct bed *bed);
 void record_call(struct bed *bed, uint32_t thread, const l4_call *call, const uint32_t *words, size_t count);
-void record_step(struct bed *bed, const l4_step *step);
+void record_step(const l4_step *step);
 void record_end(struct bed *bed);
 
 /* trace.c: the calls of one thread by name. */

@@ -239,7 +239,7 @@ static void print_char(struct thread *thread, unsigned char byte) {
     if (byte != '\n' && thread->text_length < sizeof thread->text - 1)
         return;
     thread->text[thread->text_length] = 0;
-    printf("%u | %s\n", thread->number, thread->text);
+    print("%u | %s\n", thread->number, thread->text);
     thread->text_length = 0;
 }
 
@@ -266,8 +266,8 @@ enum { KDB_CHAR, KDB_STRING, KDB_ENTER };
 static void end_run(struct bed *bed, struct thread *thread, const char *text) {
     if (thread->text_length > 0)
         print_char(thread, '\n');
-    printf("%u ends the run: %s\n", thread->number, text);
-    bed->is_over = 1;
+    print("%u ends the run: %s\n", thread->number, text);
+    bed->end = ENDED_BY_PROGRAM;
 }
 
 /* Returns 0 if the thread makes the call again. */

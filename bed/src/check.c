@@ -9,7 +9,15 @@
 /* The texts of the library are shorter than this. */
 #define TEXT_ROOM 160
 
+static void (*before_message)(void);
+
+void check_before_message(void (*function)(void)) {
+    before_message = function;
+}
+
 static void print_message(const char *kind, const char *format, va_list arguments) {
+    if (before_message != NULL)
+        before_message();
     fflush(stdout);
     fputs(kind, stderr);
     vfprintf(stderr, format, arguments);

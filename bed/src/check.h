@@ -5,8 +5,11 @@
 #include <stdint.h>
 
 /* Exit statuses: the last program waits or was stopped; the command line or a program's file is invalid; output cannot be written; the
- * engine or the host cannot do what the bed needs. */
-enum { STATUS_ENDED = 0, STATUS_STUCK = 1, STATUS_INPUT = 2, STATUS_OUTPUT = 3, STATUS_HOST = 4 };
+ * engine or the host cannot do what the bed needs; the run has reached a limit. */
+enum { STATUS_ENDED = 0, STATUS_STUCK = 1, STATUS_INPUT = 2, STATUS_OUTPUT = 3, STATUS_HOST = 4, STATUS_LIMIT = 8 };
+
+/* Has this function called before a message is printed. */
+void check_before_message(void (*function)(void));
 
 /* Ends the bed with this status and message. */
 _Noreturn void fail(int status, const char *format, ...) __attribute__((format(printf, 2, 3)));

@@ -4,8 +4,8 @@
  * memory at the virtual address, and later versions at the physical address; here both are the same.) */
 #define _GNU_SOURCE
 #include "check.h"
-#include "crash.h"
 #include "engine.h"
+#include "signals.h"
 #include "tables.h"
 #include <errno.h>
 #include <l4.h>
@@ -62,7 +62,6 @@ static struct engine *open_engine(const struct memory *memory) {
     struct engine *engine = malloc(sizeof *engine);
     check_holds(engine != NULL, "there is not enough memory for an engine");
     engine->memory = memory;
-    crash_begin();
     return engine;
 }
 
@@ -447,14 +446,14 @@ static int start(struct engine_space *space, uint32_t from, uint64_t until) {
     space->run_on = 0;
     space->blocks = space->block_bytes = 0;
     space->has_accessed = space->has_raised = 0;
-    if (sigsetjmp(crash_return, 0) != 0) {
-        crash_forget();
+    if (sigsetjmp(signals_abort_return, 0) != 0) {
+        signals_forget_abort();
         return 0;
     }
-    crash_is_caught = 1;
+    signals_abort_is_caught = 1;
     /* the result is known from the hooks */
     uc_emu_start(space->unicorn, from, until, 0, 0);
-    crash_is_caught = 0;
+    signals_abort_is_caught = 0;
     return 1;
 }
 

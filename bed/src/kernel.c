@@ -1,6 +1,7 @@
 #include "bed.h"
 #include "check.h"
 #include <stdarg.h>
+#include <stdio.h>
 #include <string.h>
 
 /* The longest line of the library has 656 bytes. */
@@ -9,13 +10,14 @@
 static const uint32_t no_words[1] = {0};
 
 void print_line(const struct bed *bed, const char *format, ...) {
+    char text[MAX_LINE];
     va_list arguments;
     if (!bed->prints_lines)
         return;
     va_start(arguments, format);
-    vprintf(format, arguments);
+    vsnprintf(text, sizeof text, format, arguments);
     va_end(arguments);
-    putchar('\n');
+    print("%s\n", text);
 }
 
 const char *rights_text(uint32_t rights) {
@@ -53,13 +55,13 @@ l4_mapping kernel_mapping(struct bed *bed, uint64_t space, uint32_t page) {
 static void print_reply(uint32_t thread, const l4_reply *reply) {
     char text[MAX_LINE];
     l4_reply_text(thread, reply, text, sizeof text);
-    puts(text);
+    print("%s\n", text);
 }
 
 static void print_step(const l4_step *step) {
     char text[MAX_LINE];
     l4_step_text(step, text, sizeof text);
-    puts(text);
+    print("%s\n", text);
 }
 
 static void take_ended(struct bed *bed, const uint32_t *ended, uint32_t count) {
@@ -78,7 +80,7 @@ static void take_ended(struct bed *bed, const uint32_t *ended, uint32_t count) {
 
 static void take_step(struct bed *bed, const l4_step *step) {
     check_library(step->refusal, "a step of the kernel");
-    record_step(bed, step);
+    record_step(step);
     if (bed->prints_lines)
         print_step(step);
     take_ended(bed, step->ended, step->ended_count);

@@ -2,8 +2,10 @@
 #define _GNU_SOURCE
 #include "bed.h"
 #include "check.h"
+#include "signals.h"
 #include <errno.h>
 #include <getopt.h>
+#include <stdio.h>
 #include <stdlib.h>
 #include <string.h>
 #include <sys/mman.h>
@@ -84,40 +86,16 @@ static void begin_root(struct bed *bed, uint32_t entry) {
     thread_set_ready(root, entry, 0);
 }
 
-static const char *waiting_text(const struct thread *thread) {
-    switch (thread->calling) {
-    case CALL_START: return "for the message of its pager that starts it";
-    case CALL_FAULT: return "for its pager's answer to a page fault";
-    case CALL_EXCEPTION: return "for its exception handler's answer";
-    default: return "in an Ipc";
-    }
-}
-
-/* Says why the run ended though no program ended it. */
-static void print_rest(const struct bed *bed) {
-    size_t k;
-    printf("no thread can continue\n");
-    for (k = 0; k < L4_MAX_THREADS; k++) {
-        const struct thread *thread = &bed->threads[k];
-        if (thread->state == CALLING)
-            printf("%u waits %s\n", thread->number, waiting_text(thread));
-        else if (thread->state == INACTIVE)
-            printf("%u has no pager yet\n", thread->number);
-    }
-}
-
 static void run_threads(struct bed *bed) {
     int has_run = 1;
     size_t k;
-    while (has_run && !bed->is_over) {
+    while (has_run && bed->end == NOT_ENDED) {
         has_run = 0;
-        for (k = 0; k < L4_MAX_THREADS && !bed->is_over; k++) {
+        for (k = 0; k < L4_MAX_THREADS && bed->end == NOT_ENDED; k++) {
             if (bed->threads[k].state != ABSENT)
                 has_run |= thread_turn(bed, &bed->threads[k]);
         }
     }
-    if (!bed->is_over)
-        print_rest(bed);
 }
 
 static double now(void) {
@@ -149,24 +127,33 @@ static const char usage[] =
     "  --steps FILE     write the run as a step list for l4_steps\n"
     "  --costs          print the time and the counts of calls, faults and pages on standard error\n"
     "  --verify         compare every page of every space with the kernel after each call\n"
+    "  --time SECONDS   end the run after this time\n"
+    "  --calls N        end the run after N kernel calls\n"
+    "  --memory MIB     end the run if the bed has this many mebibytes in the host's memory\n"
     "\n"
     "Exit status: 0 if a program ended the run, 1 if no thread could continue, 2 if the command line or a program file is invalid, 3 if output\n"
-    "cannot be written, 4 if the engine or the host cannot do what the bed needs.\n";
+    "cannot be written, 4 if the engine or the host cannot do what the bed needs, 8 if the run has reached a limit. A run that SIGINT, SIGTERM\n"
+    "or SIGHUP ends exits by this signal.\n";
 
 struct options {
     const char *engine, *script, *steps;
     uint32_t frames, traced;
     int prints_lines, prints_costs, verifies;
+    struct limits limits;
 };
 
-enum { ENGINE = 1, ENGINES, FRAMES, LINES, TRACE, SCRIPT, STEPS, COSTS, VERIFY, HELP, VERSION };
+enum { ENGINE = 1, ENGINES, FRAMES, LINES, TRACE, SCRIPT, STEPS, COSTS, VERIFY, TIME, CALLS, MEMORY, HELP, VERSION };
 
 static const struct option long_options[] = {{"engine", required_argument, NULL, ENGINE}, {"engines", no_argument, NULL, ENGINES},
                                              {"frames", required_argument, NULL, FRAMES}, {"lines", no_argument, NULL, LINES},
                                              {"trace", required_argument, NULL, TRACE},   {"script", required_argument, NULL, SCRIPT},
                                              {"steps", required_argument, NULL, STEPS},   {"costs", no_argument, NULL, COSTS},
-                                             {"verify", no_argument, NULL, VERIFY},       {"help", no_argument, NULL, HELP},
-                                             {"version", no_argument, NULL, VERSION},     {NULL, 0, NULL, 0}};
+                                             {"verify", no_argument, NULL, VERIFY},       {"time", required_argument, NULL, TIME},
+                                             {"calls", required_argument, NULL, CALLS},   {"memory", required_argument, NULL, MEMORY},
+                                             {"help", no_argument, NULL, HELP},           {"version", no_argument, NULL, VERSION},
+                                             {NULL, 0, NULL, 0}};
+
+#define MAX_LIMIT 1000000000u
 
 static uint32_t read_number(const char *option, const char *text, uint32_t most) {
     char *end;
@@ -195,17 +182,13 @@ static void read_option(struct options *options, int option) {
     case STEPS: options->steps = optarg; break;
     case COSTS: options->prints_costs = 1; break;
     case VERIFY: options->verifies = 1; break;
+    case TIME: options->limits.seconds = read_number("--time", optarg, MAX_LIMIT); break;
+    case CALLS: options->limits.calls = read_number("--calls", optarg, MAX_LIMIT); break;
+    case MEMORY: options->limits.memory = read_number("--memory", optarg, MAX_LIMIT); break;
     case HELP: print_and_end(usage);
     case VERSION: print_and_end("l4_bed " BED_VERSION "\n");
     default: fputs(usage, stderr); exit(STATUS_INPUT);
     }
-}
-
-static FILE *open_output(const char *option, const char *name) {
-    FILE *file = name == NULL ? NULL : fopen(name, "w");
-    if (name != NULL && file == NULL)
-        fail(STATUS_OUTPUT, "%s: %s: %s", option, name, strerror(errno));
-    return file;
 }
 
 static uint32_t begin(struct bed *bed, const struct options *options, int count, char **programs) {
@@ -214,11 +197,13 @@ static uint32_t begin(struct bed *bed, const struct options *options, int count,
     bed->prints_lines = options->prints_lines;
     bed->traced = options->traced;
     bed->verifies = options->verifies;
+    bed->limits = options->limits;
     make_kernel(bed, options->frames);
     entry = elf_load_root(bed, programs[0]);
     elf_load_others(bed, programs + 1, count - 1);
-    bed->script = open_output("--script", options->script);
-    bed->steps = open_output("--steps", options->steps);
+    output_begin();
+    output_open(OUTPUT_SCRIPT, "--script", options->script);
+    output_open(OUTPUT_STEPS, "--steps", options->steps);
     record_begin(bed);
     bed->engine = bed->kind->open(&bed->memory);
     kernel_begin_sigma0(bed);
@@ -227,23 +212,26 @@ static uint32_t begin(struct bed *bed, const struct options *options, int count,
 
 int main(int count, char **words) {
     static struct bed bed;
-    struct options options = {NULL, NULL, NULL, DEFAULT_FRAMES, 0, 0, 0, 0};
-    int option, status;
+    struct options options = {NULL, NULL, NULL, DEFAULT_FRAMES, 0, 0, 0, 0, {0, 0, 0}};
+    int option;
     uint32_t entry;
     double start;
+    signals_begin(output_write);
+    check_before_message(output_write);
     while ((option = getopt_long(count, words, "+", long_options, NULL)) != -1)
         read_option(&options, option);
     if (optind == count)
         fail(STATUS_INPUT, "no program is named (l4_bed --help explains the command line)");
     entry = begin(&bed, &options, count - optind, words + optind);
     start = now();
+    end_begin(&bed);
     begin_root(&bed, entry);
     run_threads(&bed);
+    end_report(&bed);
     record_end(&bed);
-    check_output();
+    output_end();
     if (options.prints_costs)
         print_costs(&bed, now() - start);
-    status = bed.is_over ? STATUS_ENDED : STATUS_STUCK;
     free_bed(&bed);
-    return status;
+    return end_status(&bed);
 }

@@ -1,5 +1,7 @@
 #include "bed.h"
 #include "check.h"
+#include "signals.h"
+#include <stdio.h>
 #include <string.h>
 
 /* A thread that does not wait is interrupted after this many budgets of the engine. */
@@ -121,7 +123,7 @@ static const char *exception_text(uint32_t number) {
 }
 
 static void stop(struct bed *bed, struct thread *thread, const char *why) {
-    printf("%u is stopped: %s\n", thread->number, why);
+    print("%u is stopped: %s\n", thread->number, why);
     print_line(bed, "%u stopped at eip %08x", thread->number, thread->registers.eip);
     thread->state = STOPPED;
 }
@@ -312,7 +314,10 @@ static int run(struct bed *bed, struct thread *thread, int *budgets) {
     struct stop stopped;
     memcpy(bed_frame(bed, bed->frames) + KIP_CURRENT_UTCB, &thread->utcb, sizeof thread->utcb);
     bed->costs.runs++;
+    signals_set_thread(thread->number, thread->registers.eip);
     bed->kind->run(bed->engine, thread->space->engine_space, &thread->registers, &stopped);
+    signals_set_thread(0, 0);
+    end_watch(bed);
     switch (stopped.kind) {
     case STOP_BY_TRAP: return take_trap(bed, thread, stopped.number);
     case STOP_BY_FAULT: thread_fault(bed, thread, stopped.address, stopped.access); return 1;
@@ -324,7 +329,7 @@ static int run(struct bed *bed, struct thread *thread, int *budgets) {
 
 int thread_turn(struct bed *bed, struct thread *thread) {
     int has_run = 0, goes_on = 1, budgets = TURN_BUDGETS;
-    while (goes_on && !bed->is_over) {
+    while (goes_on && bed->end == NOT_ENDED) {
         if (thread->state == CALLING)
             take_reply(bed, thread);
         if (thread->state != READY)

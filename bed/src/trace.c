@@ -9,60 +9,60 @@
 
 static void print_id(uint32_t id) {
     if (id == L4_NILTHREAD)
-        printf("nilthread");
+        print("nilthread");
     else if (id == L4_ANYTHREAD)
-        printf("anythread");
+        print("anythread");
     else if (id == ID(NUMBER(id)))
-        printf("%u", NUMBER(id));
+        print("%u", NUMBER(id));
     else
-        printf("%u version %u", NUMBER(id), id & 0x3fff);
+        print("%u version %u", NUMBER(id), id & 0x3fff);
 }
 
 static void print_before_id(const char *text, uint32_t id) {
-    printf("%s", text);
+    print("%s", text);
     print_id(id);
 }
 
 static void print_fpage(uint32_t fpage) {
     uint32_t log = fpage >> 4 & 0x3f;
     if (log == 1 || log == 32)
-        printf("all pages");
+        print("all pages");
     else if (log < L4_PAGE_LOG)
-        printf("no page");
+        print("no page");
     else if (log == L4_PAGE_LOG)
-        printf("page %u", (fpage & BASE_BITS) / PAGE_BYTES);
+        print("page %u", (fpage & BASE_BITS) / PAGE_BYTES);
     else
-        printf("pages %u to %u", (fpage & BASE_BITS & ~((1u << log) - 1)) / PAGE_BYTES, ((fpage & BASE_BITS) | ((1u << log) - 1)) / PAGE_BYTES);
+        print("pages %u to %u", (fpage & BASE_BITS & ~((1u << log) - 1)) / PAGE_BYTES, ((fpage & BASE_BITS) | ((1u << log) - 1)) / PAGE_BYTES);
 }
 
 static void print_item(const uint32_t *item) {
-    printf(", %s ", (item[0] & KIND_BITS) == MAP_KIND ? "maps" : "grants");
+    print(", %s ", (item[0] & KIND_BITS) == MAP_KIND ? "maps" : "grants");
     print_fpage(item[1]);
-    printf(" %s at send base %08x", rights_text(item[1]), item[0] & BASE_BITS);
+    print(" %s at send base %08x", rights_text(item[1]), item[0] & BASE_BITS);
 }
 
 static void print_label(uint32_t tag) {
     uint32_t label = tag >> 16;
     if ((label & LABEL_FAULT_BITS) == LABEL_FAULT)
-        printf(" (a page fault for %s)", rights_text(label));
+        print(" (a page fault for %s)", rights_text(label));
     else if (label == 0xffa0)
-        printf(" (a request to sigma0)");
+        print(" (a request to sigma0)");
     else if (label == 0xffb0)
-        printf(" (an exception)");
+        print(" (an exception)");
 }
 
 /* `rest` has the words after the tag. */
 static void print_words(uint32_t tag, const uint32_t *rest) {
     uint32_t untyped = tag & 0x3f, typed = tag >> 6 & 0x3f, k;
-    printf("label %04x", tag >> 16);
+    print("label %04x", tag >> 16);
     print_label(tag);
     if (untyped > 0)
-        printf(", words");
+        print(", words");
     for (k = 0; k < untyped; k++)
-        printf(" %08x", rest[k]);
+        print(" %08x", rest[k]);
     for (k = 0; k + 1 < typed && untyped + k + 1 < L4_MAX_WORDS - 1; k += 2)
         print_item(rest + untyped + k);
-    putchar('\n');
+    print("\n");
 }
 
 static const char *ipc_name(const l4_call *call) {
@@ -80,46 +80,46 @@ static const char *timeout_text(uint32_t timeout) {
 }
 
 static void trace_ipc(uint32_t thread, const l4_call *call, const uint32_t *words) {
-    printf("%u calls %s:", thread, ipc_name(call));
+    print("%u calls %s:", thread, ipc_name(call));
     if (call->to != L4_NILTHREAD) {
-        printf(" sends to ");
+        print(" sends to ");
         print_id(call->to);
-        printf("%s: ", timeout_text(call->timeouts >> 16));
+        print("%s: ", timeout_text(call->timeouts >> 16));
         print_words(words[0], words + 1);
     }
     if (call->from == L4_NILTHREAD)
         return;
-    printf(call->to == L4_NILTHREAD ? " receives from " : "%u then receives from ", thread);
+    print(call->to == L4_NILTHREAD ? " receives from " : "%u then receives from ", thread);
     print_id(call->from);
-    printf("%s", timeout_text(call->timeouts & 0xffff));
+    print("%s", timeout_text(call->timeouts & 0xffff));
     if ((call->acceptor & ~0xfu) != 0) {
-        printf(", accepts pages in ");
+        print(", accepts pages in ");
         print_fpage(call->acceptor);
     }
-    putchar('\n');
+    print("\n");
 }
 
 static void trace_control(uint32_t thread, const l4_call *call) {
     static const char *const names[] = {"creates ", "changes the pager of ", "deletes "};
-    printf("%u calls ThreadControl: %s", thread, names[call->kind - L4_CREATE]);
+    print("%u calls ThreadControl: %s", thread, names[call->kind - L4_CREATE]);
     print_id(call->id);
     if (call->kind == L4_CREATE && call->space == call->id)
-        printf(" in a new space");
+        print(" in a new space");
     else if (call->kind == L4_CREATE)
         print_before_id(" in the space of ", call->space);
     if (call->kind != L4_DELETE)
         print_before_id(", pager ", call->pager);
-    putchar('\n');
+    print("\n");
 }
 
 static void trace_unmap(uint32_t thread, const l4_call *call, const uint32_t *words) {
     uint32_t k;
-    printf("%u calls %s:", thread, call->control & 0x40 ? "Flush" : "Unmap");
+    print("%u calls %s:", thread, call->control & 0x40 ? "Flush" : "Unmap");
     for (k = 0; k <= (call->control & 0x3f); k++) {
-        printf(k == 0 ? " takes %s from " : ", %s from ", rights_text(words[k]));
+        print(k == 0 ? " takes %s from " : ", %s from ", rights_text(words[k]));
         print_fpage(words[k]);
     }
-    putchar('\n');
+    print("\n");
 }
 
 void trace_call(const struct bed *bed, uint32_t thread, const l4_call *call, const uint32_t *words) {
@@ -127,7 +127,7 @@ void trace_call(const struct bed *bed, uint32_t thread, const l4_call *call, con
         return;
     switch (call->kind) {
     case L4_IPC: trace_ipc(thread, call, words); break;
-    case L4_FAULT: printf("%u page fault: address %08x, instruction %08x, needs %s\n", thread, call->address, call->ip, rights_text(call->access)); break;
+    case L4_FAULT: print("%u page fault: address %08x, instruction %08x, needs %s\n", thread, call->address, call->ip, rights_text(call->access)); break;
     case L4_UNMAP: trace_unmap(thread, call, words); break;
     default: trace_control(thread, call);
     }
@@ -138,7 +138,7 @@ void trace_refusal(const struct bed *bed, uint32_t thread, uint32_t refusal) {
     if (bed->traced != thread)
         return;
     l4_refusal_text(refusal, text, sizeof text);
-    printf("%u is refused: %s\n", thread, text);
+    print("%u is refused: %s\n", thread, text);
 }
 
 static const char *error_text(uint32_t error) {
@@ -149,14 +149,14 @@ static const char *error_text(uint32_t error) {
 
 static void trace_received(uint32_t thread, const l4_reply *reply) {
     if (reply->tag & FAILED_TAG && reply->error != 0) {
-        printf("%u returns: failed, ErrorCode %u (%s in the %s phase)\n", thread, reply->error, error_text(reply->error),
+        print("%u returns: failed, ErrorCode %u (%s in the %s phase)\n", thread, reply->error, error_text(reply->error),
                reply->error & 1 ? "receive" : "send");
     } else if (reply->from == L4_NILTHREAD) {
-        printf("%u returns: sent\n", thread);
+        print("%u returns: sent\n", thread);
     } else {
-        printf("%u returns: received from ", thread);
+        print("%u returns: received from ", thread);
         print_id(reply->from);
-        printf(": ");
+        print(": ");
         print_words(reply->tag, reply->words);
     }
 }
@@ -166,10 +166,10 @@ void trace_reply(const struct bed *bed, uint32_t thread, const l4_reply *reply) 
         return;
     switch (reply->kind) {
     case L4_REPLY_IPC: trace_received(thread, reply); break;
-    case L4_REPLY_HIT: printf("%u returns: the page is present\n", thread); break;
-    case L4_REPLY_ANSWERED: printf("%u returns: its pager answered the page fault\n", thread); break;
-    case L4_REPLY_FAILED: printf("%u returns: the page fault failed, ErrorCode %u\n", thread, reply->error); break;
-    case L4_REPLY_GONE: printf("%u is deleted\n", thread); break;
-    default: printf("%u returns\n", thread);
+    case L4_REPLY_HIT: print("%u returns: the page is present\n", thread); break;
+    case L4_REPLY_ANSWERED: print("%u returns: its pager answered the page fault\n", thread); break;
+    case L4_REPLY_FAILED: print("%u returns: the page fault failed, ErrorCode %u\n", thread, reply->error); break;
+    case L4_REPLY_GONE: print("%u is deleted\n", thread); break;
+    default: print("%u returns\n", thread);
     }
 }
