@@ -25,11 +25,8 @@ static inline L4_ThreadId_t child_id(L4_Word_t number) {
     return L4_GlobalId(FIRST_CHILD + number, 1);
 }
 
-/* Ends the run with this text unless the condition holds. */
-static inline void demand(L4_Bool_t holds, const char *what) {
-    if (!holds)
-        L4_KDB_Enter(what);
-}
+/* Ends the run with status 1 and this text unless the condition holds. */
+#define demand(holds, what) ((holds) ? (void)0 : L4_KDB_Enter("failed: " what))
 
 static inline const L4_BootInfo_t *boot_info(void) {
     const L4_BootInfo_t *info = (const L4_BootInfo_t *)L4_BootInfo(L4_GetKernelInterface());

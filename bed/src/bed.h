@@ -80,7 +80,7 @@ struct limits {
     uint64_t seconds, calls, memory;
 };
 
-enum end { NOT_ENDED, ENDED_BY_PROGRAM, ENDED_BY_LIMIT, ENDED_BY_SIGNAL, ENDED_BY_OUTPUT };
+enum end { NOT_ENDED, ENDED_WELL, ENDED_BY_FAILURE, ENDED_BY_ASSERTION, ENDED_BY_LIMIT, ENDED_BY_SIGNAL, ENDED_BY_OUTPUT };
 
 struct bed {
     const struct engine_kind *kind;
@@ -106,6 +106,7 @@ struct bed {
     } watch;
     enum end end;
     char end_reason[80];
+    int has_stopped; /* the bed has stopped a thread */
     struct costs costs;
 };
 
@@ -134,7 +135,7 @@ void end_begin(struct bed *bed);
 /* Ends the run if it has reached a limit, if a signal asks for it, or if an output cannot be written. Writes whole lines from time to time. */
 void end_watch(struct bed *bed);
 /* Prints why the run has ended, and what each thread does, unless a program has ended it. */
-void end_report(const struct bed *bed);
+void end_report(struct bed *bed);
 /* Returns the exit status; or ends the bed by the signal that has ended the run. */
 int end_status(const struct bed *bed);
 

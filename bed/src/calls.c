@@ -261,13 +261,19 @@ static int copy_text(struct bed *bed, struct thread *thread, char *text, size_t 
     return 1;
 }
 
-enum { KDB_CHAR, KDB_STRING, KDB_ENTER };
+enum { KDB_CHAR, KDB_STRING, KDB_ENTER, KDB_ASSERT };
+
+/* A text of L4_KDB_Enter that begins with one of these words reports a failure. */
+static int is_failure(const char *text) {
+    return strncmp(text, "failed", 6) == 0 || strncmp(text, "panic", 5) == 0;
+}
 
 static void end_run(struct bed *bed, struct thread *thread, const char *text) {
+    int is_assertion = thread->registers.eax == KDB_ASSERT;
     if (thread->text_length > 0)
         print_char(thread, '\n');
-    print("%u ends the run: %s\n", thread->number, text);
-    bed->end = ENDED_BY_PROGRAM;
+    print(is_assertion ? "%u ends the run: the assertion %s does not hold\n" : "%u ends the run: %s\n", thread->number, text);
+    bed->end = is_assertion ? ENDED_BY_ASSERTION : is_failure(text) ? ENDED_BY_FAILURE : ENDED_WELL;
 }
 
 /* Returns 0 if the thread makes the call again. */
@@ -280,7 +286,7 @@ static int take_kdb(struct bed *bed, struct thread *thread) {
     }
     if (!copy_text(bed, thread, text, sizeof text))
         return 0;
-    if (thread->registers.eax == KDB_ENTER)
+    if (thread->registers.eax == KDB_ENTER || thread->registers.eax == KDB_ASSERT)
         end_run(bed, thread, text);
     else
         for (next = text; *next != 0; next++)

@@ -4,9 +4,18 @@
 
 #include <stdint.h>
 
-/* Exit statuses: the last program waits or was stopped; the command line or a program's file is invalid; output cannot be written; the
- * engine or the host cannot do what the bed needs; the run has reached a limit. */
-enum { STATUS_ENDED = 0, STATUS_STUCK = 1, STATUS_INPUT = 2, STATUS_OUTPUT = 3, STATUS_HOST = 4, STATUS_LIMIT = 8 };
+/* Exit statuses. */
+enum {
+    STATUS_ENDED = 0,     /* a program has ended the run */
+    STATUS_FAILED = 1,    /* a program has said that it failed, or a test has failed */
+    STATUS_INPUT = 2,     /* the command line or a program's file is invalid */
+    STATUS_OUTPUT = 3,    /* output cannot be written */
+    STATUS_HOST = 4,      /* the engine or the host cannot do what the bed needs */
+    STATUS_STUCK = 5,     /* every thread waits, and nothing can end a wait */
+    STATUS_STOPPED = 6,   /* the bed has stopped a thread */
+    STATUS_ASSERTION = 7, /* an assertion of a program does not hold */
+    STATUS_LIMIT = 8      /* the run has reached a limit */
+};
 
 /* Has this function called before a message is printed. */
 void check_before_message(void (*function)(void));

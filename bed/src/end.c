@@ -71,45 +71,106 @@ void end_watch(struct bed *bed) {
         look(bed, time);
 }
 
-static const char *waiting_text(const struct thread *thread) {
+/* What a thread in a call waits for. */
+static l4_state state_of(struct bed *bed, const struct thread *thread) {
+    l4_state state = l4_state_of(&bed->kernel, thread->number);
+    check_library(state.refusal, "l4_state_of");
+    return state;
+}
+
+static int is_waiting(uint32_t state) {
+    return state == L4_STATE_SENDING || state == L4_STATE_RECEIVING;
+}
+
+/* Returns the number of the one thread for which a thread waits, or 0. */
+static uint32_t awaited(struct bed *bed, const struct thread *thread) {
+    l4_state state;
+    if (thread == NULL || thread->state != CALLING)
+        return 0;
+    state = state_of(bed, thread);
+    return is_waiting(state.state) && state.partner != L4_ANYTHREAD ? NUMBER(state.partner) : 0;
+}
+
+/* Says of a partner what makes the wait endless. */
+static const char *partner_text(struct bed *bed, uint32_t id) {
+    const struct thread *partner = thread_find(bed, id);
+    return partner != NULL && partner->state == STOPPED ? ", which is stopped" : "";
+}
+
+static void print_ipc(struct bed *bed, const struct thread *thread, const l4_state *state) {
+    if (state->partner == L4_ANYTHREAD)
+        print("%u waits to receive from any thread\n", thread->number);
+    else if (state->partner == thread->id)
+        print("%u waits for ever: it receives from itself\n", thread->number);
+    else
+        print("%u waits to %s %u%s\n", thread->number, state->state == L4_STATE_SENDING ? "send to" : "receive from", NUMBER(state->partner),
+              partner_text(bed, state->partner));
+}
+
+static void print_wait(struct bed *bed, const struct thread *thread, const l4_state *state) {
+    uint32_t partner = NUMBER(state->partner);
+    const char *text = partner_text(bed, state->partner);
     switch (thread->calling) {
-    case CALL_START: return "for the message of its pager that starts it";
-    case CALL_FAULT: return "for its pager's answer to a page fault";
-    case CALL_EXCEPTION: return "for its exception handler's answer";
-    default: return "in an Ipc";
+    case CALL_START: print("%u waits for the message of its pager %u%s that starts it\n", thread->number, partner, text); break;
+    case CALL_FAULT:
+        print("%u waits for the answer of its pager %u%s to its page fault at %08x\n", thread->number, partner, text, thread->fault_address);
+        break;
+    case CALL_EXCEPTION: print("%u waits for the answer of its exception handler %u%s\n", thread->number, partner, text); break;
+    default: print_ipc(bed, thread, state);
     }
 }
 
-static void print_threads(const struct bed *bed) {
+static void print_thread(struct bed *bed, const struct thread *thread) {
+    l4_state state;
+    if (thread->state == INACTIVE)
+        print("%u has no pager yet\n", thread->number);
+    if (thread->state == READY)
+        print("%u can continue at %08x\n", thread->number, thread->registers.eip);
+    if (thread->state != CALLING)
+        return;
+    state = state_of(bed, thread);
+    if (is_waiting(state.state))
+        print_wait(bed, thread, &state);
+    else
+        print("%u can continue: its call has ended\n", thread->number);
+}
+
+/* Prints the circle of waiting threads that this thread is the lowest of, if there is one. */
+static void print_circle(struct bed *bed, const struct thread *first) {
+    uint32_t next = awaited(bed, first), length;
+    for (length = 1; length <= L4_MAX_THREADS && next > first->number; length++)
+        next = awaited(bed, thread_numbered(bed, next));
+    if (next != first->number || length == 1)
+        return;
+    print("deadlock: %u", first->number);
+    for (next = awaited(bed, first); next != first->number; next = awaited(bed, thread_numbered(bed, next)))
+        print(" waits for %u, which", next);
+    print(" waits for %u\n", first->number);
+}
+
+void end_report(struct bed *bed) {
     size_t k;
-    for (k = 0; k < L4_MAX_THREADS; k++) {
-        const struct thread *thread = &bed->threads[k];
-        if (thread->state == CALLING)
-            print("%u waits %s\n", thread->number, waiting_text(thread));
-        else if (thread->state == INACTIVE)
-            print("%u has no pager yet\n", thread->number);
-        else if (thread->state == READY)
-            print("%u can continue at %08x\n", thread->number, thread->registers.eip);
-    }
-}
-
-void end_report(const struct bed *bed) {
-    if (bed->end == ENDED_BY_PROGRAM)
+    if (bed->end == ENDED_WELL || bed->end == ENDED_BY_FAILURE || bed->end == ENDED_BY_ASSERTION)
         return;
     if (bed->end == NOT_ENDED)
         print("no thread can continue\n");
     else
         print("the run ends: %s\n", bed->end_reason);
-    print_threads(bed);
+    for (k = 0; k < L4_MAX_THREADS; k++)
+        print_thread(bed, &bed->threads[k]);
+    for (k = 0; k < L4_MAX_THREADS; k++)
+        print_circle(bed, &bed->threads[k]);
 }
 
 int end_status(const struct bed *bed) {
     switch (bed->end) {
-    case ENDED_BY_PROGRAM: return STATUS_ENDED;
+    case ENDED_BY_FAILURE: return STATUS_FAILED;
+    case ENDED_BY_ASSERTION: return STATUS_ASSERTION;
     case ENDED_BY_LIMIT: return STATUS_LIMIT;
     case ENDED_BY_OUTPUT: return STATUS_OUTPUT;
     case ENDED_BY_SIGNAL: signals_end_by(signals_end());
-    case NOT_ENDED: break;
+    case NOT_ENDED: return bed->has_stopped ? STATUS_STOPPED : STATUS_STUCK;
+    case ENDED_WELL: break;
     }
-    return STATUS_STUCK;
+    return bed->has_stopped ? STATUS_STOPPED : STATUS_ENDED;
 }

@@ -3,6 +3,7 @@
 #include "bed.h"
 #include "check.h"
 #include "signals.h"
+#include "test.h"
 #include <errno.h>
 #include <getopt.h>
 #include <stdio.h>
@@ -113,10 +114,11 @@ static void print_costs(const struct bed *bed, double seconds) {
 
 static const char usage[] =
     "usage: l4_bed [OPTION..] ROOT [PROGRAM..]\n"
+    "       l4_bed test [--tap] [OPTION..] FILE|FOLDER..\n"
     "       l4_bed --engines | --help | --version\n"
     "\n"
     "Runs static 32-bit x86 programs, written to the L4 X.2 interface, over the kernel of libl4. ROOT is the root task; it finds the other\n"
-    "programs in the boot info.\n"
+    "programs in the boot info. l4_bed test runs programs, and compares their lines and their status with those that a file expects.\n"
     "\n"
     "  --engine NAME    execute instructions with unicorn, ptrace or kvm\n"
     "  --engines        print which engines work on this machine, and exit\n"
@@ -131,9 +133,19 @@ static const char usage[] =
     "  --calls N        end the run after N kernel calls\n"
     "  --memory MIB     end the run if the bed has this many mebibytes in the host's memory\n"
     "\n"
-    "Exit status: 0 if a program ended the run, 1 if no thread could continue, 2 if the command line or a program file is invalid, 3 if output\n"
-    "cannot be written, 4 if the engine or the host cannot do what the bed needs, 8 if the run has reached a limit. A run that SIGINT, SIGTERM\n"
-    "or SIGHUP ends exits by this signal.\n";
+    "  --tap            with l4_bed test: print the results in TAP. Write all other options as --NAME=VALUE there\n"
+    "\n"
+    "Exit status:\n"
+    "  0  a program ended the run; with l4_bed test: all passed\n"
+    "  1  a program ended the run with a text that begins with failed or panic; with l4_bed test: some did not pass\n"
+    "  2  the command line, a program file or a test file is invalid\n"
+    "  3  output cannot be written\n"
+    "  4  the engine or the host cannot do what the bed needs, or the bed has crashed\n"
+    "  5  deadlock: every thread waits, and nothing can end a wait\n"
+    "  6  the bed stopped a thread, for example because of an exception that has no handler\n"
+    "  7  an assertion of a program does not hold\n"
+    "  8  the run reached a limit\n"
+    "SIGINT, SIGTERM and SIGHUP end the run, and the bed exits by this signal.\n";
 
 struct options {
     const char *engine, *script, *steps;
@@ -210,7 +222,7 @@ static uint32_t begin(struct bed *bed, const struct options *options, int count,
     return entry;
 }
 
-int main(int count, char **words) {
+static int run(int count, char **words) {
     static struct bed bed;
     struct options options = {NULL, NULL, NULL, DEFAULT_FRAMES, 0, 0, 0, 0, {0, 0, 0}};
     int option;
@@ -234,4 +246,10 @@ int main(int count, char **words) {
         print_costs(&bed, now() - start);
     free_bed(&bed);
     return end_status(&bed);
+}
+
+int main(int count, char **words) {
+    if (count > 1 && strcmp(words[1], "test") == 0)
+        return test_files(count - 2, words + 2, run);
+    return run(count, words);
 }

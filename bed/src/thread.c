@@ -126,6 +126,7 @@ static void stop(struct bed *bed, struct thread *thread, const char *why) {
     print("%u is stopped: %s\n", thread->number, why);
     print_line(bed, "%u stopped at eip %08x", thread->number, thread->registers.eip);
     thread->state = STOPPED;
+    bed->has_stopped = 1;
 }
 
 static void stop_by_code(struct bed *bed, struct thread *thread, const char *what, uint32_t error) {

@@ -4,7 +4,7 @@
 
 #include <l4/kip.h>
 
-enum { L4_KDB_CHAR = 0, L4_KDB_STRING = 1, L4_KDB_ENTER = 2 };
+enum { L4_KDB_CHAR = 0, L4_KDB_STRING = 1, L4_KDB_ENTER = 2, L4_KDB_ASSERT = 3 };
 
 L4_BEGIN_C
 
@@ -21,10 +21,18 @@ L4_INLINE void L4_KDB_PrintString(const char *s) {
     L4_KDB_Call(L4_KDB_STRING, (L4_Word_t)s);
 }
 
-/* Ends the run. The bed prints the text as the reason, and exits with status 0. */
+/* Ends the run. The bed prints the text as the reason. It exits with status 1 if the text begins with `failed` or `panic`, and otherwise with
+ * status 0, or 6 if the bed has stopped a thread. */
 L4_INLINE void L4_KDB_Enter(const char *s) {
     L4_KDB_Call(L4_KDB_ENTER, (L4_Word_t)s);
 }
+
+/* Ends the run with status 7 unless the condition holds. The bed prints the file, the line and the condition. (This macro is not in the
+ * manual.) */
+#define L4_KDB_TEXT_OF(number) #number
+#define L4_KDB_TEXT(number) L4_KDB_TEXT_OF(number)
+#define L4_KDB_Assert(condition) \
+    ((condition) ? (void)0 : L4_KDB_Call(L4_KDB_ASSERT, (L4_Word_t) "`" #condition "` of " __FILE__ ":" L4_KDB_TEXT(__LINE__)))
 
 L4_ABSENT("l4_bed has no keyboard input")
 int L4_KDB_ReadChar(void);
