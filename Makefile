@@ -1,43 +1,49 @@
-# make try            builds l4 and l4_steps without proofs in out/unproved, and runs a script (SCRIPT=FILE)
-# make try-library    builds the C library without proofs, and installs it in out/unproved/usr. While there is no proved library, `make bed`
-#                     and `make web` use it, and leave out/unproved/bed and out/unproved/l4.html. UNPROVED=yes has any target use it.
-# make                proves the crates and builds the programs l4 and l4_steps, and the C library
-# make check          runs the tests on what has been built, and proves nothing; TEST=NAME runs one group or folder of tests
-# make test-programs  proves and builds what only tests run: l4_judge, l4_resumed, l4_growths, and l4 and l4_steps as Rattle's own compiler builds them
-# make test           the gate: everything from nothing, and then all tests on the programs that this leaves
-# make bed            builds the bed for L4 programs in bed/out, over the C library; make check-bed runs its checks
-# make install        puts the programs, the C library with its header and packages, the bed and the manual pages under PREFIX (/usr/local
-#                     if it isn't given); make install-library the C library alone, and make install-bed the bed alone
-# make web            builds web/l4.html, a page with the proved program that is opened as a file
-# make suite          writes the suite that judges other kernels to out/suite: step lists with answers, in a folder for each rule
-# make tidy           removes what the proofs left and keeps what is built; the next change is then proved from nothing
+# To begin:
+#
+#   make try            builds the programs l4 and l4_steps without proofs, in out/unproved, and runs a script (SCRIPT=FILE)
+#   make check          runs the tests on what has been built, and proves nothing; TEST=NAME runs one group or folder of tests
+#   make help           prints this list
+#
+# Without proofs, in minutes. What these targets build is in out/unproved, and nothing in it is proved:
+#
+#   make try-library    the C library, installed in out/unproved/usr for C, Rust and Python
+#   make try-bed        the bed for L4 programs: out/unproved/bed/l4_bed
+#   make try-web        the page that runs scripts in a browser: out/unproved/l4.html
+#
+# With proofs:
+#
+#   make                proves the crates, and builds the programs l4 and l4_steps, and the C library
+#   make bed            builds the bed for L4 programs in bed/out, over the C library; make check-bed runs its checks
+#   make web            builds web/l4.html, a page with the proved program that is opened as a file
+#   make install        installs the programs, the C library with its header and packages, the bed and the manual pages under PREFIX (/usr/local);
+#                       make install-library installs the C library alone (LIBDIR=FOLDER: in another folder than PREFIX/lib), and
+#                       make install-bed the bed alone
+#   make uninstall      removes what make install has installed under PREFIX
+#   make test-programs  proves and builds what only tests run: l4_judge, l4_resumed, l4_growths, and l4 and l4_steps as Rattle's own compiler
+#                       builds them
+#   make test           the merge gate: everything from nothing, and then all tests on the programs that this leaves
+#   make tidy           removes what the proofs left and keeps what is built; the next change is then proved from nothing
+#
+# For other kernels:
+#
+#   make suite          writes the suite that judges other kernels to out/suite: step lists with answers, in a folder for each rule
+
 PREFIX ?= /usr/local
 VERSION = 0.1.0
 
 # The archive calls three of the toolchain's functions for memory, which are in this archive.
-HEAP = $(dir $(firstword $(shell rt doc)))c/liblibc_c.a
+HEAP = $(shell tests/proofs/toolchain)/c/liblibc_c.a
 PART = $(patsubst lib%.a,%,$(@F))
 # Versions fit together if their first numbers are equal and, where these are 0, their second numbers are equal too. So these numbers are in
 # the soname, and in the version of each name that the shared library exports.
 ABI = $(if $(filter 0.%,$(VERSION)),$(basename $(VERSION)),$(basename $(basename $(VERSION))))
 SONAME = libl4.so.$(ABI)
 TRY = out/unproved
-NOT_PROVED = nothing in it is proved; `make` builds the proved one
 
-# The bed and the page are built without proofs while there is only a library without proofs.
-ifndef UNPROVED
-ifneq ($(MAKECMDGOALS),)
-ifeq ($(filter-out bed check-bed web,$(MAKECMDGOALS)),)
-ifeq ($(wildcard crates/l4_c/out/libl4_c.a),)
-ifneq ($(wildcard $(TRY)/lib/libl4.a),)
-UNPROVED = yes
-endif
-endif
-endif
-endif
-endif
+# UNPROVED=yes builds the library, the bed and the page without proofs. The targets `try-library`, `try-bed` and `try-web` set it.
+WITHOUT = $(filter yes,$(UNPROVED))
 
-ifdef UNPROVED
+ifeq ($(WITHOUT),yes)
 OUT = $(TRY)/lib
 PARTS = $(OUT)/libl4_c.a
 MODULE = $(TRY)/l4_page.wasm
@@ -57,43 +63,54 @@ all: programs library
 # A program without proofs is built again when a source has changed.
 SCRIPT ?= examples/first.script
 
-try:
-	@$(MAKE) -s -q $(TRY)/l4 $(TRY)/l4_steps || echo 'building l4 and l4_steps without proofs, which takes one to two minutes'
+try: toolchain
 	@$(MAKE) -s -j 2 $(TRY)/l4 $(TRY)/l4_steps
 	$(TRY)/l4 run $(SCRIPT)
-	@echo 'Nothing has been proved yet: these programs are in $(TRY). `make` proves the crates and builds the proved programs.'
+	@echo 'Nothing has been proved yet: these programs are in $(TRY). `make check` tests them. `make` proves the crates and builds the proved programs.'
 
-$(TRY)/l4 $(TRY)/l4_steps: $(SOURCES) tests/proofs/build-unproved
-	tests/proofs/build-unproved $(@F) $@
+$(TRY)/l4 $(TRY)/l4_steps: $(SOURCES) tests/proofs/build-unproved | toolchain
+	@tests/proofs/build-unproved $(@F) $@
+
+# Ends a target that needs the Rattle toolchain, with one line, if it is missing.
+toolchain:
+	@tests/proofs/toolchain > /dev/null
 
 # Installs the library without proofs, for the examples in C, Rust and Python.
-try-library:
-	@$(MAKE) -s -q UNPROVED=yes library || echo 'building the C library without proofs, which takes one to two minutes'
-	@$(MAKE) -s UNPROVED=yes PREFIX='$(CURDIR)/$(TRY)/usr' DESTDIR= install-library
+try-library: toolchain
+	@$(MAKE) -s UNPROVED=yes PREFIX='$(CURDIR)/$(TRY)/usr' DESTDIR= LIBDIR= install-library
 	@echo
 	@echo 'C:      cc examples/first.c $$(PKG_CONFIG_PATH=$(TRY)/usr/lib/pkgconfig pkg-config --cflags --libs l4) -o out/first && out/first'
 	@echo 'Rust:   L4_LIB_DIR=$$PWD/$(TRY)/usr/lib cargo run --manifest-path bindings/rust/Cargo.toml --example exchange'
 	@echo 'Python: L4_LIBRARY=$$PWD/$(TRY)/usr/lib/libl4.so PYTHONPATH=bindings/python python3 bindings/python/examples/walk.py'
 	@echo 'Nothing has been proved yet. `make` proves the crates and builds the proved library.'
 
-programs:
-	cd crates/l4 && rt run -- --version
-	cd crates/l4_steps && rt run -- --version
+try-bed: toolchain bed-tools
+	@$(MAKE) -s UNPROVED=yes bed
+	$(TRY)/bed/l4_bed $(TRY)/bed/hello.elf
+	@echo 'Nothing has been proved yet. `make bed` proves the library, and builds the bed in bed/out.'
+
+try-web: toolchain
+	@$(MAKE) -s UNPROVED=yes web
+	@echo 'Open $(TRY)/l4.html in a browser.'
+	@echo 'Nothing has been proved yet. `make web` proves the page'\''s program, and builds web/l4.html.'
+
+programs: | toolchain
+	@tests/proofs/prove l4 l4_steps
 
 library: $(OUT)/libl4.a $(OUT)/$(SONAME)
 
 # BUILT=yes takes the archives if they are there, and else builds them over the libraries that `rt ci` has just left. The library without
 # proofs is one archive, which is built again when a source has changed.
-ifdef UNPROVED
-$(PARTS): $(SOURCES) tests/proofs/build-unproved
-	tests/proofs/build-unproved library $(@D)
+ifeq ($(WITHOUT),yes)
+$(PARTS): $(if $(BUILT),,$(SOURCES) tests/proofs/build-unproved | toolchain)
+	@tests/proofs/build-unproved library $(@D)
 else ifdef BUILT
 $(PARTS):
 	tests/proofs/static-library $(PART) || (cd crates/$(PART) && rt lib)
 else
-$(PARTS): $(SOURCES)
-	cd crates/$(PART) && rt lib
-	touch $@
+$(PARTS): $(SOURCES) | toolchain
+	@tests/proofs/prove $(PART)
+	@touch $@
 endif
 
 # The archive has an object for each part: a program that searches no orders links none of that part.
@@ -111,22 +128,21 @@ $(OUT)/$(SONAME): $(OUT)/libl4.a $(OUT)/exports
 
 # The page has its module and its scripts in it, so that it can be opened as a file.
 web: $(PAGE)
-	$(if $(UNPROVED),@echo '$(PAGE): $(NOT_PROVED)')
 
-ifdef UNPROVED
-$(MODULE): $(SOURCES) web/heap.c
-	tests/proofs/build-unproved page $@
+ifeq ($(WITHOUT),yes)
+$(MODULE): $(SOURCES) web/heap.c tests/proofs/build-unproved | toolchain
+	@tests/proofs/build-unproved page $@
 else ifdef BUILT
 $(MODULE):
 	web/build-module
 else
-$(MODULE): $(SOURCES) web/build-module web/heap.c
-	cd crates/l4_page && rt check
+$(MODULE): $(SOURCES) web/build-module web/heap.c | toolchain
+	@tests/proofs/prove l4_page
 	web/build-module
 endif
 
 $(PAGE): $(MODULE) web/make-page $(wildcard web/*.mjs bindings/python/l4/views/* examples/*.script)
-	web/make-page $(if $(UNPROVED),--unproved) $(MODULE) $@
+	web/make-page $(if $(WITHOUT),--unproved) $(MODULE) $@
 
 suite:
 	rm -rf out/suite
@@ -134,6 +150,9 @@ suite:
 
 check:
 	@tests/run $(TEST)
+
+help:
+	@sed -n '/^$$/q; s/^# \{0,1\}//p' Makefile
 
 # `rt run --backend rattle` overwrites the build by LLVM, which is restored afterwards.
 test-programs: programs
@@ -147,13 +166,16 @@ test-programs: programs
 	done
 
 # The bed builds its own programs with a C compiler for 32-bit x86.
-BED_FLAGS = $(if $(UNPROVED),OUT=../$(BED) L4_LIBS=../$(OUT)/libl4.a VERSION='$(VERSION) (the library was built without proofs)')
-L4_FOLDER = $(if $(UNPROVED),$(TRY),crates/l4/out)
-L4_STEPS_FOLDER = $(if $(UNPROVED),$(TRY),crates/l4_steps/out)
+BED_FLAGS = $(if $(WITHOUT),OUT=../$(BED) L4_LIBS=../$(OUT)/libl4.a VERSION='$(VERSION) (the library was built without proofs)')
+L4_FOLDER = $(if $(WITHOUT),$(TRY),crates/l4/out)
+L4_STEPS_FOLDER = $(if $(WITHOUT),$(TRY),crates/l4_steps/out)
 
-bed: library
+bed: bed-tools library
 	$(MAKE) -C bed $(BED_FLAGS)
-	$(if $(UNPROVED),@echo '$(BED): $(NOT_PROVED)')
+
+# Ends a target that builds the bed, with one line, if a tool is missing.
+bed-tools:
+	@missing=$$(bed/missing); [ -z "$$missing" ] || { echo "error: the bed cannot be built: $$missing" >&2; exit 1; }
 
 check-bed: library
 	L4='$(wildcard $(abspath $(L4_FOLDER)/l4))' L4_STEPS='$(wildcard $(abspath $(L4_STEPS_FOLDER)/l4_steps))' $(MAKE) -C bed check $(BED_FLAGS)
@@ -166,13 +188,21 @@ tidy:
 	rm -rf crates/*/out/incremental crates/*/out/rlib
 
 # PREFIX and DESTDIR may contain spaces, so recipes read them as the shell's variables.
-export PREFIX DESTDIR VERSION UNPROVED
+export PREFIX DESTDIR VERSION UNPROVED LIBDIR
 
+ifeq ($(WITHOUT),yes)
+install:
+	@echo '`make install` installs only what is proved. `make UNPROVED=yes install-library` installs the C library without proofs.' >&2; exit 1
+else
 install: programs install-library install-bed
 	install -D -m 755 crates/l4/out/l4 "$$DESTDIR$$PREFIX/bin/l4"
 	install -D -m 755 crates/l4_steps/out/l4_steps "$$DESTDIR$$PREFIX/bin/l4_steps"
 	install -D -m 644 man/l4.1 "$$DESTDIR$$PREFIX/share/man/man1/l4.1"
 	install -D -m 644 man/l4_steps.1 "$$DESTDIR$$PREFIX/share/man/man1/l4_steps.1"
+endif
+
+uninstall:
+	@packages/uninstall
 
 install-library: library
 	@packages/install $(OUT)/libl4.a $(OUT)/$(SONAME)
@@ -182,4 +212,4 @@ install-bed: library
 	@missing=$$(bed/missing); if [ -n "$$missing" ]; then echo "l4_bed is not installed: $$missing"; \
 	else $(MAKE) -s -C bed $(BED_FLAGS) install; fi
 
-.PHONY: all try try-library programs library web bed suite check check-bed test-programs test tidy install install-library install-bed
+.PHONY: all help try try-library try-bed try-web toolchain programs library web bed bed-tools suite check check-bed test-programs test tidy install uninstall install-library install-bed

@@ -1,8 +1,8 @@
 """What the test programs share: the programs under test, what a test needs, how cases are run and counted, and how failures are printed.
 
 A test program prints each case that fails, with what was expected, what came instead and the command that repeats it. After that it
-prints a line 'skipped: NAME (REASON)' for each part that it left out, and last 'N passed, N failed'. Its exit status is 1 if a case
-failed. Tests build no program of the crates, prove nothing and install nothing.
+prints a line 'skipped: NAME (REASON)' for each part that it left out, a line 'N cases executed a program', and last 'N passed, N failed'. Its
+exit status is 1 if a case failed. Tests build no program of the crates, prove nothing and install nothing.
 """
 import argparse
 import contextlib
@@ -16,29 +16,52 @@ import sys
 from typing import NamedTuple
 
 TOP = pathlib.Path(__file__).resolve().parents[1]
-# the programs under test: the variable that names another file, and the command that builds the program
-PROGRAMS = {"l4": ("L4", "make"), "l4_steps": ("L4_STEPS", "make"), "l4_judge": ("L4_JUDGE", "make test-programs"), "l4_growths": ("L4_GROWTHS", "make test-programs"),
-            "l4_resumed": ("L4_RESUMED", "make test-programs")}
-# other files that a test may need
-UNPROVED = bool(os.environ.get("UNPROVED"))
-FILES = {
-    "the C library": ("out/unproved/lib/libl4.a", "make try-library") if UNPROVED else ("crates/l4_c/out/libl4_c.a", "make"),
-    "the page": ("out/unproved/l4.html", "make web UNPROVED=yes") if UNPROVED else ("web/l4.html", "make web"),
-    "l4 as Rattle's own compiler builds it": ("crates/l4/out/l4.by-rattle", "make test-programs"),
-    "l4_steps as Rattle's own compiler builds it": ("crates/l4_steps/out/l4_steps.by-rattle", "make test-programs"),
+# the programs under test: the variable that names another file, and the commands that build the program with proofs and without them
+PROGRAMS = {
+    "l4": ("L4", "make", "make try"),
+    "l4_steps": ("L4_STEPS", "make", "make try"),
+    "l4_judge": ("L4_JUDGE", "make test-programs", None),
+    "l4_growths": ("L4_GROWTHS", "make test-programs", None),
+    "l4_resumed": ("L4_RESUMED", "make test-programs", None),
 }
-ENVIRONMENT = """environment: L4, L4_STEPS, L4_JUDGE, L4_GROWTHS and L4_RESUMED name other programs than those in crates/NAME/out; UNPROVED=yes tests
-what was built without proofs"""
+# other files under test: the proved one with the command that builds it, and the same for the one without proofs
+FILES = {
+    "the C library": (("crates/l4_c/out/libl4_c.a", "make"), ("out/unproved/lib/libl4.a", "make try-library")),
+    "the page": (("web/l4.html", "make web"), ("out/unproved/l4.html", "make try-web")),
+    "l4 as Rattle's own compiler builds it": (("crates/l4/out/l4.by-rattle", "make test-programs"), None),
+    "l4_steps as Rattle's own compiler builds it": (("crates/l4_steps/out/l4_steps.by-rattle", "make test-programs"), None),
+}
+ENVIRONMENT = """environment: The proved programs are tested if they are there, and otherwise those of `make try`. UNPROVED=yes tests only what was built
+without proofs, and UNPROVED=no only what was proved. L4, L4_STEPS, L4_JUDGE, L4_GROWTHS and L4_RESUMED name other programs"""
 SECONDS = 600
 MOST_LINES, MOST_BYTES = 12, 2000
 
 
+def forms(need):
+    """The file of a program or of another product with proofs, and the one without, each with the command that builds it, or None."""
+    if need in FILES:
+        return FILES[need]
+    _, proved, tried = PROGRAMS[need]
+    return (f"crates/{need}/out/{need}", proved), tried and (f"out/unproved/{need}", tried)
+
+
+def is_unproved(need):
+    """Whether a product is tested as it was built without proofs: if it is there, and the proved one is not. UNPROVED decides otherwise."""
+    proved, tried = forms(need)
+    choice = os.environ.get("UNPROVED")
+    if tried is None or choice == "no":
+        return False
+    return choice == "yes" or not (TOP / proved[0]).is_file() and (TOP / tried[0]).is_file()
+
+
+def product(need):
+    """The file of a product under test."""
+    return TOP / forms(need)[is_unproved(need)][0]
+
+
 def program(name):
     """The file of a program under test."""
-    variable, _ = PROGRAMS[name]
-    tried = TOP / "out/unproved" / name
-    built = tried if UNPROVED and tried.is_file() else TOP / "crates" / name / "out" / name
-    return pathlib.Path(os.environ.get(variable) or built).absolute()
+    return pathlib.Path(os.environ.get(PROGRAMS[name][0]) or product(name)).absolute()
 
 
 def shown(path):
@@ -47,15 +70,22 @@ def shown(path):
     return str(path.relative_to(TOP)) if path.is_relative_to(TOP) else str(path)
 
 
+def is_product(need):
+    return need in PROGRAMS or need in FILES
+
+
 def lacking(need):
     """Why a program, file or tool is not there; None if it is."""
-    if need in PROGRAMS:
-        file, command = program(need), PROGRAMS[need][1]
-    elif need in FILES:
-        file, command = TOP / FILES[need][0], FILES[need][1]
-    else:
+    if not is_product(need):
         return None if shutil.which(need) else f"no {need}"
-    return None if file.is_file() else f"{shown(file)} is not there; `{command}` builds it"
+    if (program(need) if need in PROGRAMS else product(need)).is_file():
+        return None
+    variable = PROGRAMS[need][0] if need in PROGRAMS else None
+    if variable and os.environ.get(variable):
+        return f"{os.environ[variable]} is not there, which {variable} names"
+    proved, tried = forms(need)
+    commands = f"`{proved[1]}` builds it" + (f", and `{tried[1]}` builds it without proofs" if tried else "")
+    return f"{need} is not built: {commands}"
 
 
 def parser(text, cases=False):
@@ -120,7 +150,8 @@ def command(words, given=""):
 
 def variables():
     """The assignments by which this run tests other programs, as words in front of a command."""
-    return "".join(f"{name}={shlex.quote(os.environ[name])} " for name, _ in PROGRAMS.values() if os.environ.get(name))
+    names = ["UNPROVED", *(variable for variable, _, _ in PROGRAMS.values())]
+    return "".join(f"{name}={shlex.quote(os.environ[name])} " for name in names if os.environ.get(name))
 
 
 def differences(wanted, got):
@@ -131,11 +162,13 @@ def differences(wanted, got):
 
 
 class Report:
-    """The cases of a test program: how many passed and failed, and what was left out. `only` is the value of --case; `cases`, whether the
-    program takes --case."""
+    """The cases of a test program: how many passed and failed, how many of them executed a program or another product under test, and what
+    was left out. `only` is the value of --case; `cases`, whether the program takes --case."""
 
     def __init__(self, only=None, cases=False):
-        self.passed = self.failed = 0
+        self.passed = self.failed = self.executed = 0
+        # whether a product that a part needs was there: then cases execute it, unless they say otherwise
+        self.executes = False
         self.skips, self.only, self.cases = [], only, cases
 
     def wants(self, name):
@@ -146,8 +179,9 @@ class Report:
         words = [shown(pathlib.Path(sys.argv[0]).resolve()), *sys.argv[1:], *(["--case", name] if self.cases else [])]
         return variables() + shlex.join(words)
 
-    def case(self, name, ok, *details, repeat=None):
-        """Counts a case. The details of one that failed are pairs of a title and a text."""
+    def case(self, name, ok, *details, repeat=None, executes=None):
+        """Counts a case. The details of one that failed are pairs of a title and a text. `executes` says whether it executed a product."""
+        self.executed += self.executes if executes is None else executes
         if ok:
             self.passed += 1
             return
@@ -158,7 +192,7 @@ class Report:
             print(f"    {title}: {lines[0]}" if len(lines) == 1 else "\n".join([f"    {title}:", *(f"        {line}" for line in lines)]))
         sys.stdout.flush()
 
-    def same(self, name, wanted, got, file=None, repeat=None):
+    def same(self, name, wanted, got, file=None, repeat=None, executes=None):
         """Counts a case that passes if two results, or two values, are the same."""
         details = [("file", shown(file))] if file else []
         if isinstance(wanted, Result) and isinstance(got, Result):
@@ -167,7 +201,7 @@ class Report:
             details += [(f"{stream} differs", differences(due, came)) for stream, due, came in streams_of if due != came]
         else:
             details += [("expected", wanted), ("actual", got)]
-        self.case(name, wanted == got, *details, repeat=repeat)
+        self.case(name, wanted == got, *details, repeat=repeat, executes=executes)
 
     def runs(self, name, words, given, wanted, file=None):
         """Runs a program, and counts a case that passes if it does what is wanted."""
@@ -182,12 +216,15 @@ class Report:
         reasons = list(dict.fromkeys(filter(None, map(lacking, needs))))
         if reasons:
             self.skip(name, "; ".join(reasons))
+        elif any(map(is_product, needs)):
+            self.executes = True
         return not reasons
 
     def end(self):
         """Prints what was left out and the counts, and gives the exit status."""
         for name, reason in self.skips:
             print(f"skipped: {name} ({reason})")
+        print(f"{self.executed} cases executed a program")
         print(f"{self.passed} passed, {self.failed} failed")
         return 1 if self.failed else 0
 
@@ -215,7 +252,8 @@ def errors(file, read=None):
 
 def install(folder):
     """Installs the C library, as it was built last, into a folder. Gives what goes wrong, or None."""
-    done = subprocess.run(["make", "-s", "BUILT=yes", "install-library", f"PREFIX={folder}"], cwd=TOP, capture_output=True, text=True)
+    proofs = "UNPROVED=yes" if is_unproved("the C library") else "UNPROVED="
+    done = subprocess.run(["make", "-s", "BUILT=yes", proofs, "install-library", f"PREFIX={folder}"], cwd=TOP, capture_output=True, text=True)
     return (done.stdout + done.stderr)[-MOST_BYTES:] or f"status {done.returncode}" if done.returncode else None
 
 
