@@ -10,6 +10,7 @@
 #include <unistd.h>
 
 #define FRAMES 8u
+#define TURN 20u
 /* Pages of the space: code (r-x), data (rw-), constants (r--), and one that is absent. gs:[0] is the first word of the constants. */
 #define CODE UINT32_C(0x400000)
 #define DATA UINT32_C(0x500000)
@@ -305,7 +306,7 @@ int main(int count, char **words) {
     check_system(ftruncate(memory.file, FRAMES * PAGE_BYTES), "ftruncate");
     memory.bytes = mmap(NULL, FRAMES * PAGE_BYTES, PROT_READ | PROT_WRITE, MAP_SHARED, memory.file, 0);
     check_holds(memory.bytes != MAP_FAILED, "mmap");
-    engine = kind->open(&memory);
+    engine = kind->open(&memory, TURN);
     open_space();
     check_faults();
     check_exceptions();

@@ -99,6 +99,8 @@ struct bed {
     uint32_t traced; /* the number of the thread whose calls are printed, or 0 */
     uint32_t script_gaps; /* calls that the language of scripts cannot express */
     int rounded_rights;   /* the bed has said that the engine rounds rights up */
+    uint64_t virtual_time; /* in nanoseconds */
+    int has_virtual_clock;
     struct limits limits;
     struct {
         uint64_t start, last; /* times in nanoseconds */

@@ -224,11 +224,13 @@ static void take_space_control(struct bed *bed, struct thread *thread) {
     registers->ecx = 0;
 }
 
-static void take_clock(struct thread *thread) {
+static void take_clock(const struct bed *bed, struct thread *thread) {
     struct timespec now;
-    uint64_t microseconds;
-    check_system(clock_gettime(CLOCK_MONOTONIC, &now), "clock_gettime");
-    microseconds = (uint64_t)now.tv_sec * 1000000 + (uint64_t)now.tv_nsec / 1000;
+    uint64_t microseconds = bed->virtual_time / 1000;
+    if (!bed->has_virtual_clock) {
+        check_system(clock_gettime(CLOCK_MONOTONIC, &now), "clock_gettime");
+        microseconds = (uint64_t)now.tv_sec * 1000000 + (uint64_t)now.tv_nsec / 1000;
+    }
     thread->registers.eax = (uint32_t)microseconds;
     thread->registers.edx = (uint32_t)(microseconds >> 32);
 }
@@ -312,7 +314,7 @@ int call_take(struct bed *bed, struct thread *thread, enum system_call call) {
     case SYSTEM_UNMAP: take_unmap(bed, thread); return 1;
     case SYSTEM_THREAD_CONTROL: take_thread_control(bed, thread); return 1;
     case SYSTEM_SPACE_CONTROL: take_space_control(bed, thread); return 1;
-    case SYSTEM_CLOCK: take_clock(thread); return 1;
+    case SYSTEM_CLOCK: take_clock(bed, thread); return 1;
     case SYSTEM_THREAD_SWITCH: return 0;
     default: take_other(bed, thread, call); return 1;
     }

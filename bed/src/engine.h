@@ -22,7 +22,7 @@ enum stop_kind {
     STOP_BY_TRAP,      /* the instruction at eip is invalid: the stub of a system call, the look-up of the KIP, or a mistake */
     STOP_BY_FAULT,     /* the mapped pages do not permit the instruction's access to `address` */
     STOP_BY_EXCEPTION, /* the processor raised exception `number` */
-    STOP_BY_BUDGET     /* the thread ran for as long as an engine lets it run at a time */
+    STOP_BY_BUDGET     /* the thread ran for a whole turn */
 };
 
 struct stop {
@@ -30,6 +30,7 @@ struct stop {
     uint32_t address;
     uint32_t access; /* L4_READ, L4_WRITE or L4_EXECUTE */
     uint32_t number;
+    uint64_t time; /* how long it ran, in nanoseconds of virtual time; 0 if the engine has none */
 };
 
 /* The frames, in a file in memory, so that engines can map each frame wherever a space has it. */
@@ -45,8 +46,10 @@ struct engine_space;
 
 struct engine_kind {
     const char *name;
-    /* Opens the engine over this memory, which does not move until the engine is closed. */
-    struct engine *(*open)(const struct memory *memory);
+    int has_virtual_time; /* counts what it executes, so that each run takes the same time as the last */
+    /* Opens the engine over this memory, which does not move until the engine is closed. A program runs for at most a turn of some milliseconds
+     * at a time. */
+    struct engine *(*open)(const struct memory *memory, uint32_t turn);
     void (*close)(struct engine *engine);
     /* Makes an empty space, in which gs:[0] is the word at gs_base. */
     struct engine_space *(*new_space)(struct engine *engine, uint32_t gs_base);

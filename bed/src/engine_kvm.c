@@ -19,7 +19,10 @@
 
 #define VECTORS 256
 #define HANDLER_BYTES 16
-#define INTERVAL_MICROSECONDS 20000
+
+/* A turn ends at the second tick of the clock: the first comes at any time. */
+#define TICKS_OF_TURN 2
+#define TICK_MICROSECONDS 500 /* for each millisecond of a turn */
 
 /* Physical memory: the system memory, and then the frames. */
 #define FRAMES_START SYSTEM_BYTES
@@ -62,29 +65,32 @@ static const unsigned char change_code[] = {
 
 static struct kvm_run *interrupted_run;
 
+/* The ticks since the program began to run. */
+static volatile sig_atomic_t ticks;
+
 static void on_alarm(int number) {
     (void)number;
-    if (interrupted_run != NULL)
+    if (interrupted_run != NULL && ++ticks >= TICKS_OF_TURN)
         interrupted_run->immediate_exit = 1;
 }
 
-static void set_alarm(long microseconds) {
+static void set_alarm(uint32_t microseconds) {
     struct itimerval interval;
-    interval.it_interval.tv_sec = 0;
-    interval.it_interval.tv_usec = microseconds;
+    interval.it_interval.tv_sec = microseconds / 1000000;
+    interval.it_interval.tv_usec = microseconds % 1000000;
     interval.it_value = interval.it_interval;
     check_system(setitimer(ITIMER_REAL, &interval, NULL), "setitimer");
 }
 
 /* With SA_RESTART a run of the processor ends all the same, and output is written whole. */
-static void begin_alarms(struct kvm_run *run) {
+static void begin_alarms(struct kvm_run *run, uint32_t turn) {
     struct sigaction action;
     memset(&action, 0, sizeof action);
     action.sa_handler = on_alarm;
     action.sa_flags = SA_RESTART;
     interrupted_run = run;
     check_system(sigaction(SIGALRM, &action, NULL), "sigaction");
-    set_alarm(INTERVAL_MICROSECONDS);
+    set_alarm(turn * TICK_MICROSECONDS);
 }
 
 /* Programs may raise BREAKPOINT and OVERFLOW by instructions; the gates of all other vectors are closed to ring 3. */
@@ -186,7 +192,7 @@ static void open_processor(struct engine *engine) {
     engine->run->kvm_valid_regs = KVM_SYNC_X86_REGS | KVM_SYNC_X86_SREGS;
 }
 
-static struct engine *open_engine(const struct memory *memory) {
+static struct engine *open_engine(const struct memory *memory, uint32_t turn) {
     struct engine *engine = calloc(1, sizeof *engine);
     check_holds(engine != NULL, "there is not enough memory for an engine");
     open_machine(engine);
@@ -195,7 +201,7 @@ static struct engine *open_engine(const struct memory *memory) {
     add_memory(engine, 0, 0, engine->tables.system, SYSTEM_BYTES);
     add_memory(engine, 1, FRAMES_START, memory->bytes, (uint64_t)memory->frames * PAGE_BYTES);
     open_processor(engine);
-    begin_alarms(engine->run);
+    begin_alarms(engine->run, turn);
     return engine;
 }
 
@@ -234,7 +240,7 @@ static int leave(struct engine *engine) {
         check_system(errno == EINTR || errno == EAGAIN ? 0 : -1, "KVM_RUN");
         engine->run->immediate_exit = 0;
         engine->run->kvm_dirty_regs = 0;
-        if (is_in_program(engine))
+        if (ticks >= TICKS_OF_TURN && is_in_program(engine))
             return 0;
     }
     engine->run->kvm_dirty_regs = 0;
@@ -400,6 +406,7 @@ static void take_floats(struct engine *engine, struct registers *registers) {
 static void run(struct engine *engine, struct engine_space *space, struct registers *registers, struct stop *stop) {
     int wants_floats = 1;
     run_changes(engine);
+    ticks = 0;
     while (wants_floats) {
         int is_in_shim;
         set_program(engine, space, registers);
@@ -417,4 +424,4 @@ static void forget(struct engine *engine, struct engine_space *space, const stru
         engine->float_owner = NULL;
 }
 
-const struct engine_kind engine_kvm = {"kvm", open_engine, close_engine, new_space, free_space, map, unmap, run, forget};
+const struct engine_kind engine_kvm = {"kvm", 0, open_engine, close_engine, new_space, free_space, map, unmap, run, forget};

@@ -49,7 +49,10 @@ enum { FAULT_WRITE = 2, FAULT_FETCH = 16 };
 
 #define INT_BYTES 2
 #define UNKNOWN UINT32_C(0xffffffff)
-#define INTERVAL_MICROSECONDS 20000
+
+/* A turn ends at the second tick of the clock: the first comes at any time. */
+#define TICKS_OF_TURN 2
+#define TICK_MICROSECONDS 500 /* for each millisecond of a turn */
 
 /* Stops of a stub that are not signals. */
 enum { GONE = 0, SYSTEM_CALL = SIGTRAP | 0x80 };
@@ -192,32 +195,33 @@ static int new_program(void) {
     return new_file("stub", &program, sizeof program);
 }
 
-/* The stub in which a program runs, or 0. */
+/* The stub in which a program runs, or 0; and the ticks since it began. */
 static volatile pid_t running;
+static volatile sig_atomic_t ticks;
 
 static void on_alarm(int number) {
     int error = errno;
     (void)number;
-    if (running != 0)
+    if (running != 0 && ++ticks >= TICKS_OF_TURN)
         ptrace(PTRACE_INTERRUPT, running, 0, 0);
     errno = error;
 }
 
-static void set_alarm(long microseconds) {
+static void set_alarm(uint32_t microseconds) {
     struct itimerval interval;
-    interval.it_interval.tv_sec = 0;
-    interval.it_interval.tv_usec = microseconds;
+    interval.it_interval.tv_sec = microseconds / 1000000;
+    interval.it_interval.tv_usec = microseconds % 1000000;
     interval.it_value = interval.it_interval;
     check_system(setitimer(ITIMER_REAL, &interval, NULL), "setitimer");
 }
 
-static void begin_alarms(void) {
+static void begin_alarms(uint32_t turn) {
     struct sigaction action;
     memset(&action, 0, sizeof action);
     action.sa_handler = on_alarm;
     action.sa_flags = SA_RESTART;
     check_system(sigaction(SIGALRM, &action, NULL), "sigaction");
-    set_alarm(INTERVAL_MICROSECONDS);
+    set_alarm(turn * TICK_MICROSECONDS);
 }
 
 /* The bed and the stubs take turns. A change of processor at each turn would cost up to three times as much. */
@@ -231,13 +235,13 @@ static void stay_on_processor(struct engine *engine) {
     check_system(sched_setaffinity(0, sizeof one, &one), "sched_setaffinity");
 }
 
-static struct engine *open_engine(const struct memory *memory) {
+static struct engine *open_engine(const struct memory *memory, uint32_t turn) {
     struct engine *engine = calloc(1, sizeof *engine);
     check_holds(engine != NULL, "there is not enough memory for an engine");
     engine->frames = memory->file;
     engine->program = new_program();
     stay_on_processor(engine);
-    begin_alarms();
+    begin_alarms(turn);
     return engine;
 }
 
@@ -574,6 +578,7 @@ static void run(struct engine *engine, struct engine_space *space, struct regist
         int signal;
         load_floats(space, registers);
         set_program(space, registers);
+        ticks = 0;
         running = space->stub;
         signal = resume(space, PTRACE_SYSEMU, 0);
         running = 0;
@@ -589,4 +594,4 @@ static void forget(struct engine *engine, struct engine_space *space, const stru
         space->float_owner = NULL;
 }
 
-const struct engine_kind engine_ptrace = {"ptrace", open_engine, close_engine, new_space, free_space, map, unmap, run, forget};
+const struct engine_kind engine_ptrace = {"ptrace", 0, open_engine, close_engine, new_space, free_space, map, unmap, run, forget};

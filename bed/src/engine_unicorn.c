@@ -21,7 +21,10 @@
 #define RUN_END (SHIM + SYSTEM_BYTES - PAGE_BYTES)
 #define LAST_LARGE_PAGE 511
 #define FLUSH_PLACE (UINT64_C(3) << 32)
-#define BLOCKS_PER_RUN 100000u
+
+/* A block of instructions takes this many nanoseconds of virtual time. */
+#define BLOCK_TIME 200u
+#define MILLISECOND 1000000u
 #define MAX_INSTRUCTION 15u
 #define INT_BYTES 2u
 #define FIRST_NO_EXCEPTION 32u
@@ -33,6 +36,7 @@
 
 struct engine {
     const struct memory *memory;
+    uint32_t blocks_of_turn;
 };
 
 struct engine_space {
@@ -46,7 +50,7 @@ struct engine_space {
     struct registers *float_owner;
     /* of the present run */
     struct stop *stop;
-    uint32_t blocks, block_first, block_bytes;
+    uint32_t blocks, most_blocks, block_first, block_bytes;
     int has_accessed; /* the block has accessed memory, last with the right `access` */
     uint32_t access;
     int has_raised;  /* the processor has raised an exception */
@@ -58,10 +62,11 @@ static void check_unicorn(uc_err error, const char *what) {
         fail(STATUS_HOST, "Unicorn: %s: %s", what, uc_strerror(error));
 }
 
-static struct engine *open_engine(const struct memory *memory) {
+static struct engine *open_engine(const struct memory *memory, uint32_t turn) {
     struct engine *engine = malloc(sizeof *engine);
     check_holds(engine != NULL, "there is not enough memory for an engine");
     engine->memory = memory;
+    engine->blocks_of_turn = turn * (MILLISECOND / BLOCK_TIME);
     return engine;
 }
 
@@ -203,7 +208,7 @@ static void on_block(uc_engine *unicorn, uint64_t address, uint32_t size, void *
     } else if (first / PAGE_BYTES != last / PAGE_BYTES && !is_executable(space, last)) {
         space->run_on = last / PAGE_BYTES * PAGE_BYTES;
         check_unicorn(uc_emu_stop(unicorn), "uc_emu_stop");
-    } else if (++space->blocks == BLOCKS_PER_RUN) {
+    } else if (++space->blocks >= space->most_blocks) {
         check_unicorn(uc_emu_stop(unicorn), "uc_emu_stop");
     }
 }
@@ -444,7 +449,7 @@ static void end_exception(struct engine_space *space) {
 static int start(struct engine_space *space, uint32_t from, uint64_t until) {
     space->stop->kind = STOP_BY_BUDGET;
     space->run_on = 0;
-    space->blocks = space->block_bytes = 0;
+    space->block_bytes = 0;
     space->has_accessed = space->has_raised = 0;
     if (sigsetjmp(signals_abort_return, 0) != 0) {
         signals_forget_abort();
@@ -562,14 +567,16 @@ static int execute(struct engine_space *space, struct registers *registers) {
 }
 
 static void run(struct engine *engine, struct engine_space *space, struct registers *registers, struct stop *stop) {
-    (void)engine;
     space->stop = stop;
+    space->blocks = 0;
+    space->most_blocks = engine->blocks_of_turn;
     if (space->is_changed)
         flush(space);
     space->is_changed = 0;
     if (!execute(space, registers))
         step_up(space, registers, stop);
     take_interrupt(registers, stop);
+    stop->time = (uint64_t)space->blocks * BLOCK_TIME;
 }
 
 static void forget(struct engine *engine, struct engine_space *space, const struct registers *registers) {
@@ -578,4 +585,4 @@ static void forget(struct engine *engine, struct engine_space *space, const stru
         space->float_owner = NULL;
 }
 
-const struct engine_kind engine_unicorn = {"unicorn", open_engine, close_engine, new_space, free_space, map, unmap, run, forget};
+const struct engine_kind engine_unicorn = {"unicorn", 1, open_engine, close_engine, new_space, free_space, map, unmap, run, forget};

@@ -133,6 +133,8 @@ static const char usage[] =
     "  --calls N        end the run after N kernel calls\n"
     "  --memory MIB     end the run if the bed has this many mebibytes in the host's memory\n"
     "\n"
+    "  --turn MS        interrupt a thread that runs for MS milliseconds, 1 to 1000, without a system call (default 10)\n"
+    "  --clock NAME     SystemClock returns the host's time, or virtual time: what unicorn has executed (its default)\n"
     "  --tap            with l4_bed test: print the results in TAP. Write all other options as --NAME=VALUE there\n"
     "\n"
     "Exit status:\n"
@@ -152,9 +154,11 @@ struct options {
     uint32_t frames, traced;
     int prints_lines, prints_costs, verifies;
     struct limits limits;
+    uint32_t turn;
+    const char *clock;
 };
 
-enum { ENGINE = 1, ENGINES, FRAMES, LINES, TRACE, SCRIPT, STEPS, COSTS, VERIFY, TIME, CALLS, MEMORY, HELP, VERSION };
+enum { ENGINE = 1, ENGINES, FRAMES, LINES, TRACE, SCRIPT, STEPS, COSTS, VERIFY, TIME, CALLS, MEMORY, TURN, CLOCK, HELP, VERSION };
 
 static const struct option long_options[] = {{"engine", required_argument, NULL, ENGINE}, {"engines", no_argument, NULL, ENGINES},
                                              {"frames", required_argument, NULL, FRAMES}, {"lines", no_argument, NULL, LINES},
@@ -162,10 +166,13 @@ static const struct option long_options[] = {{"engine", required_argument, NULL,
                                              {"steps", required_argument, NULL, STEPS},   {"costs", no_argument, NULL, COSTS},
                                              {"verify", no_argument, NULL, VERIFY},       {"time", required_argument, NULL, TIME},
                                              {"calls", required_argument, NULL, CALLS},   {"memory", required_argument, NULL, MEMORY},
+                                             {"turn", required_argument, NULL, TURN},     {"clock", required_argument, NULL, CLOCK},
                                              {"help", no_argument, NULL, HELP},           {"version", no_argument, NULL, VERSION},
                                              {NULL, 0, NULL, 0}};
 
 #define MAX_LIMIT 1000000000u
+#define MAX_TURN 1000u
+#define DEFAULT_TURN 10u
 
 static uint32_t read_number(const char *option, const char *text, uint32_t most) {
     char *end;
@@ -197,10 +204,23 @@ static void read_option(struct options *options, int option) {
     case TIME: options->limits.seconds = read_number("--time", optarg, MAX_LIMIT); break;
     case CALLS: options->limits.calls = read_number("--calls", optarg, MAX_LIMIT); break;
     case MEMORY: options->limits.memory = read_number("--memory", optarg, MAX_LIMIT); break;
+    case TURN: options->turn = read_number("--turn", optarg, MAX_TURN); break;
+    case CLOCK: options->clock = optarg; break;
     case HELP: print_and_end(usage);
     case VERSION: print_and_end("l4_bed " BED_VERSION "\n");
     default: fputs(usage, stderr); exit(STATUS_INPUT);
     }
+}
+
+/* Without the option, an engine with virtual time has the virtual clock. */
+static int is_virtual(const struct engine_kind *kind, const char *clock) {
+    if (clock == NULL)
+        return kind->has_virtual_time;
+    if (strcmp(clock, "host") != 0 && strcmp(clock, "virtual") != 0)
+        fail(STATUS_INPUT, "--clock: %s is not host or virtual", clock);
+    if (strcmp(clock, "virtual") == 0 && !kind->has_virtual_time)
+        fail(STATUS_INPUT, "--clock: the engine %s has no virtual time; use host, or the engine unicorn", kind->name);
+    return strcmp(clock, "virtual") == 0;
 }
 
 static uint32_t begin(struct bed *bed, const struct options *options, int count, char **programs) {
@@ -210,6 +230,7 @@ static uint32_t begin(struct bed *bed, const struct options *options, int count,
     bed->traced = options->traced;
     bed->verifies = options->verifies;
     bed->limits = options->limits;
+    bed->has_virtual_clock = is_virtual(bed->kind, options->clock);
     make_kernel(bed, options->frames);
     entry = elf_load_root(bed, programs[0]);
     elf_load_others(bed, programs + 1, count - 1);
@@ -217,14 +238,14 @@ static uint32_t begin(struct bed *bed, const struct options *options, int count,
     output_open(OUTPUT_SCRIPT, "--script", options->script);
     output_open(OUTPUT_STEPS, "--steps", options->steps);
     record_begin(bed);
-    bed->engine = bed->kind->open(&bed->memory);
+    bed->engine = bed->kind->open(&bed->memory, options->turn);
     kernel_begin_sigma0(bed);
     return entry;
 }
 
 static int run(int count, char **words) {
     static struct bed bed;
-    struct options options = {NULL, NULL, NULL, DEFAULT_FRAMES, 0, 0, 0, 0, {0, 0, 0}};
+    struct options options = {NULL, NULL, NULL, DEFAULT_FRAMES, 0, 0, 0, 0, {0, 0, 0}, DEFAULT_TURN, NULL};
     int option;
     uint32_t entry;
     double start;

@@ -54,6 +54,7 @@ const struct engine_kind *engine_named(const char *name) {
 }
 
 #define CODE_PAGE 0x400u
+#define PROBE_TURN 20u
 #define FLOAT_BYTES_OF_CODE 2u
 
 /* Exit statuses of the process, beside those of a failure. */
@@ -81,7 +82,7 @@ static int runs(const struct engine_kind *kind) {
     check_holds(memory.bytes != MAP_FAILED, "there is not enough memory");
     memcpy(memory.bytes, code, sizeof code);
     reset(&registers);
-    engine = kind->open(&memory);
+    engine = kind->open(&memory, PROBE_TURN);
     space = kind->new_space(engine, CODE_PAGE * PAGE_BYTES);
     kind->map(engine, space, CODE_PAGE, 0, L4_READ | L4_EXECUTE);
     kind->run(engine, space, &registers, &stop);

@@ -4,8 +4,10 @@
 #include <stdio.h>
 #include <string.h>
 
-/* A thread that does not wait is interrupted after this many budgets of the engine. */
-#define TURN_BUDGETS 50
+/* A turn ends when the engine's budget is used up, or after this many system calls and faults. Each of them takes this many nanoseconds of
+ * virtual time. */
+#define RUNS_OF_TURN 200u
+#define ENTRY_TIME 2000u
 
 /* By the manual a fault is raised again for as long as its answer does not give the right. A pager that never gives it would keep the run
  * going for ever, so the bed stops the thread then. */
@@ -311,34 +313,36 @@ static int take_trap(struct bed *bed, struct thread *thread, uint32_t number) {
 }
 
 /* Runs the thread until something stops it. Returns 0 if its turn ends. */
-static int run(struct bed *bed, struct thread *thread, int *budgets) {
+static int run(struct bed *bed, struct thread *thread) {
     struct stop stopped;
+    stopped.time = 0;
     memcpy(bed_frame(bed, bed->frames) + KIP_CURRENT_UTCB, &thread->utcb, sizeof thread->utcb);
     bed->costs.runs++;
     signals_set_thread(thread->number, thread->registers.eip);
     bed->kind->run(bed->engine, thread->space->engine_space, &thread->registers, &stopped);
     signals_set_thread(0, 0);
+    bed->virtual_time += stopped.time + ENTRY_TIME;
     end_watch(bed);
     switch (stopped.kind) {
     case STOP_BY_TRAP: return take_trap(bed, thread, stopped.number);
     case STOP_BY_FAULT: thread_fault(bed, thread, stopped.address, stopped.access); return 1;
     case STOP_BY_EXCEPTION: raise_exception(bed, thread, stopped.number); return 1;
-    case STOP_BY_BUDGET: return --*budgets > 0;
+    case STOP_BY_BUDGET: return 0;
     }
     return 0;
 }
 
 int thread_turn(struct bed *bed, struct thread *thread) {
-    int has_run = 0, goes_on = 1, budgets = TURN_BUDGETS;
-    while (goes_on && bed->end == NOT_ENDED) {
+    int goes_on = 1;
+    uint32_t runs;
+    for (runs = 0; goes_on && runs < RUNS_OF_TURN && bed->end == NOT_ENDED; runs++) {
         if (thread->state == CALLING)
             take_reply(bed, thread);
         if (thread->state != READY)
             break;
-        goes_on = run(bed, thread, &budgets);
+        goes_on = run(bed, thread);
         if (bed->verifies)
             change_verify(bed);
-        has_run = 1;
     }
-    return has_run;
+    return runs > 0;
 }

@@ -50,7 +50,7 @@ L4_Bool_t L4_IsTimeShorter(L4_Time_t l, L4_Time_t r);
 
 /* CLOCK */
 
-/* Returns the host's time in microseconds. */
+/* Returns a time in microseconds: with the engine unicorn, virtual time, which counts what was executed; otherwise, the host's. */
 L4_INLINE L4_Clock_t L4_SystemClock(void) {
     L4_Clock_t clock;
     __asm__ __volatile__("call *%[entry]" : "=A"(clock.raw) : [entry] "r"(L4_KipEntry(L4_KIP_SYSTEM_CLOCK)) : "ecx", "memory", "cc");
