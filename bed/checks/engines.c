@@ -220,6 +220,18 @@ static void check_floats(void) {
     next_code += 2 * CODE_BYTES;
 }
 
+/* Only int 3 and int 4 may be executed. */
+static void check_interrupts(void) {
+    RUN("int 0", 0xcd, 0);
+    RUN("int 6", 0x40, 0xcd, 6);
+    RUN("int 8", 0xcd, 8);
+    RUN("int 13", 0xcd, 13);
+    RUN("int 14", 0xcd, 14);
+    RUN("int 14 behind a fault", 0xa1, 0, 0, 0x70, 0, 0xcd, 14); /* mov eax, [0x700000] */
+    RUN("int 48", 0xcd, 48);
+    RUN("division behind int", 0xeb, 2, 0xcd, 0, 0x31, 0xc9, 0xf7, 0xf1); /* jmp over int 0; xor ecx, ecx; div ecx */
+}
+
 /* Far calls and jumps whose operand is a register. Unicorn calls abort() when it translates them. */
 static void check_untranslatable(void) {
     static const unsigned char code[] = {
@@ -316,6 +328,7 @@ int main(int count, char **words) {
     check_replaced_code();
     check_floats();
     check_untranslatable();
+    check_interrupts();
     kind->forget(engine, space, &registers);
     kind->free_space(engine, space);
     check_spaces();

@@ -26,6 +26,7 @@
 #define BLOCK_TIME 200u
 #define MILLISECOND 1000000u
 #define MAX_INSTRUCTION 15u
+#define INT 0xcd
 #define INT_BYTES 2u
 #define FIRST_NO_EXCEPTION 32u
 #define FEATURES_MSR UINT32_C(0xc0000080)
@@ -54,6 +55,7 @@ struct engine_space {
     int has_accessed; /* the block has accessed memory, last with the right `access` */
     uint32_t access;
     int has_raised;  /* the processor has raised an exception */
+    int is_behind;   /* and eip is behind the instruction, which is `int n` */
     uint32_t run_on; /* the address of a page that the block continues into and may not execute, or 0 */
 };
 
@@ -166,10 +168,25 @@ static void take_page_fault(struct engine_space *space, uint32_t eip) {
     stop_at_fault(space, (uint32_t)address, access);
 }
 
+/* Returns whether this is `int n`, which ring 3 may not execute, unless n is that of a breakpoint or an overflow. Unicorn executes it, and eip is
+ * behind it, at the end of the block. */
+static int is_interrupt(const struct engine_space *space, uint32_t eip, uint32_t number) {
+    uint32_t first = eip - INT_BYTES;
+    if (number == BREAKPOINT || number == OVERFLOW)
+        return 0;
+    if (number >= FIRST_NO_EXCEPTION)
+        return 1;
+    return eip == space->block_first + space->block_bytes && is_executable(space, first) && is_executable(space, eip - 1)
+        && space->area[first] == INT && space->area[eip - 1] == number;
+}
+
 static void on_exception(uc_engine *unicorn, uint32_t number, void *user) {
     struct engine_space *space = user;
     uint32_t eip = eip_of(space);
     space->has_raised = 1;
+    space->is_behind = is_interrupt(space, eip, number);
+    if (space->is_behind)
+        number = GENERAL_PROTECTION;
     if ((number == PAGE_FAULT || number == GENERAL_PROTECTION) && is_invalid(space, eip)) {
         set_invalid(space->stop);
     } else if (number == PAGE_FAULT) {
@@ -450,7 +467,7 @@ static int start(struct engine_space *space, uint32_t from, uint64_t until) {
     space->stop->kind = STOP_BY_BUDGET;
     space->run_on = 0;
     space->block_bytes = 0;
-    space->has_accessed = space->has_raised = 0;
+    space->has_accessed = space->has_raised = space->is_behind = 0;
     if (sigsetjmp(signals_abort_return, 0) != 0) {
         signals_forget_abort();
         return 0;
@@ -542,14 +559,6 @@ static uint32_t page_ahead(struct engine_space *space) {
     return 0;
 }
 
-/* Ring 3 may not execute `int n`, but Unicorn executes it, and eip is behind it. */
-static void take_interrupt(struct registers *registers, struct stop *stop) {
-    if (stop->kind != STOP_BY_EXCEPTION || stop->number < FIRST_NO_EXCEPTION)
-        return;
-    stop->number = GENERAL_PROTECTION;
-    registers->eip -= INT_BYTES;
-}
-
 /* Returns 0 if Unicorn cannot translate a block. */
 static int execute(struct engine_space *space, struct registers *registers) {
     uint32_t page;
@@ -566,6 +575,11 @@ static int execute(struct engine_space *space, struct registers *registers) {
     return 1;
 }
 
+/* Unicorn does not distinguish `int 6` from an invalid instruction. */
+static int is_interrupt_6(const struct engine_space *space, uint32_t eip) {
+    return space->area[eip] == INT && is_executable(space, eip + 1) && space->area[eip + 1] == INVALID_OPCODE;
+}
+
 static void run(struct engine *engine, struct engine_space *space, struct registers *registers, struct stop *stop) {
     space->stop = stop;
     space->blocks = 0;
@@ -575,7 +589,12 @@ static void run(struct engine *engine, struct engine_space *space, struct regist
     space->is_changed = 0;
     if (!execute(space, registers))
         step_up(space, registers, stop);
-    take_interrupt(registers, stop);
+    if (space->is_behind) /* an exception of an instruction is reported at the instruction */
+        registers->eip -= INT_BYTES;
+    if (stop->kind == STOP_BY_TRAP && is_interrupt_6(space, registers->eip)) {
+        stop->kind = STOP_BY_EXCEPTION;
+        stop->number = GENERAL_PROTECTION;
+    }
     stop->time = (uint64_t)space->blocks * BLOCK_TIME;
 }
 
