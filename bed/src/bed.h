@@ -67,7 +67,7 @@ struct thread {
     uint32_t *utcb_words; /* message register 0 in the bed's memory */
     uint32_t fault_address, fault_access;
     uint32_t vain_answers; /* answers in a row to one fault that did not give the right */
-    char text[128];        /* the line that it has begun to print */
+    char text[127];        /* the line that it has begun to print */
     size_t text_length;
 };
 
@@ -96,7 +96,8 @@ struct bed {
     struct thread threads[L4_MAX_THREADS];
     struct changes changes;
     int prints_lines, verifies;
-    uint32_t traced; /* the number of the thread whose calls are printed, or 0 */
+    uint32_t traced[L4_MAX_THREADS], traced_count; /* the numbers of the threads whose calls are printed */
+    unsigned char has_existed[L4_MAX_THREADS];     /* the traced threads that have existed */
     uint32_t script_gaps; /* calls that the language of scripts cannot express */
     int rounded_rights;   /* the bed has said that the engine rounds rights up */
     uint64_t virtual_time; /* in nanoseconds */
@@ -147,7 +148,20 @@ void record_call(struct bed *bed, uint32_t thread, const l4_call *call, const ui
 void record_step(const l4_step *step);
 void record_end(struct bed *bed);
 
-/* trace.c: the calls of one thread by name. */
+/* text.c: what programs print. A line is printed once it is complete, or as long as a line can be. */
+void text_add(struct thread *thread, char character);
+void text_end_line(struct thread *thread);
+/* Prints the line that the thread has begun, if there is one. */
+void text_end_begun(struct thread *thread);
+/* Writes the text with \xNN in place of control characters. `room` has to be four times its length, and one more. */
+void text_escape(const char *text, size_t length, char *escaped, size_t room);
+
+/* trace.c: the calls of traced threads by name. */
+void trace_add(struct bed *bed, uint32_t thread);
+void trace_thread_exists(struct bed *bed, uint32_t thread);
+int trace_is_on(const struct bed *bed, uint32_t thread);
+/* Ends the bed with STATUS_INPUT if a traced thread has never existed. */
+void trace_check(const struct bed *bed);
 void trace_call(const struct bed *bed, uint32_t thread, const l4_call *call, const uint32_t *words);
 void trace_refusal(const struct bed *bed, uint32_t thread, uint32_t refusal);
 void trace_reply(const struct bed *bed, uint32_t thread, const l4_reply *reply);

@@ -235,16 +235,6 @@ static void take_clock(const struct bed *bed, struct thread *thread) {
     thread->registers.edx = (uint32_t)(microseconds >> 32);
 }
 
-static void print_char(struct thread *thread, unsigned char byte) {
-    if (byte != '\n')
-        thread->text[thread->text_length++] = (char)byte;
-    if (byte != '\n' && thread->text_length < sizeof thread->text - 1)
-        return;
-    thread->text[thread->text_length] = 0;
-    print("%u | %s\n", thread->number, thread->text);
-    thread->text_length = 0;
-}
-
 /* Copies a text of the program. Returns 0 if the thread faults on it first; it then makes the call again. */
 static int copy_text(struct bed *bed, struct thread *thread, char *text, size_t room) {
     uint32_t address = thread->registers.ecx;
@@ -265,6 +255,9 @@ static int copy_text(struct bed *bed, struct thread *thread, char *text, size_t 
 
 enum { KDB_CHAR, KDB_STRING, KDB_ENTER, KDB_ASSERT };
 
+/* The longest text of a call, with its end. */
+#define TEXT_ROOM 1024
+
 /* A text of L4_KDB_Enter that begins with one of these words reports a failure. */
 static int is_failure(const char *text) {
     return strncmp(text, "failed", 6) == 0 || strncmp(text, "panic", 5) == 0;
@@ -272,18 +265,19 @@ static int is_failure(const char *text) {
 
 static void end_run(struct bed *bed, struct thread *thread, const char *text) {
     int is_assertion = thread->registers.eax == KDB_ASSERT;
-    if (thread->text_length > 0)
-        print_char(thread, '\n');
-    print(is_assertion ? "%u ends the run: the assertion %s does not hold\n" : "%u ends the run: %s\n", thread->number, text);
+    char escaped[4 * TEXT_ROOM + 1];
+    text_escape(text, strlen(text), escaped, sizeof escaped);
+    text_end_begun(thread);
+    print(is_assertion ? "%u ends the run: the assertion %s does not hold\n" : "%u ends the run: %s\n", thread->number, escaped);
     bed->end = is_assertion ? ENDED_BY_ASSERTION : is_failure(text) ? ENDED_BY_FAILURE : ENDED_WELL;
 }
 
 /* Returns 0 if the thread makes the call again. */
 static int take_kdb(struct bed *bed, struct thread *thread) {
-    char text[1024];
+    char text[TEXT_ROOM];
     const char *next;
     if (thread->registers.eax == KDB_CHAR) {
-        print_char(thread, (unsigned char)thread->registers.ecx);
+        text_add(thread, (char)thread->registers.ecx);
         return 1;
     }
     if (!copy_text(bed, thread, text, sizeof text))
@@ -292,7 +286,7 @@ static int take_kdb(struct bed *bed, struct thread *thread) {
         end_run(bed, thread, text);
     else
         for (next = text; *next != 0; next++)
-            print_char(thread, (unsigned char)*next);
+            text_add(thread, *next);
     return 1;
 }
 

@@ -150,6 +150,8 @@ static void print_circle(struct bed *bed, const struct thread *first) {
 
 void end_report(struct bed *bed) {
     size_t k;
+    for (k = 0; k < L4_MAX_THREADS; k++)
+        text_end_begun(&bed->threads[k]);
     if (bed->end == ENDED_WELL || bed->end == ENDED_BY_FAILURE || bed->end == ENDED_BY_ASSERTION)
         return;
     if (bed->end == NOT_ENDED)

@@ -47,6 +47,7 @@ struct engine_space;
 struct engine_kind {
     const char *name;
     int has_virtual_time; /* counts what it executes, so that each run takes the same time as the last */
+    uint32_t turn;        /* the milliseconds of a turn by default */
     /* Opens the engine over this memory, which does not move until the engine is closed. A program runs for at most a turn of some milliseconds
      * at a time. */
     struct engine *(*open)(const struct memory *memory, uint32_t turn);

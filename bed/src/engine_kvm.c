@@ -15,14 +15,14 @@
 #include <sys/ioctl.h>
 #include <sys/mman.h>
 #include <sys/time.h>
+#include <time.h>
 #include <unistd.h>
 
 #define VECTORS 256
 #define HANDLER_BYTES 16
 
-/* A turn ends at the second tick of the clock: the first comes at any time. */
-#define TICKS_OF_TURN 2
-#define TICK_MICROSECONDS 500 /* for each millisecond of a turn */
+/* A turn is looked at this often. */
+#define TICKS_OF_TURN 4
 
 /* Physical memory: the system memory, and then the frames. */
 #define FRAMES_START SYSTEM_BYTES
@@ -65,12 +65,22 @@ static const unsigned char change_code[] = {
 
 static struct kvm_run *interrupted_run;
 
-/* The ticks since the program began to run. */
-static volatile sig_atomic_t ticks;
+/* The end of the program's turn by the clock of the bed's own time on the processor, or 0 before the first tick. */
+static volatile uint64_t turn_end;
+static uint64_t turn_nanoseconds;
+static volatile sig_atomic_t turn_is_over;
 
 static void on_alarm(int number) {
+    struct timespec time;
+    uint64_t now;
     (void)number;
-    if (interrupted_run != NULL && ++ticks >= TICKS_OF_TURN)
+    if (interrupted_run == NULL || clock_gettime(CLOCK_PROCESS_CPUTIME_ID, &time) < 0)
+        return;
+    now = (uint64_t)time.tv_sec * 1000000000 + (uint64_t)time.tv_nsec;
+    if (turn_end == 0)
+        turn_end = now + turn_nanoseconds;
+    turn_is_over = now >= turn_end;
+    if (turn_is_over)
         interrupted_run->immediate_exit = 1;
 }
 
@@ -90,7 +100,8 @@ static void begin_alarms(struct kvm_run *run, uint32_t turn) {
     action.sa_flags = SA_RESTART;
     interrupted_run = run;
     check_system(sigaction(SIGALRM, &action, NULL), "sigaction");
-    set_alarm(turn * TICK_MICROSECONDS);
+    turn_nanoseconds = (uint64_t)turn * 1000000;
+    set_alarm(turn * 1000 / TICKS_OF_TURN);
 }
 
 /* Programs may raise BREAKPOINT and OVERFLOW by instructions; the gates of all other vectors are closed to ring 3. */
@@ -240,7 +251,7 @@ static int leave(struct engine *engine) {
         check_system(errno == EINTR || errno == EAGAIN ? 0 : -1, "KVM_RUN");
         engine->run->immediate_exit = 0;
         engine->run->kvm_dirty_regs = 0;
-        if (ticks >= TICKS_OF_TURN && is_in_program(engine))
+        if (turn_is_over && is_in_program(engine))
             return 0;
     }
     engine->run->kvm_dirty_regs = 0;
@@ -406,7 +417,8 @@ static void take_floats(struct engine *engine, struct registers *registers) {
 static void run(struct engine *engine, struct engine_space *space, struct registers *registers, struct stop *stop) {
     int wants_floats = 1;
     run_changes(engine);
-    ticks = 0;
+    turn_end = 0;
+    turn_is_over = 0;
     while (wants_floats) {
         int is_in_shim;
         set_program(engine, space, registers);
@@ -424,4 +436,4 @@ static void forget(struct engine *engine, struct engine_space *space, const stru
         engine->float_owner = NULL;
 }
 
-const struct engine_kind engine_kvm = {"kvm", 0, open_engine, close_engine, new_space, free_space, map, unmap, run, forget};
+const struct engine_kind engine_kvm = {"kvm", 0, 50, open_engine, close_engine, new_space, free_space, map, unmap, run, forget};

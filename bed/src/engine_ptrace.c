@@ -27,6 +27,7 @@
 #include <sys/uio.h>
 #include <sys/user.h>
 #include <sys/wait.h>
+#include <time.h>
 #include <ucontext.h>
 #include <unistd.h>
 
@@ -50,9 +51,8 @@ enum { FAULT_WRITE = 2, FAULT_FETCH = 16 };
 #define INT_BYTES 2
 #define UNKNOWN UINT32_C(0xffffffff)
 
-/* A turn ends at the second tick of the clock: the first comes at any time. */
-#define TICKS_OF_TURN 2
-#define TICK_MICROSECONDS 500 /* for each millisecond of a turn */
+/* A turn is looked at this often. */
+#define TICKS_OF_TURN 4
 
 /* Stops of a stub that are not signals. */
 enum { GONE = 0, SYSTEM_CALL = SIGTRAP | 0x80 };
@@ -71,6 +71,7 @@ struct engine {
 
 struct engine_space {
     pid_t stub; /* 0 once it has ended */
+    clockid_t clock;
     int frames;
     int is_lost; /* the stub has ended, or has not made its calls */
     uint32_t gs_base;
@@ -195,15 +196,24 @@ static int new_program(void) {
     return new_file("stub", &program, sizeof program);
 }
 
-/* The stub in which a program runs, or 0; and the ticks since it began. */
+/* The stub in which a program runs, or 0; its clock, which counts the processor's time; and the end of its turn by this clock, or 0 before the
+ * first tick. */
 static volatile pid_t running;
-static volatile sig_atomic_t ticks;
+static volatile clockid_t running_clock;
+static volatile uint64_t turn_end;
+static uint64_t turn_nanoseconds;
 
 static void on_alarm(int number) {
+    struct timespec time;
     int error = errno;
     (void)number;
-    if (running != 0 && ++ticks >= TICKS_OF_TURN)
-        ptrace(PTRACE_INTERRUPT, running, 0, 0);
+    if (running != 0 && clock_gettime(running_clock, &time) == 0) {
+        uint64_t now = (uint64_t)time.tv_sec * 1000000000 + (uint64_t)time.tv_nsec;
+        if (turn_end == 0)
+            turn_end = now + turn_nanoseconds;
+        else if (now >= turn_end)
+            ptrace(PTRACE_INTERRUPT, running, 0, 0);
+    }
     errno = error;
 }
 
@@ -221,7 +231,8 @@ static void begin_alarms(uint32_t turn) {
     action.sa_handler = on_alarm;
     action.sa_flags = SA_RESTART;
     check_system(sigaction(SIGALRM, &action, NULL), "sigaction");
-    set_alarm(turn * TICK_MICROSECONDS);
+    turn_nanoseconds = (uint64_t)turn * 1000000;
+    set_alarm(turn * 1000 / TICKS_OF_TURN);
 }
 
 /* The bed and the stubs take turns. A change of processor at each turn would cost up to three times as much. */
@@ -440,6 +451,7 @@ static struct engine_space *new_space(struct engine *engine, uint32_t gs_base) {
     space->gs_base = gs_base;
     space->stub = new_stub(engine);
     check_holds(wait_for(space) == SIGTRAP, "the process of a space does not begin (can this machine run 32-bit code?)");
+    check_holds(clock_getcpuclockid(space->stub, &space->clock) == 0, "the process of a space has no clock");
     set_gs(space);
     prepare(space);
     find_sysenter_end(space);
@@ -578,7 +590,8 @@ static void run(struct engine *engine, struct engine_space *space, struct regist
         int signal;
         load_floats(space, registers);
         set_program(space, registers);
-        ticks = 0;
+        turn_end = 0;
+        running_clock = space->clock;
         running = space->stub;
         signal = resume(space, PTRACE_SYSEMU, 0);
         running = 0;
@@ -594,4 +607,4 @@ static void forget(struct engine *engine, struct engine_space *space, const stru
         space->float_owner = NULL;
 }
 
-const struct engine_kind engine_ptrace = {"ptrace", 0, open_engine, close_engine, new_space, free_space, map, unmap, run, forget};
+const struct engine_kind engine_ptrace = {"ptrace", 0, 50, open_engine, close_engine, new_space, free_space, map, unmap, run, forget};

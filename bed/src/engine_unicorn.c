@@ -604,4 +604,4 @@ static void forget(struct engine *engine, struct engine_space *space, const stru
         space->float_owner = NULL;
 }
 
-const struct engine_kind engine_unicorn = {"unicorn", 1, open_engine, close_engine, new_space, free_space, map, unmap, run, forget};
+const struct engine_kind engine_unicorn = {"unicorn", 1, 10, open_engine, close_engine, new_space, free_space, map, unmap, run, forget};

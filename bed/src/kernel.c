@@ -66,7 +66,7 @@ static void print_step(const l4_step *step) {
 
 static void take_ended(struct bed *bed, const uint32_t *ended, uint32_t count) {
     uint32_t k;
-    if (!bed->prints_lines && bed->traced == 0)
+    if (!bed->prints_lines && bed->traced_count == 0)
         return;
     for (k = 0; k < count; k++) {
         l4_reply reply = kernel_reply(bed, ended[k]);

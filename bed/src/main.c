@@ -124,7 +124,7 @@ static const char usage[] =
     "  --engines        print which engines work on this machine, and exit\n"
     "  --frames N       boot with N page frames, 1 to 4096 (default 1024)\n"
     "  --lines          print what each thread asks of the kernel, and the kernel's answers\n"
-    "  --trace THREAD   print the calls of this thread by name, with decoded messages\n"
+    "  --trace THREAD   print the calls of this thread by name, with decoded messages; may be repeated\n"
     "  --script FILE    write the run as a script for l4 run, l4 why and l4 history\n"
     "  --steps FILE     write the run as a step list for l4_steps\n"
     "  --costs          print the time and the counts of calls, faults and pages on standard error\n"
@@ -133,7 +133,7 @@ static const char usage[] =
     "  --calls N        end the run after N kernel calls\n"
     "  --memory MIB     end the run if the bed has this many mebibytes in the host's memory\n"
     "\n"
-    "  --turn MS        interrupt a thread that runs for MS milliseconds, 1 to 1000, without a system call (default 10)\n"
+    "  --turn MS        interrupt a thread that runs for MS milliseconds, 1 to 1000, without a system call\n"
     "  --clock NAME     SystemClock returns the host's time, or virtual time: what unicorn has executed (its default)\n"
     "  --tap            with l4_bed test: print the results in TAP. Write all other options as --NAME=VALUE there\n"
     "\n"
@@ -151,7 +151,8 @@ static const char usage[] =
 
 struct options {
     const char *engine, *script, *steps;
-    uint32_t frames, traced;
+    struct bed *bed; /* to which some options are given at once */
+    uint32_t frames;
     int prints_lines, prints_costs, verifies;
     struct limits limits;
     uint32_t turn;
@@ -172,7 +173,6 @@ static const struct option long_options[] = {{"engine", required_argument, NULL,
 
 #define MAX_LIMIT 1000000000u
 #define MAX_TURN 1000u
-#define DEFAULT_TURN 10u
 
 static uint32_t read_number(const char *option, const char *text, uint32_t most) {
     char *end;
@@ -196,7 +196,7 @@ static void read_option(struct options *options, int option) {
     case ENGINES: probe_engines(); check_output(); exit(STATUS_ENDED);
     case FRAMES: options->frames = read_number("--frames", optarg, L4_MAX_FRAMES); break;
     case LINES: options->prints_lines = 1; break;
-    case TRACE: options->traced = read_number("--trace", optarg, 262143); break;
+    case TRACE: trace_add(options->bed, read_number("--trace", optarg, 262143)); break;
     case SCRIPT: options->script = optarg; break;
     case STEPS: options->steps = optarg; break;
     case COSTS: options->prints_costs = 1; break;
@@ -227,7 +227,6 @@ static uint32_t begin(struct bed *bed, const struct options *options, int count,
     uint32_t entry;
     bed->kind = engine_named(options->engine);
     bed->prints_lines = options->prints_lines;
-    bed->traced = options->traced;
     bed->verifies = options->verifies;
     bed->limits = options->limits;
     bed->has_virtual_clock = is_virtual(bed->kind, options->clock);
@@ -238,14 +237,14 @@ static uint32_t begin(struct bed *bed, const struct options *options, int count,
     output_open(OUTPUT_SCRIPT, "--script", options->script);
     output_open(OUTPUT_STEPS, "--steps", options->steps);
     record_begin(bed);
-    bed->engine = bed->kind->open(&bed->memory, options->turn);
+    bed->engine = bed->kind->open(&bed->memory, options->turn == 0 ? bed->kind->turn : options->turn);
     kernel_begin_sigma0(bed);
     return entry;
 }
 
 static int run(int count, char **words) {
     static struct bed bed;
-    struct options options = {NULL, NULL, NULL, DEFAULT_FRAMES, 0, 0, 0, 0, {0, 0, 0}, DEFAULT_TURN, NULL};
+    struct options options = {NULL, NULL, NULL, &bed, DEFAULT_FRAMES, 0, 0, 0, {0, 0, 0}, 0, NULL};
     int option;
     uint32_t entry;
     double start;
@@ -263,6 +262,7 @@ static int run(int count, char **words) {
     end_report(&bed);
     record_end(&bed);
     output_end();
+    trace_check(&bed);
     if (options.prints_costs)
         print_costs(&bed, now() - start);
     free_bed(&bed);

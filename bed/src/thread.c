@@ -49,6 +49,7 @@ struct thread *thread_new(struct bed *bed, uint32_t id, struct space *space) {
     bed->threads[k].id = id;
     bed->threads[k].number = NUMBER(id);
     bed->threads[k].space = space;
+    trace_thread_exists(bed, NUMBER(id));
     return &bed->threads[k];
 }
 
@@ -65,6 +66,7 @@ int thread_is_alone(const struct bed *bed, const struct thread *thread) {
 /* A space ends with its last thread. */
 void thread_free(struct bed *bed, struct thread *thread) {
     struct space *space = thread_is_alone(bed, thread) ? thread->space : NULL;
+    text_end_begun(thread);
     if (thread->space->engine_space != NULL)
         bed->kind->forget(bed->engine, thread->space->engine_space, &thread->registers);
     memset(thread, 0, sizeof *thread);
@@ -125,6 +127,7 @@ static const char *exception_text(uint32_t number) {
 }
 
 static void stop(struct bed *bed, struct thread *thread, const char *why) {
+    text_end_begun(thread);
     print("%u is stopped: %s\n", thread->number, why);
     print_line(bed, "%u stopped at eip %08x", thread->number, thread->registers.eip);
     thread->state = STOPPED;

@@ -1,5 +1,6 @@
-/* Prints the calls of one thread by name, with decoded messages. */
+/* Prints the calls of traced threads by name, with decoded messages. */
 #include "bed.h"
+#include "check.h"
 
 #define LABEL_FAULT_BITS 0xfff8u
 #define LABEL_FAULT 0xffe0u
@@ -122,8 +123,38 @@ static void trace_unmap(uint32_t thread, const l4_call *call, const uint32_t *wo
     print("\n");
 }
 
+void trace_add(struct bed *bed, uint32_t thread) {
+    if (bed->traced_count == L4_MAX_THREADS)
+        fail(STATUS_INPUT, "--trace: more than %u threads are traced", L4_MAX_THREADS);
+    bed->has_existed[bed->traced_count] = thread == SIGMA0;
+    bed->traced[bed->traced_count++] = thread;
+}
+
+int trace_is_on(const struct bed *bed, uint32_t thread) {
+    uint32_t k;
+    for (k = 0; k < bed->traced_count; k++) {
+        if (bed->traced[k] == thread)
+            return 1;
+    }
+    return 0;
+}
+
+void trace_thread_exists(struct bed *bed, uint32_t thread) {
+    uint32_t k;
+    for (k = 0; k < bed->traced_count; k++)
+        bed->has_existed[k] |= bed->traced[k] == thread;
+}
+
+void trace_check(const struct bed *bed) {
+    uint32_t k;
+    for (k = 0; k < bed->traced_count; k++) {
+        if (!bed->has_existed[k])
+            fail(STATUS_INPUT, "--trace: no thread had the number %u", bed->traced[k]);
+    }
+}
+
 void trace_call(const struct bed *bed, uint32_t thread, const l4_call *call, const uint32_t *words) {
-    if (bed->traced != thread)
+    if (!trace_is_on(bed, thread))
         return;
     switch (call->kind) {
     case L4_IPC: trace_ipc(thread, call, words); break;
@@ -135,7 +166,7 @@ void trace_call(const struct bed *bed, uint32_t thread, const l4_call *call, con
 
 void trace_refusal(const struct bed *bed, uint32_t thread, uint32_t refusal) {
     char text[160];
-    if (bed->traced != thread)
+    if (!trace_is_on(bed, thread))
         return;
     l4_refusal_text(refusal, text, sizeof text);
     print("%u is refused: %s\n", thread, text);
@@ -162,7 +193,7 @@ static void trace_received(uint32_t thread, const l4_reply *reply) {
 }
 
 void trace_reply(const struct bed *bed, uint32_t thread, const l4_reply *reply) {
-    if (bed->traced != thread)
+    if (!trace_is_on(bed, thread))
         return;
     switch (reply->kind) {
     case L4_REPLY_IPC: trace_received(thread, reply); break;
