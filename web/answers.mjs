@@ -26,15 +26,15 @@ class Answers {
 
   view(asked) {
     const run = this.run(asked), { steps, machine: { pageBytes } } = run, count = steps.length;
-    const at = Math.min(asked.at ?? count, count), before = Math.max(0, at - 1), line = run.lineAt(at);
+    const at = Math.min(asked.at ?? count, count), before = Math.max(0, at - 1), begun = run.begunAt(at);
     this.report("Reading the pages of the spaces");
     const threads = threadsAfter(steps, at, pageBytes), earlier = threadsAfter(steps, before, pageBytes);
     const [old, now] = run.states([{ count: before, spaces: earlier.allSpaces() }, { count: at, spaces: threads.allSpaces() }]);
-    const regions = run.regions(line, threads.deletions), served = run.served(line, threads.deletions);
-    const shown = shownAt({ steps, done: at, before, now, old, pageBytes, threads, regions, served, text: run.lines[line - 1] ?? "" });
+    const regions = run.regions(begun, threads.deletions), served = run.served(begun, threads.deletions);
+    const shown = shownAt({ steps, done: at, before, now, old, pageBytes, threads, regions, served, text: run.lines[begun - 1] ?? "" });
     shown.events.forEach((event) => { if (event.kind === "message" && !event.fault) event.says = this.message(event.words, pageBytes); });
-    const lines = run.linesAround(line, at);
-    return { at, count, line, lineCount: run.lines.length, lines, refusals: run.refusals, notes: [], pageBytes, ...shown };
+    const lines = run.linesAround(begun, at);
+    return { at, count, line: run.lineOf(at), lineCount: run.lines.length, lines, refusals: run.refusals, notes: [], pageBytes, ...shown };
   }
 
   /** What a message says, in one line. */

@@ -149,18 +149,20 @@ export class Run {
     return [...new Set(numbers)];
   }
 
-  /** The last line that has begun after these steps. Before the first step there is none, unless the script has no step. */
-  lineAt(at) {
-    if (at === 0 && this.steps.length) return 0;
-    let line = this.lines.length;
-    while (line > 0 && this.ends[line].steps > at && this.ends[line - 1].steps >= at) line -= 1;
-    return line;
+  /** The line that caused the last of these steps; 0 before the first one. */
+  lineOf(at) {
+    return at === 0 ? 0 : this.steps[at - 1].line;
+  }
+
+  /** The last line that has begun after these steps: all lines have after the last step. */
+  begunAt(at) {
+    return at === this.steps.length ? this.lines.length : this.lineOf(at);
   }
 
   /** The line by whose end there are these pages, and the number of steps by then. It is the current line, with its steps that come later,
    * or the line before it if the current one has only started Ipcs and faults, which changes no page. */
   wholeLineAt(at) {
-    const line = this.lineAt(at), { steps } = this.ends[line];
+    const line = this.begunAt(at), { steps } = this.ends[line];
     const hasOnlyStarted = steps > at && this.steps.slice(this.ends[line - 1].steps, at).every(({ text }) => /^start \d+ (ipc|fault) /.test(text));
     return hasOnlyStarted ? { line: line - 1, steps: at } : { line, steps };
   }
@@ -172,12 +174,12 @@ export class Run {
     return answers.slice(0, this.steps.slice(first, at).reduce((sum, step) => sum + answerCount(step), 0));
   }
 
-  /** The lines around the current one, with their answers, and the number of steps by the end of each. */
-  linesAround(line, at) {
-    const first = Math.max(0, Math.min(line - MOST_LINES / 2, this.lines.length - MOST_LINES));
+  /** The lines around the last one that has begun, with their answers, and the number of steps by the end of each. */
+  linesAround(begun, at) {
+    const first = Math.max(0, Math.min(begun - MOST_LINES / 2, this.lines.length - MOST_LINES));
     return this.lines.slice(first, first + MOST_LINES).map((text, place) => {
       const number = first + place + 1;
-      return { number, at: this.ends[number].steps, text: cut(text), answers: cutList(this.#answersBy(number, at)), isLater: number > line };
+      return { number, at: this.ends[number].steps, text: cut(text), answers: cutList(this.#answersBy(number, at)), isLater: number > begun };
     });
   }
 }

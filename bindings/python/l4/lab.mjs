@@ -33,7 +33,7 @@ class ServerSource {
     const run = await this.#steps(asked), at = Math.min(asked.at ?? run.steps.length, run.steps.length);
     this.report("Reading the pages of the spaces");
     const told = await this.#fetch("/view", { ...asked, at });
-    const text = told.lines.find(({ number }) => number === told.line)?.text ?? "";
+    const text = told.lines.find(({ number }) => number === told.begun)?.text ?? "";
     const shown = shownAt({ ...told, steps: run.steps, done: at, before: Math.max(0, at - 1), pageBytes: asked.pageBytes, text });
     shown.events.forEach((event) => { event.says = event.step.says; });
     const { lines, line, notes } = told;

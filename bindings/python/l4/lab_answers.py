@@ -181,10 +181,11 @@ def _regions(script: Union[Script, StepList]) -> List[Dict[str, Any]]:
 
 
 class _Place:
-    """The state of a run after a step and before it, and what has been answered by then."""
+    """The state of a run after a step and before it, and what has been answered by then: the line that caused the step, and the last line that
+    has begun. After the last step, all lines have begun."""
 
     def __init__(self, events: Run, at: int) -> None:
-        self.at, self.count, self.line = at, 0, 0
+        self.at, self.count, self.line, self.begun = at, 0, 0, 0
         self.old = self.now = state(events.script.kernel)
         self.answers: Dict[int, List[str]] = {}
         #: The number of steps by the end of each line.
@@ -198,9 +199,15 @@ class _Place:
             if not is_current:
                 self.answers.setdefault(event.line, []).extend(event.texts)
             self.ends[event.line] = self.count
-            if self.count <= at:
-                self.line = event.line if at else 0
+            if self.count > at:
+                continue
+            self.line = event.line if event.is_step else self.line
+            if self.count < at or event.line == self.line:
+                self.begun = self.line
                 self._note(events.script)
+        if self.count <= at:
+            self.begun = len(lines_of(events.text))
+            self._note(events.script)
 
     def _note(self, script: Union[Script, StepList]) -> None:
         self.regions, self.served = _regions(script), sorted(script.served)
@@ -217,6 +224,7 @@ def view(asked: Dict[str, Any]) -> Dict[str, Any]:
         "at": place.at,
         "count": place.count,
         "line": place.line,
+        "begun": place.begun,
         "lines": _lines(events.text, place),
         "now": place.now,
         "old": place.old if place.at else place.now,
@@ -227,14 +235,14 @@ def view(asked: Dict[str, Any]) -> Dict[str, Any]:
 
 
 def _lines(text: str, place: _Place) -> List[Dict[str, Any]]:
-    """Returns the lines around the current one with their answers, each with the number of steps by its end."""
+    """Returns the lines around the last one that has begun, with their answers, each with the number of steps by its end."""
     texts = lines_of(text)
-    first = max(0, min(place.line - _LINES // 2, len(texts) - _LINES))
+    first = max(0, min(place.begun - _LINES // 2, len(texts) - _LINES))
     lines, end = [], 0
     for number in range(1, first + min(_LINES, len(texts)) + 1):
         end = place.ends.get(number, end)
         if number > first:
-            shown = {"number": number, "at": end, "text": cut(texts[number - 1]), "isLater": number > place.line}
+            shown = {"number": number, "at": end, "text": cut(texts[number - 1]), "isLater": number > place.begun}
             lines.append({**shown, "answers": cut_list(place.answers.get(number, []))})
     return lines
 

@@ -16,21 +16,19 @@ const BUSY_AFTER = 200;
 const MOST_FILE = 16 << 20;
 
 let source = null;
+// the script that a loaded one displaced; the scripts that the page offers itself, which need no keeping
+let former = null;
+const offered = new Set();
 // whether the source is asked, and is to be asked again; how often the page was shown
 let isAsking = false, isWanted = false, shownCount = 0;
 
-// the origin of the error that is shown
-let errorOf = "run";
-
-/** How one asker announces an error, or that it has none any more. A run takes back every error, another asker its own. */
-const sayErrorOf = (asker) => (text) => {
-  if (text === "" && asker !== "run" && asker !== errorOf) return;
-  errorOf = asker;
-  it("error").textContent = text;
-  it("error").hidden = text === "";
+/** How an error is announced beside what caused it, or that there is none any more. */
+const sayErrorAt = (id) => (text) => {
+  it(id).textContent = text;
+  it(id).hidden = text === "";
 };
 
-const sayError = sayErrorOf("run"), sayPlanError = sayErrorOf("plan"), sayTextError = sayErrorOf("text"), sayOrdersError = sayErrorOf("orders");
+const sayError = sayErrorAt("error"), sayPlanError = sayErrorAt("plan-error"), sayTextError = sayErrorAt("text-error"), sayOrdersError = sayErrorAt("orders-error");
 
 /** Announces what has been done. */
 const sayDone = (text) => { it("status").textContent = text; };
@@ -155,12 +153,28 @@ function fail(text) {
   document.body.dataset.shown = ++shownCount;
 }
 
-/** Puts a script into the field, and runs it. */
+/** Puts a script into the field, and runs it. A script of the field that would be lost is kept: `former` brings it back. */
 function load({ script, frames, pageBytes }) {
+  keepFormer(script);
   it("script").value = script;
   if (frames !== undefined) it("frames").value = frames;
   if (pageBytes !== undefined) it("page-bytes").value = pageBytes;
   return run();
+}
+
+/** Puts the script of an order into the field, runs it, and brings the field into view. */
+function loadOrder(found) {
+  if (found.script !== former?.script) offered.add(found.script);
+  it("script").scrollIntoView({ block: "center" });
+  return load(found);
+}
+
+/** Keeps the script of the field if another one takes its place. The kept one is dropped when it comes back. */
+function keepFormer(next) {
+  const now = it("script").value;
+  if (now !== "" && now !== next && !offered.has(now)) former = fields();
+  if (former?.script === next) former = null;
+  it("former-choice").hidden = former === null;
 }
 
 function enter() {
@@ -203,7 +217,8 @@ function listenToRun() {
   on("back", "click", () => go(shown.view.at - 1));
   on("on", "click", () => go(Math.min(shown.view.at + 1, shown.view.count)));
   on("step", "input", () => go(number("step")));
-  on("script", "input", () => { keep(); sayDone(""); it("edited").hidden = !isEdited(); });
+  on("script", "input", () => { keep(); sayDone(""); it("edited").hidden = !isEdited(); it("refusals").hidden = true; });
+  on("former", "click", () => load(former));
   ["frames", "page-bytes"].forEach((id) => on(id, "change", run));
   on("stop", "click", () => source.stop());
   document.addEventListener("keydown", onKey);
@@ -216,7 +231,7 @@ function listenToViews() {
   on("colour", "change", () => { shown.colour = it("colour").value; showSelection(); });
   on("plan", "click", () => plan(source, sayPlanError));
   REGION_FIELDS.forEach((id) => on(id, "input", clearPlan));
-  on("search", "click", () => busy(search(source, load, sayOrdersError)));
+  on("search", "click", () => busy(search(source, loadOrder, sayOrdersError)));
   on("tell", "click", () => tell(source, sayTextError, sayDone));
   on("words", "keydown", (event) => { if (event.key === "Enter") tell(source, sayTextError, sayDone); });
   on("kind", "change", showFields);
@@ -238,6 +253,7 @@ function listenToFiles() {
 
 /** Offers the examples of the source. */
 function listExamples(examples) {
+  examples.forEach(({ script }) => offered.add(script));
   it("examples-choice").hidden = examples.length === 0;
   it("example").append(...examples.map(({ name }) => made("option", {}, name)));
   on("example", "change", () => {

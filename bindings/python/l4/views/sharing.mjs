@@ -27,20 +27,28 @@ function kept() {
   try { return JSON.parse(localStorage.getItem(STORE)); } catch { return null; }
 }
 
-/** The part of a link that carries a script. */
-const linkPart = ({ script, frames, pageBytes }) => `#frames=${frames}&page-size=${pageBytes}&script=${encoded(script)}`;
+/** The FNV-1a checksum of a text, which tells a damaged link from a whole one. */
+function checksum(text) {
+  return new TextEncoder().encode(text).reduce((sum, byte) => Math.imul(sum ^ byte, 0x01000193) >>> 0, 0x811c9dc5).toString(16);
+}
+
+/** The part of a link that carries a script. The script is last, so that a link that is cut still has the length and the checksum. */
+const linkPart = ({ script, frames, pageBytes }) =>
+  `#frames=${frames}&page-size=${pageBytes}&length=${script.length}&sum=${checksum(script)}&script=${encoded(script)}`;
 
 const isStart = (it) => it !== null && typeof it?.script === "string" && Number.isInteger(it.frames) && [1024, 4096].includes(it.pageBytes);
 
-/** The script that a link carries. Throws an error where the link is damaged. */
+/** The script that a link carries. Throws an error where the link is damaged or cut. A link that somebody wrote needs no length and checksum. */
 function linked() {
   const parts = new URLSearchParams(location.hash.slice(1));
-  if (!parts.has("script")) return null;
+  if (!["script", "sum", "length"].some((name) => parts.has(name))) return null;
   try {
-    const found = { script: decoded(parts.get("script")), frames: Number(parts.get("frames") ?? 256), pageBytes: Number(parts.get("page-size") ?? 4096) };
-    if (isStart(found)) return found;
+    const script = decoded(parts.get("script") ?? "");
+    const found = { script, frames: Number(parts.get("frames") ?? 256), pageBytes: Number(parts.get("page-size") ?? 4096) };
+    const isWhole = `${script.length}` === (parts.get("length") ?? `${script.length}`) && checksum(script) === (parts.get("sum") ?? checksum(script));
+    if (isWhole && isStart(found)) return found;
   } catch { /* reported below */ }
-  throw new Error("The link is damaged: the part after # is not a whole script. The page shows an example instead.");
+  throw new Error("The link is damaged or cut: the part after # is not a whole script. The page shows an example instead.");
 }
 
 /** What the page begins with: the script of a link, else what was kept, else what the source gives. */
