@@ -109,6 +109,11 @@ L4_INLINE L4_MsgTag_t L4_ReplyWait(L4_ThreadId_t to, L4_ThreadId_t *from) {
     return L4_ReplyWait_Timeout(to, L4_Never, from);
 }
 
+/* Waits until the timeout expires: at once, or never. */
+L4_INLINE void L4_Sleep(L4_Time_t t) {
+    L4_Receive_Timeout(L4_Myself(), t);
+}
+
 L4_INLINE L4_MsgTag_t L4_Lcall(L4_ThreadId_t to) {
     return L4_Lipc(to, to, L4_Timeouts(L4_Never, L4_Never), (L4_ThreadId_t *)0);
 }
@@ -118,5 +123,9 @@ L4_INLINE L4_MsgTag_t L4_LreplyWait(L4_ThreadId_t to, L4_ThreadId_t *from) {
 }
 
 L4_END_C
+
+#ifdef __cplusplus
+#include <l4/cxx/ipc.h>
+#endif
 
 #endif

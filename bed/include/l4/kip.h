@@ -163,6 +163,11 @@ typedef union {
 
 #define L4_UndefinedMemoryType 0u
 #define L4_ConventionalMemoryType 1u
+#define L4_ReservedMemoryType 2u
+#define L4_DedicatedMemoryType 3u
+#define L4_SharedMemoryType 4u
+#define L4_BootLoaderSpecificMemoryType 14u
+#define L4_ArchitectureSpecificMemoryType 15u
 
 L4_INLINE L4_Word_t L4_NumMemoryDescriptors(const void *kip) {
     return L4_KipWord(kip, L4_KIP_MEMORY_INFO) & 0xffff;
@@ -206,5 +211,9 @@ L4_ABSENT("this kernel controls no processor")
 L4_Word_t L4_ProcessorControl(L4_Word_t ProcessorNo, L4_Word_t InternalFrequency, L4_Word_t ExternalFrequency, L4_Word_t voltage);
 
 L4_END_C
+
+#ifdef __cplusplus
+#include <l4/cxx/kip.h>
+#endif
 
 #endif

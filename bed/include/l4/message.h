@@ -336,4 +336,8 @@ void L4_MsgBufferAppendRcvString(L4_MsgBuffer_t *b, L4_StringItem_t *s);
 
 L4_END_C
 
+#ifdef __cplusplus
+#include <l4/cxx/message.h>
+#endif
+
 #endif

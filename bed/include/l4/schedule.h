@@ -112,4 +112,8 @@ L4_Word_t L4_Set_PreemptionDelay(L4_ThreadId_t dest, L4_Word_t sensitivePrio, L4
 
 L4_END_C
 
+#ifdef __cplusplus
+#include <l4/cxx/schedule.h>
+#endif
+
 #endif

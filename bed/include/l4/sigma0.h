@@ -34,4 +34,8 @@ L4_Fpage_t L4_Sigma0_GetAny(L4_ThreadId_t s, L4_Word_t size, L4_Fpage_t RcvWindo
 
 L4_END_C
 
+#ifdef __cplusplus
+#include <l4/cxx/sigma0.h>
+#endif
+
 #endif

@@ -214,4 +214,8 @@ L4_Word_t L4_Set_PagesAttributes(L4_Word_t n, L4_Fpage_t *fpages, const L4_Word_
 
 L4_END_C
 
+#ifdef __cplusplus
+#include <l4/cxx/space.h>
+#endif
+
 #endif

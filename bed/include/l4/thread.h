@@ -25,6 +25,17 @@ L4_INLINE L4_ThreadId_t L4_ThreadIdOfWord(L4_Word_t raw) {
 #define L4_nilthread L4_ThreadIdOfWord(0)
 #define L4_anythread L4_ThreadIdOfWord(0xffffffffu)
 
+/* What L4_ErrorCode returns after a failed ThreadControl or SpaceControl. */
+#define L4_ErrOk 0u
+#define L4_ErrNoPrivilege 1u
+#define L4_ErrInvalidThread 2u
+#define L4_ErrInvalidSpace 3u
+#define L4_ErrInvalidScheduler 4u
+#define L4_ErrInvalidParam 5u
+#define L4_ErrUtcbArea 6u
+#define L4_ErrKipArea 7u
+#define L4_ErrNoMem 8u
+
 /* IDS */
 
 L4_INLINE L4_ThreadId_t L4_GlobalId(L4_Word_t threadno, L4_Word_t version) {
@@ -203,5 +214,9 @@ L4_ABSENT("this kernel has no interrupts")
 L4_Word_t L4_DeassociateInterrupt(L4_ThreadId_t InterruptThread);
 
 L4_END_C
+
+#ifdef __cplusplus
+#include <l4/cxx/thread.h>
+#endif
 
 #endif
