@@ -12,6 +12,12 @@
  *     cc program.c -IPREFIX/include PREFIX/lib/libl4.a
  *     cc program.c -IPREFIX/include -LPREFIX/lib -ll4 -Wl,-rpath,PREFIX/lib
  *
+ * KERNELS AND LOCKED KERNELS
+ *
+ * An l4_kernel is a kernel. An l4_lock is a locked kernel: a kernel that also keeps the history of its steps, and gives a seat to each thread
+ * that makes calls. An l4_lock is not a mutex: no call on it waits, and it protects nothing against other threads of the program. Threads that
+ * share one need a mutex of their own around each call (examples/threads.c).
+ *
  * HANDLES
  *
  * A handle (l4_kernel, l4_lock, l4_segment, l4_sigma0, l4_pager, l4_orders) is a struct with one private pointer, which owns an object of
@@ -199,10 +205,10 @@ uint32_t l4_version(void);
 #define L4_NO_MEMORY UINT32_C(0x4E6F) /* there was not enough memory */
 
 /* The same refusals by name. */
-#define L4_EMPTY_HANDLE L4_B1
 #define L4_HANDLE_IN_USE L4_B2
 #define L4_UNKNOWN_CALL L4_B3
 #define L4_BAD_PAGE_SIZE L4_B4
+#define L4_EMPTY_HANDLE L4_B1
 #define L4_NOT_A_STEP L4_B5
 #define L4_NOT_A_CHECKPOINT L4_B6
 #define L4_STEP_NOT_ENABLED L4_K1
@@ -1069,8 +1075,9 @@ l4_checkpoint l4_checkpoint_read(l4_kernel *kernel, const uint8_t *bytes, size_t
 
 /* CONSTRUCTORS AND READERS. These functions are inline, and do not call the library unless they take a handle.
  *
- * A constructor takes each argument modulo the range that its comment gives: of a greater number, the higher bits are dropped. If
- * L4_CHECK_RANGES is defined where this header is included, the constructors assert these ranges with the assert of assert.h instead. */
+ * A constructor takes each argument modulo the range that its comment gives: of a greater number, the higher bits are dropped. A base that is
+ * not a multiple of the size is rounded down. These constructors have a checked form: if L4_CHECK_RANGES is defined where this header is
+ * included, they assert with the assert of assert.h that each argument is in its range, and that each base is a multiple. */
 #ifdef L4_CHECK_RANGES
 #include <assert.h>
 #define L4_IN_RANGE(holds) assert(holds)
@@ -1116,9 +1123,10 @@ static inline uint32_t l4_timeouts(uint32_t send, uint32_t receive) {
 #define L4_NIL_FPAGE UINT32_C(0)
 #define L4_COMPLETE_FPAGE UINT32_C(0x10)
 
-/* Returns the fpage of 2^log bytes with these rights, where log is 10 to 32. The base is rounded down to a multiple of the size. Any other
- * log gives L4_NIL_FPAGE. */
+/* Returns the fpage of 2^log bytes with these rights, where log is 10 to 32. The base is a multiple of the size, and the rights are below 8.
+ * Any other log gives L4_NIL_FPAGE. */
 static inline uint32_t l4_fpage(uint32_t base, uint32_t log, uint32_t rights) {
+    L4_IN_RANGE(log >= 10 && log <= 32 && rights < 8 && (log == 32 ? base == 0 : base << (32 - log) == 0));
     if (log == 32)
         return L4_COMPLETE_FPAGE | (rights & 7);
     if (log < 10 || log > 31)
@@ -1126,7 +1134,7 @@ static inline uint32_t l4_fpage(uint32_t base, uint32_t log, uint32_t rights) {
     return base >> log << log | log << 4 | (rights & 7);
 }
 
-/* Returns the fpage of one page of L4_PAGE_BYTES bytes, from its page number below L4_SPACE_PAGES (2^20), with these rights. */
+/* Returns the fpage of one page of L4_PAGE_BYTES bytes, from its page number below L4_SPACE_PAGES (2^20), with these rights, below 8. */
 static inline uint32_t l4_fpage_of_page(uint32_t page, uint32_t rights) {
     L4_IN_RANGE(page < L4_SPACE_PAGES);
     return l4_fpage(page << L4_PAGE_LOG, L4_PAGE_LOG, rights);
@@ -1158,11 +1166,13 @@ static inline uint32_t l4_fpage_rights(uint32_t fpage) {
 /* Write the two words of an item that maps the pages of an fpage, or grants them. The send base is an address that is a multiple of 1,024.
  * Set bit 0 of the first word if another item follows in the message; the kernel ignores that bit. */
 static inline void l4_map_item(uint32_t words[2], uint32_t send_base, uint32_t fpage) {
+    L4_IN_RANGE((send_base & 1023) == 0);
     words[0] = (send_base >> 10 << 10) | 8;
     words[1] = fpage;
 }
 
 static inline void l4_grant_item(uint32_t words[2], uint32_t send_base, uint32_t fpage) {
+    L4_IN_RANGE((send_base & 1023) == 0);
     words[0] = (send_base >> 10 << 10) | 10;
     words[1] = fpage;
 }

@@ -155,6 +155,9 @@ class Kernel(Handle, Queries):
         super().__init__(_library.l4_kernel(), library.l4_boot_sized, library.l4_free, *given)
         self._frames = given[0]
 
+    def __repr__(self) -> str:
+        return "<Kernel: closed>" if self.closed else f"<Kernel: {len(self.threads())} threads, {len(self.spaces())} spaces, {self._frames} frames>"
+
     def copy(self) -> Kernel:
         """Returns a copy of the kernel, in memory of its own.
 

@@ -72,17 +72,17 @@ class Reply:
     @property
     def label(self) -> int:
         """Returns the message's label."""
-        return Tag(self.tag).label
+        return self.message.label
 
     @property
     def untyped(self) -> Tuple[int, ...]:
         """Returns the message's untyped words, which come before its items."""
-        return self.words[: Tag(self.tag).untyped]
+        return self.message.untyped
 
     @property
     def items(self) -> Tuple[Item, ...]:
         """Returns the message's items."""
-        return items_of(self.words[Tag(self.tag).untyped :])
+        return self.message.items
 
     def line(self, thread: int) -> str:
         """Returns the line that `l4 run` prints for this reply of a thread, without its newline.

@@ -245,17 +245,20 @@ class SharedKernel(Unique, Queries):
         """Returns whether the kernel was freed."""
         return self._lock.closed
 
-    def seat(self, number_of_thread: int) -> Seat:
+    def __repr__(self) -> str:
+        return "<SharedKernel: closed>" if self.closed else f"<SharedKernel: {self._steps} steps>"
+
+    def seat(self, thread: int) -> Seat:
         """Gives out the seat of a thread number. Each seat is given once, and the thread need not exist yet. Raises Refused with
         L4 if the seat was given before, and with NoMemory."""
-        return Seat(self, number(number_of_thread, "a thread number"))
+        return Seat(self, number(thread, "a thread number"))
 
-    def end_wait(self, number_of_thread: int) -> None:
-        """Ends the wait in which the seat of a thread number is, in `Seat.call_for` or `Seat.wait_for`: that method then returns None, and
-        the call continues. This has no effect on a seat that does not wait in one of them."""
+    def end_wait(self, thread: int) -> None:
+        """Ends the wait in which the seat of a thread number is, and the call continues. `Seat.call_for` and `Seat.wait_for` then return None,
+        and `Seat.call` raises Refused with K3. This has no effect on a seat that does not wait in one of them."""
         with self._lock.entered:
-            self._lock.ended.add(number(number_of_thread, "a thread number"))
-            self._lock.wake(number_of_thread)
+            self._lock.ended.add(number(thread, "a thread number"))
+            self._lock.wake(thread)
 
     def steps(self) -> int:
         """Returns the number of steps since boot when the last call was entered. It never decreases, and the method never waits."""
@@ -284,10 +287,10 @@ class SharedKernel(Unique, Queries):
         with self._lock.entered:
             return tuple(_until_none(self.entry(place) for place in count(first)))
 
-    def entry(self, number_of_entry: int) -> Optional[Entry]:
+    def entry(self, place: int) -> Optional[Entry]:
         """Returns the step with this number, which counts since boot from 0, or None if there is no such step yet. Raises Refused with L8
         if the step was handed out."""
-        told = self._lock.answer(library.l4_lock_entry, number(number_of_entry, "an entry", 64))
+        told = self._lock.answer(library.l4_lock_entry, number(place, "an entry", 64))
         if told.refusal:
             raise Refused(told.refusal)
         return _entry(told)
@@ -384,14 +387,17 @@ class SharedKernel(Unique, Queries):
 class Seat(Unique):
     """The right to make the calls of one thread number, from `SharedKernel.seat`. Use a seat from one thread at a time."""
 
-    def __init__(self, kernel: SharedKernel, number_of_thread: int) -> None:
-        refusal = kernel._lock._ask(library.l4_lock_give, number_of_thread)
+    def __init__(self, kernel: SharedKernel, thread: int) -> None:
+        refusal = kernel._lock._ask(library.l4_lock_give, thread)
         if refusal == _library.L4_B1:
             raise ValueError("the SharedKernel is closed")
         if refusal:
             raise Refused(refusal)
         self._kernel = kernel
-        self._number = number_of_thread
+        self._number = thread
+
+    def __repr__(self) -> str:
+        return f"<Seat of thread {self._number}>"
 
     @property
     def kernel(self) -> SharedKernel:
@@ -410,13 +416,17 @@ class Seat(Unique):
         the kernel is closed meanwhile.
 
         Raises Refused, in this order, with L3 (an earlier call has ended, whose reply you must `take` first), L1, NoMemory, K2 if there is
-        no such thread, and as `Kernel.start` does.
+        no such thread, and as `Kernel.start` does. Raises Refused with K3 if an earlier call still waits, or if `SharedKernel.end_wait` ended
+        the wait: in both cases, get the reply of the call that waits with `wait_for` or `take`.
         """
-        entered = self._kernel._lock.entered
-        with entered:
+        lock = self._kernel._lock
+        with lock.entered:
             reply = self._enter(call)
+            lock.ended.discard(self._number)
             while reply is None:
-                self._kernel._lock.waker(self._number).wait()
+                if self._number in lock.ended:
+                    raise Refused(_library.L4_K3)
+                lock.waker(self._number).wait()
                 reply = self.take()
             return reply
 

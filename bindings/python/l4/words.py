@@ -414,6 +414,21 @@ class Message:
         """Returns the tag, or None if the message has no words."""
         return Tag(self.words[0]) if self.words else None
 
+    @property
+    def label(self) -> int:
+        """Returns the label, or 0 if the message has no words."""
+        return Tag(self.words[0]).label if self.words else 0
+
+    @property
+    def untyped(self) -> Tuple[int, ...]:
+        """Returns the untyped words, which come before the items."""
+        return self.words[1:][: Tag(self.words[0]).untyped] if self.words else ()
+
+    @property
+    def items(self) -> Tuple[Item, ...]:
+        """Returns the items."""
+        return items_of(self.words[1:][Tag(self.words[0]).untyped :]) if self.words else ()
+
     def __str__(self) -> str:
         return _message_text(Tag(self.words[0]), self.words[1:]) if self.words else "no tag"
 

@@ -215,6 +215,30 @@ class Shared(unittest.TestCase):
         self.assertEqual(root.call_for(create(3), 0).kind, ReplyKind.CONTROLLED)
         self.assertEqual(len(kernel.close([sigma0, root])), 4)
 
+    def test_the_wait_of_a_call_can_be_ended(self):
+        kernel = SharedKernel(1)
+        sigma0, root = kernel.seat(1), kernel.seat(2)
+        refused = []
+
+        def wait():
+            try:
+                root.call(Call.receive())
+            except Refused as error:
+                refused.append(error.code)
+
+        parties = Parties()
+        parties.begin("waits", wait)
+        while not refused:
+            kernel.end_wait(2)
+            time.sleep(0.001)
+        parties.end()
+        self.assertEqual(refused, ["K3"])
+        sigma0.call(Call.send(ThreadId.ROOT, Message.of(untyped=[5])))
+        self.assertEqual(root.take().untyped, (5,))
+        self.assertEqual((repr(kernel), repr(root)), ("<SharedKernel: 3 steps>", "<Seat of thread 2>"))
+        self.assertEqual(len(kernel.close([sigma0, root])), 3)
+        self.assertEqual(repr(kernel), "<SharedKernel: closed>")
+
     def test_a_copy_answers_as_the_kernel_does(self):
         kernel = SharedKernel()
         sigma0, root, first = map(kernel.seat, (1, 2, 3))

@@ -34,7 +34,7 @@ fn main() -> Result<(), Box<dyn Error>> {
     kernel.enter(1, &Call::send(buyer, &plan.only()?, Timeout::Zero))?;
     show(&kernel, space);
 
-    let all = Call::unmap(false, &[Fpage::complete(Rights::ALL)])?;
+    let all = Call::unmap(&[Fpage::complete(Rights::ALL)], false)?;
     kernel.enter(1, &all)?;
     show(&kernel, space);
     Ok(())

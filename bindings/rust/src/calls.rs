@@ -209,7 +209,7 @@ impl Call {
     /// # Errors
     ///
     /// [`FpageCount`] if there are no fpages, or more than 64.
-    pub fn unmap(own: bool, fpages: &[Fpage]) -> Result<Call, FpageCount> {
+    pub fn unmap(fpages: &[Fpage], own: bool) -> Result<Call, FpageCount> {
         let last = fpages.len().checked_sub(1).ok_or(FpageCount)? as u32;
         let words: Vec<u32> = fpages.iter().map(|fpage| fpage.word()).collect();
         Call::unmap_words(u32::from(own) << 6 | last & 0x3f, &words).map_err(|_| FpageCount)
@@ -424,12 +424,12 @@ mod tests {
     #[test]
     fn an_unmap_has_1_to_64_fpages() {
         let fpage = Fpage::page(1, Rights::WRITE).unwrap();
-        let call = Call::unmap(true, &[fpage; 64]).unwrap();
+        let call = Call::unmap(&[fpage; 64], true).unwrap();
         assert_eq!((call.given.kind, call.given.control), (3, 0x7f));
         assert_eq!(call.given().1, [0x10c2; 64]);
-        assert_eq!(Call::unmap(false, &[fpage]).unwrap().given.control, 0);
-        assert_eq!(Call::unmap(false, &[]), Err(FpageCount));
-        assert_eq!(Call::unmap(false, &[fpage; 65]), Err(FpageCount));
+        assert_eq!(Call::unmap(&[fpage], false).unwrap().given.control, 0);
+        assert_eq!(Call::unmap(&[], false), Err(FpageCount));
+        assert_eq!(Call::unmap(&[fpage; 65], false), Err(FpageCount));
         assert_eq!(Call::unmap_words(0, &[0; 65]), Err(TooManyWords));
     }
 
@@ -448,7 +448,7 @@ mod tests {
                 "send to thread 3: label 0x0007; 1 untyped, then receive from thread 3 at once, window complete ---",
             ),
             (Call::send(ThreadId::NIL, &message, never), "neither phase"),
-            (Call::unmap(true, &[page; 2]).unwrap(), "unmap own pages too, 4 KiB at 0x1000 -w-; 4 KiB at 0x1000 -w-"),
+            (Call::unmap(&[page; 2], true).unwrap(), "unmap own pages too, 4 KiB at 0x1000 -w-; 4 KiB at 0x1000 -w-"),
             (Call::unmap_words(0, &[0x20, 0]).unwrap(), "unmap no fpage in 0x00000020"),
             (Call::create(three, three, root), "create thread 3 in a new space, pager thread 2"),
             (Call::create(three, root, ThreadId::NIL), "create thread 3 in the space of thread 2, pager nil"),

@@ -179,6 +179,7 @@ pub struct Entered {
 
 /// What [`Kernel::judge`] found about another kernel's answer.
 #[derive(Clone, PartialEq, Eq, Debug)]
+#[non_exhaustive]
 pub enum Verdict {
     /// Every line that was compared is this kernel's.
     Agrees,
@@ -296,13 +297,13 @@ impl Kernel {
     /// let mut kernel = Kernel::boot(1)?;
     /// let message = Message::new(0, &[5], &[])?;
     /// kernel.start(1, &Call::send(ThreadId::ROOT, &message, Timeout::Zero))?;
-    /// let mut copy = kernel.try_clone()?;
+    /// let mut copy = kernel.copy()?;
     /// kernel.enter(2, &Call::receive(ThreadId::ANY, Fpage::NIL, Timeout::Never))?;
     /// copy.expire(1)?;
     /// assert!(kernel.reply(2).is_some() && copy.reply(2).is_none());
     /// # Ok::<(), Box<dyn std::error::Error>>(())
     /// ```
-    pub fn try_clone(&self) -> Result<Kernel, Refusal> {
+    pub fn copy(&self) -> Result<Kernel, Refusal> {
         match self.handle.copy() {
             Ok(handle) => Ok(Kernel::of(handle, self.frames)),
             Err(number) => Err(Refusal::of(number, 0)),

@@ -53,8 +53,8 @@
 //!
 //! # Later versions
 //!
-//! [`Refusal`], [`Reply`], [`Outcome`], [`Step`], [`ThreadState`], [`Timeout`], [`PageSize`], [`SearchEnd`] and [`CheckpointFault`] may get
-//! more variants in a later version. They are marked `#[non_exhaustive]`, so a `match` on one of them needs an arm `_` in another crate.
+//! [`Refusal`], [`Reply`], [`Outcome`], [`Step`], [`Recorded`], [`ThreadState`], [`Timeout`], [`PageSize`], [`Verdict`], [`NoPlan`],
+//! [`SearchEnd`] and [`CheckpointFault`] may get more variants in a later version. They are marked `#[non_exhaustive]`, so a `match` on one of them needs an arm `_` in another crate.
 #![warn(missing_docs)]
 #![deny(unsafe_code)]
 #![warn(clippy::undocumented_unsafe_blocks)]
@@ -156,6 +156,9 @@ mod growth {
     grows!(Reply: Ipc Hit Answered Failed Unmapped Controlled Gone);
     grows!(Outcome: Started Delivered NoWindow Entangled WantsMemory Expired);
     grows!(Step: Transfer Expire);
+    grows!(Recorded: Start Next);
+    grows!(Verdict: Agrees Differs NotEnabled);
+    grows!(NoPlan: Refused TooLong);
     grows!(ThreadState: New Running Sending Receiving);
     grows!(Timeout: Never Zero);
     grows!(PageSize: Kib4 Kib1);

@@ -110,6 +110,7 @@ impl Plan {
 
 /// The error for a region that has no plan.
 #[derive(Clone, PartialEq, Eq)]
+#[non_exhaustive]
 pub enum NoPlan {
     /// The region is refused with N1, N2 or N3.
     Refused(Refusal),

@@ -75,6 +75,7 @@ macro_rules! refusals {
 }
 
 refusals! {
+    EmptyHandle = L4_B1 "B1" "the handle is empty: it was never created, or it was freed";
     NotAStep = L4_B5 "B5" "the line is not a step or query of a step list";
     NotACheckpoint = L4_B6 "B6" "the bytes are not a checkpoint";
     NotEnabled = L4_K1 "K1" "the step is not enabled: this transfer or expiry cannot happen now";

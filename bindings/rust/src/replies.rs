@@ -1,7 +1,7 @@
 //! How calls end.
 use crate::ffi;
 use crate::refusals::unknown;
-use crate::words::{write_message, Hexadecimal};
+use crate::words::{items_in, parts_of, write_message, Hexadecimal};
 use crate::{Item, Message, Tag, ThreadId, MAX_WORDS};
 use std::error::Error;
 use std::fmt;
@@ -82,14 +82,9 @@ impl Received {
         Tag::of_word(self.tag).label()
     }
 
-    /// Returns the number of words before the items.
-    fn untyped_count(&self) -> usize {
-        Tag::of_word(self.tag).untyped().min(self.words.len())
-    }
-
     /// Returns the untyped words.
     pub fn untyped(&self) -> &[u32] {
-        &self.words[..self.untyped_count()]
+        parts_of(self.tag, &self.words).0
     }
 
     /// Returns the message, the tag first. Pass it to [`Pager::answer`](crate::Pager::answer) or [`Sigma0::answer`](crate::Sigma0::answer)
@@ -103,9 +98,7 @@ impl Received {
 
     /// Returns an iterator over the items.
     pub fn items(&self) -> impl Iterator<Item = Item> + '_ {
-        self.words[self.untyped_count()..]
-            .chunks_exact(2)
-            .filter_map(|pair| Item::read(pair[0], pair[1]).ok())
+        items_in(parts_of(self.tag, &self.words).1)
     }
 }
 

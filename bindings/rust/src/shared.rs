@@ -14,6 +14,7 @@ use std::time::{Duration, Instant};
 // Every second or third entry of a history is a start.
 #[allow(clippy::large_enum_variant)]
 #[derive(Clone, PartialEq, Eq, Debug)]
+#[non_exhaustive]
 pub enum Recorded {
     /// The thread started a call.
     Start {
@@ -223,6 +224,7 @@ struct Shared {
     ended: Mutex<HashSet<u32>>,
     steps: AtomicU64,
     frames: u32,
+    page_size: PageSize,
 }
 
 impl Shared {
@@ -261,8 +263,9 @@ impl Shared {
 ///
 /// While the call of one seat waits, other threads can run and other seats can make calls. The kernel keeps at most 1,000,000 entries of
 /// its history. Once it keeps more than 999,871, every further call of a seat is refused with L1; queries and
-/// [`close`](SharedKernel::close) still work. To run longer, call [`hand_out`](SharedKernel::hand_out) from time to time. The memory is
-/// freed when the kernel and all its seats are dropped.
+/// [`close`](SharedKernel::close) still work. To run longer, call [`hand_out`](SharedKernel::hand_out) from time to time. A clone is the same
+/// kernel, so each thread of the program may have one. The memory is freed when all clones and seats are dropped. After one clone was closed,
+/// the others find nothing: queries return nothing, and methods that can be refused return [`Refusal::EmptyHandle`].
 ///
 /// ```
 /// use l4::{Call, Fpage, Message, SharedKernel, ThreadId, Timeout};
@@ -278,6 +281,7 @@ impl Shared {
 /// assert!(kernel.close(vec![root, sigma0]).is_ok());
 /// # Ok::<(), Box<dyn std::error::Error>>(())
 /// ```
+#[derive(Clone)]
 pub struct SharedKernel {
     shared: Arc<Shared>,
 }
@@ -298,6 +302,7 @@ impl SharedKernel {
                     ended: Mutex::new(HashSet::new()),
                     steps: AtomicU64::new(0),
                     frames,
+                    page_size: size,
                 }),
             }),
             Err(number) => Err(Refusal::of(number, 0)),
@@ -325,8 +330,8 @@ impl SharedKernel {
         }
     }
 
-    /// Ends the wait in which the seat of this number is, in [`Seat::call_for`] or [`Seat::wait_for`]: that method then returns `None`, and
-    /// the call continues. This has no effect on a seat that does not wait in one of them.
+    /// Ends the wait in which the seat of this number is, and the call continues. [`Seat::call_for`] and [`Seat::wait_for`] then return `None`,
+    /// and [`Seat::call`] returns [`Refusal::StillWaiting`]. This has no effect on a seat that does not wait in one of them.
     pub fn end_wait(&self, number: u32) {
         let _lock = self.shared.lock();
         self.shared.ended().insert(number);
@@ -366,7 +371,11 @@ impl SharedKernel {
     /// L8 if the step with this number was handed out.
     pub fn entries(&self, since: u64) -> Result<Vec<Entry>, Refusal> {
         let lock = self.shared.lock();
-        if since < lock.kept_from().count {
+        let kept = lock.kept_from();
+        if kept.refusal != ffi::L4_OK {
+            return Err(Refusal::of(kept.refusal, 0));
+        }
+        if since < kept.count {
             return Err(Refusal::of(ffi::L4_L8, 0));
         }
         Ok(entries_of(&lock, since))
@@ -443,7 +452,7 @@ impl SharedKernel {
 
     /// Returns the size of the pages and frames with which the kernel was booted.
     pub fn page_size(&self) -> PageSize {
-        queries::page_size(&*self.shared.lock())
+        self.shared.page_size
     }
 
     /// Returns the mapping of a page of a space, as [`Kernel::mapping`] does.
@@ -606,19 +615,24 @@ impl Seat {
         self.number
     }
 
-    /// Makes a call, and waits until it has ended. Other seats can make calls meanwhile. Nothing else ends the wait: the kernel cannot be
-    /// closed without this seat.
+    /// Makes a call, and waits until it has ended. Other seats can make calls meanwhile. Only [`SharedKernel::end_wait`] ends the wait
+    /// earlier: the kernel cannot be closed without this seat.
     ///
     /// # Errors
     ///
     /// In this order: L3 if an earlier call has ended whose reply was not taken, L1, NoMemory, K2 if there is no such thread, and those of
-    /// [`Kernel::start`](crate::Kernel::start).
+    /// [`Kernel::start`](crate::Kernel::start). K3 if an earlier call still waits, or if `end_wait` ended the wait: in both cases, get the
+    /// reply of the call that waits with [`wait_for`](Seat::wait_for) or [`take`](Seat::take).
     pub fn call(&mut self, call: &Call) -> Result<Reply, Refusal> {
         let mut lock = self.shared.lock();
         let mut reply = self.enter(&mut lock, call)?;
+        self.shared.ended().remove(&self.number);
         loop {
             if let Some(reply) = reply {
                 return Ok(reply);
+            }
+            if self.shared.ended().remove(&self.number) {
+                return Err(Refusal::StillWaiting);
             }
             lock = self
                 .woken

@@ -711,6 +711,50 @@ impl Message {
     pub fn tag(&self) -> Option<Tag> {
         self.words().first().copied().map(Tag::of_word)
     }
+
+    /// Returns the label, or 0 if the message has no words.
+    ///
+    /// ```
+    /// use l4::{Fpage, Item, Message, Rights};
+    /// let item = Item::map(Fpage::page(16, Rights::ALL)?, 0x20000);
+    /// let message = Message::new(7, &[5], &[item])?;
+    /// assert_eq!((message.label(), message.untyped()), (7, &[5][..]));
+    /// assert_eq!(message.items().collect::<Vec<Item>>(), [item]);
+    /// # Ok::<(), Box<dyn std::error::Error>>(())
+    /// ```
+    pub fn label(&self) -> u16 {
+        self.tag().map_or(0, Tag::label)
+    }
+
+    /// Returns the untyped words, which come before the items.
+    pub fn untyped(&self) -> &[u32] {
+        self.parts().0
+    }
+
+    /// Returns an iterator over the items.
+    pub fn items(&self) -> impl Iterator<Item = Item> + '_ {
+        items_in(self.parts().1)
+    }
+
+    /// Returns the untyped words, and the words after them.
+    fn parts(&self) -> (&[u32], &[u32]) {
+        match self.words().split_first() {
+            Some((&tag, words)) => parts_of(tag, words),
+            None => (&[], &[]),
+        }
+    }
+}
+
+/// Returns the untyped words of a message with this tag, and the words after them.
+pub(crate) fn parts_of(tag: u32, words: &[u32]) -> (&[u32], &[u32]) {
+    words.split_at(Tag::of_word(tag).untyped().min(words.len()))
+}
+
+/// Returns an iterator over the items in the words after the untyped ones.
+pub(crate) fn items_in(words: &[u32]) -> impl Iterator<Item = Item> + '_ {
+    words
+        .chunks_exact(2)
+        .filter_map(|pair| Item::read(pair[0], pair[1]).ok())
 }
 
 impl PartialEq for Message {

@@ -286,7 +286,7 @@ fn a_run_has_two_continuations() {
     let mut kernel = delivered();
     let send = Call::send(ThreadId::ROOT, &message(&[1, 5]), Timeout::Zero);
     kernel.start(1, &send).unwrap();
-    let mut copy = kernel.try_clone().unwrap();
+    let mut copy = kernel.copy().unwrap();
     assert_eq!(
         (copy.threads(), copy.spaces()),
         (vec![1, 2, 3], vec![0, 1, 2])
@@ -312,7 +312,7 @@ fn the_other_kinds_of_calls() {
         .start(3, &Call::fault(0x20123, 0, Rights::READ))
         .unwrap();
     assert_eq!(kernel.reply(3), Some(Reply::Hit));
-    let unmap = Call::unmap(false, &[Fpage::complete(Rights::WRITE)]).unwrap();
+    let unmap = Call::unmap(&[Fpage::complete(Rights::WRITE)], false).unwrap();
     kernel.start(1, &unmap).unwrap();
     assert_eq!(kernel.reply(1), Some(Reply::Unmapped));
     assert_eq!(

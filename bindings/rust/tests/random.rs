@@ -73,7 +73,7 @@ impl Random {
             0 | 1 => Call::reply_and_wait(to, &self.message(), WINDOW, Timeout::Zero, wait),
             2 => Call::send(to, &self.message(), wait),
             3 => Call::fault(self.below(FRAMES) * PAGE_BYTES, 0, self.rights()),
-            4 => Call::unmap(self.below(4) == 0, &[self.fpage()]).unwrap(),
+            4 => Call::unmap(&[self.fpage()], self.below(4) == 0).unwrap(),
             5 => Call::delete(to),
             6 => Call::set_pager(to, id(self.thread())),
             _ => Call::create(to, id(self.thread()), id(self.thread())),
@@ -126,7 +126,7 @@ fn boot() -> Kernel {
 /// Makes a call, and checks what must hold then. Returns the transfers that it led to, or nothing if it was refused.
 fn check_call(kernel: &mut Kernel, thread: u32, call: &Call) -> Option<usize> {
     let before = state(kernel);
-    let mut copy = kernel.try_clone().unwrap();
+    let mut copy = kernel.copy().unwrap();
     let entered = kernel.enter(thread, call);
     let after = state(kernel);
     assert_eq!(entered, copy.enter(thread, call), "{thread} {call:?}");

@@ -263,6 +263,47 @@ fn a_call_goes_on_after_its_wait() {
 }
 
 #[test]
+fn the_wait_of_a_call_can_be_ended() {
+    let kernel = SharedKernel::new(1).unwrap();
+    let [mut sigma0, mut root] = [1, 2].map(|number| kernel.seat(number).unwrap());
+    thread::scope(|threads| {
+        let waits = threads.spawn(|| root.call(&receive(ThreadId::ANY)));
+        let other = kernel.clone();
+        while !waits.is_finished() {
+            other.end_wait(2);
+            thread::yield_now();
+        }
+        assert_eq!(waits.join().unwrap(), Err(Refusal::StillWaiting));
+    });
+    let message = Message::new(0, &[5], &[]).unwrap();
+    sigma0.call(&send(2, &message)).unwrap();
+    let reply = root.take().unwrap();
+    assert_eq!(reply.received().unwrap().unwrap().untyped(), [5]);
+    assert_eq!(kernel.close(vec![sigma0, root]).unwrap().len(), 3);
+}
+
+#[test]
+fn a_clone_of_a_closed_kernel_finds_nothing() {
+    let kernel = SharedKernel::new(1).unwrap();
+    let other = kernel.clone();
+    let mut root = other.seat(2).unwrap();
+    root.call(&create(3, ThreadId::NIL)).unwrap();
+    assert_eq!((kernel.threads().len(), other.threads().len()), (3, 3));
+    assert_eq!(kernel.close(vec![root]).unwrap().len(), 1);
+    assert_eq!((other.thread(2), other.mapping(0, 0)), (None, None));
+    assert_eq!((other.threads(), other.spaces()), (vec![], vec![]));
+    assert_eq!((other.reply(2), other.history()), (None, vec![]));
+    assert_eq!((other.steps(), other.page_size()), (1, PageSize::Kib4));
+    assert_eq!(other.entry(0), Err(Refusal::EmptyHandle));
+    assert_eq!(other.entries(0), Err(Refusal::EmptyHandle));
+    assert_eq!(other.seat(2).unwrap_err(), Refusal::EmptyHandle);
+    assert_eq!(other.copy().unwrap_err(), Refusal::EmptyHandle);
+    assert_eq!(other.hand_out().unwrap_err(), Refusal::EmptyHandle);
+    assert_eq!(other.provenance(0, 0), Err(Refusal::EmptyHandle));
+    other.end_wait(2);
+}
+
+#[test]
 fn a_copy_answers_as_the_kernel_does() {
     let kernel = SharedKernel::new(256).unwrap();
     let [mut sigma0, mut root, mut first] = [1, 2, 3].map(|number| kernel.seat(number).unwrap());
