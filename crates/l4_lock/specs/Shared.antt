@@ -8,11 +8,21 @@ use Rattle.l4_lock.specs.declared.entries.Receipt.{Receipt}
 use Rattle.l4_pager.specs.declared.serving.GateFault.{GateFault}
 use Rattle.l4_lock.specs.Books.{SeatState}
 use Rattle.l4_lock.specs.Receipts.{Proves}
-use Rattle.l4_lock.specs.Locked.{Lock, IsKept, Refuses, RefusesSeat, HandsOut}
+use Rattle.l4_lock.specs.Locked.{Lock, IsKept, Enters, Refuses, RefusesSeat, HandsOut}
 use Rattle.l4_lock.specs.declared.refusals.LockRefusal.{LockRefusal}
 use Rattle.l4_lock.specs.declared.refusals.LockRefusal.TheVariants.{HistoryFull, NoMemory, ReplyWaiting, SeatTaken, Kernel as ByKernel}
 
--- the seat gained one receipt, with the call that it entered and the reply that it got
+-- The thread's call was entered into the locked kernel that was under the lock at that time, as the recorder enters it. Every invariant of
+-- its type held.
+pub record IsEntered (n : ℕ) (call : Call) : Type 0 where
+  pub old : Lock
+  pub new : Lock
+  pub kept : IsKept old
+  pub enters : Enters old new n call
+
+-- The call was entered, and has ended with this reply: the seat gained one receipt, with the call that it entered and the reply that it got.
+-- The receipt is right about the history of the locked kernel that was under the lock when the reply was taken, where its call is the one
+-- that the lock recorded.
 pub record IsAnswered (before after : SeatState) (call : Call) (reply : Reply) : Type 0 where
   pub receipt : Receipt
   pub number : after.number ≡ before.number
@@ -21,10 +31,15 @@ pub record IsAnswered (before after : SeatState) (call : Call) (reply : Reply) :
   pub kept_from : after.kept_from ≡ before.kept_from
   pub gives : receipt.call ≡ call
   pub answers : receipt.reply ≡ reply
+  pub entered : IsEntered before.number call
+  pub lock : Lock
+  pub kept : IsKept lock
+  pub recorded : Call
+  pub proves : Proves lock.frames lock.history before.number (record receipt { call = recorded })
 
 -- the call was entered and has not ended: the seat has one more call that was left waiting
-abbrev pub LeavesWaiting : SeatState → SeatState → Type 0
-LeavesWaiting before after = after ≡ record before { waiting = before.waiting + 1 }
+abbrev pub LeavesWaiting : SeatState → SeatState → Call → Type 0
+LeavesWaiting before after call = (after ≡ record before { waiting = before.waiting + 1 }) × IsEntered before.number call
 
 -- A call of the seat that was left waiting has ended, and is taken with this reply. The seat gained its receipt, which is right about the
 -- history of the locked kernel that was under the lock at that time.

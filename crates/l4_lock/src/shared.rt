@@ -5,6 +5,7 @@ ghost use Rattle.l4_fpage.specs.Pages.{max_frames};
 ghost use Rattle.l4_board.specs.Board.{IsNewWatch};
 ghost use Rattle.l4_lock.specs.Books.{seat_state};
 ghost use Rattle.l4_lock.specs.Locked.{IsKept, RefusesBoot};
+ghost use Rattle.l4_lock.specs.Inside.Sharing.{EndsOrWaits, TakesOwn};
 ghost use Rattle.l4_lock.specs.Shared.{IsAnswered, Declines, DeclinesSeat, IsHandedOut, EndsSegments, gate_state, pairs_of};
 
 use crate::copies::copy_call;
@@ -39,6 +40,33 @@ impl Model for KernelLock {
     ghost coded = { table_id_coded };
 
     ghost view = { λ l. l.board };
+}
+
+/// Enters a call into the locked kernel that is under the lock.
+pub(crate) fn enter_kept(
+    locked: &mut Locked,
+    seat: &mut Seat,
+    call: Call,
+) -> Result<Entered, LockRefusal>
+    ensures ok { IfOk result (EndsOrWaits seat.old seat.new call) }
+    ensures err { OnErr result (seat.new ≡ seat.old) }
+    ensures refuses { IfErr result (Declines seat.old.number call) }
+{
+    locked.law_kept();
+    let entered = match locked.enter(seat, call) {
+        Ok(entered) => entered,
+        Err(refusal) => return Err(refusal),
+    };
+    locked.law_kept();
+    Ok(entered)
+}
+
+/// Takes the reply of this call of the seat, which was left waiting, if it has ended since.
+pub(crate) fn take_own(locked: &mut Locked, seat: &mut Seat, call: &Call) -> Option<Reply>
+    ensures { MatchOption result (seat.new ≡ seat.old) (TakesOwn seat.old seat.new call.now) }
+{
+    locked.law_kept();
+    locked.take_for(seat, call)
 }
 
 impl KernelLock {
@@ -92,7 +120,8 @@ impl KernelLock {
         Ok(seat)
     }
 
-    /// Enters a call, and waits until it has ended; the lock is free meanwhile. The seat gains a receipt with this call and the reply.
+    /// Enters a call, and waits until it has ended; the lock is free meanwhile. The seat gains a receipt with this call and the reply. The
+    /// reply is the machine's, in the history of the locked kernel that was under the lock when it was taken.
     ///
     /// Returns the refusals of `Locked::enter`, in the same order, for the state under the lock at that time. After a refusal, the seat is
     /// unchanged.
@@ -103,8 +132,7 @@ impl KernelLock {
     {
         let own = copy_call(&call);
         let mut guard = self.locked.lock(rt);
-        guard.law_kept();
-        let entered = match guard.enter(seat, call) {
+        let entered = match enter_kept(&mut guard, seat, call) {
             Ok(entered) => entered,
             Err(refusal) => return Err(refusal),
         };
@@ -113,7 +141,7 @@ impl KernelLock {
             return Ok(reply);
         }
         for _ in rt.forever() {
-            if let Some(reply) = guard.take_for(seat, &own) {
+            if let Some(reply) = take_own(&mut guard, seat, &own) {
                 return Ok(reply);
             }
             guard = self.ended.wait(rt, guard);

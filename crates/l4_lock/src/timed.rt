@@ -6,7 +6,7 @@ use crate::copies::copy_call;
 use crate::locked::Locked;
 use crate::refusals::{Entered, LockRefusal};
 use crate::seats::Seat;
-use crate::shared::KernelLock;
+use crate::shared::{KernelLock, enter_kept, take_own};
 use l4_ipc::{Call, Reply};
 use std::sync::atomic::Ordering;
 use std::sync::{CondvarTimeouts, Wait};
@@ -47,7 +47,7 @@ impl KernelLock {
         limit: Duration,
     ) -> Result<Option<Reply>, LockRefusal>
         ensures ok { IfOk result
-            (λ ended. MatchOption ended (LeavesWaiting seat.old seat.new) (IsAnswered seat.old seat.new call)) }
+            (λ ended. MatchOption ended (LeavesWaiting seat.old seat.new call) (IsAnswered seat.old seat.new call)) }
         ensures err { OnErr result (seat.new ≡ seat.old) }
         ensures refuses { IfErr result (λ e. Declines seat.old.number call e) }
     {
@@ -55,8 +55,7 @@ impl KernelLock {
         let begin = Instant::now(rt).ok();
         let mut guard = self.locked.lock(rt);
         let ends = self.ends.load(Ordering::SeqCst);
-        guard.law_kept();
-        let entered = match guard.enter(seat, call) {
+        let entered = match enter_kept(&mut guard, seat, call) {
             Ok(entered) => entered,
             Err(refusal) => return Err(refusal),
         };
@@ -65,7 +64,7 @@ impl KernelLock {
             return Ok(Some(reply));
         }
         for _ in rt.forever() {
-            if let Some(reply) = guard.take_for(seat, &own) {
+            if let Some(reply) = take_own(&mut guard, seat, &own) {
                 return Ok(Some(reply));
             }
             if self.ends.load(Ordering::SeqCst) != ends {

@@ -1,10 +1,7 @@
-use Rattle.std.proofs.Common.{sym, ◌∙◌, subst}
-use Rattle.l4_lock.specs.Locked.{IsKept}
+use Rattle.l4_lock.proofs.Taken.{answered_in_turn}
 use Rattle.l4_lock.proofs.shared.KernelLock.call.Goals as goal
 
-pub returns-in-Err-clause-refuses : goal.returns-in-Err-clause-refuses
-returns-in-Err-clause-refuses g c = (
-  c.deref_mut.result.now,
-  subst IsKept (c.deref.ensures ∙ sym c.deref_mut.ensures.value) c.law_kept.ensures,
-  c.in-Err.ensures.err.0,
-)
+pub returns-in-Some-take_own-clause-ok : goal.returns-in-Some-take_own-clause-ok
+returns-in-Some-take_own-clause-ok g c =
+    answered_in_turn c.args.seat.now c.enter_kept.new.seat c.loop.seat c.take_own.new.seat c.args.call c.copy_call-own.result c.in-Ok.entered c.in-Some-take_own.reply c.in_default.not-Done c.in-Ok.ensures.ok
+    c.loop.invariant.2 c.copy_call-own.ensures c.in-Some-take_own.ensures
