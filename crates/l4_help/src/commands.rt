@@ -460,8 +460,9 @@ of its code. With --number, 'L: ' stands before each answer to line L. With
 --moves, each transfer is followed by a line for each page that it moved:
 
   # moved SOURCE to TARGET RIGHTS  page SOURCE of the sender's space went to page
-                                   TARGET of the receiver's, which got RIGHTS:
-                                   those that page and item have in common. The
+                                   TARGET of the receiver's, which has RIGHTS
+                                   there after the transfer: absent if a grant of
+                                   the same message removed the page again. The
                                    lines are in the order of the items, and then
                                    of the pages
 

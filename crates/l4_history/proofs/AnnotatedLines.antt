@@ -1,5 +1,5 @@
 -- The lines of a script that were answered with annotations so far.
-use Rattle.std.proofs.Common.{◌≡◌, ℕ, ◌+◌, ◌==◌, ◌<◌, Bool, true, false, cond, List, [], ◌++◌, length, take, drop, refl, sym, ap, subst, ◌∙◌, Option, Some, None, Result, Ok, Err, IfOk, IfErr, arith}
+use Rattle.std.proofs.Common.{◌≡◌, ℕ, ◌+◌, ◌==◌, ◌<◌, Bool, true, false, cond, List, [], ◌++◌, length, take, drop, refl, sym, ap, subst, ◌∙◌, Option, Some, None, is_some, Result, Ok, Err, IfOk, IfErr, inl, inr, arith}
 use Rattle.std.proofs.lemmas.List.{append-nil, nil_from_length}
 use Rattle.std.specs.List.{position_or_len}
 use mathlib.Core.List.{append_assoc}
@@ -20,9 +20,10 @@ use Rattle.l4_text.specs.Grammar.{TextLine, lines_of, is_comment}
 use Rattle.l4_text.specs.Streams.{Tells}
 use Rattle.l4_text.proofs.Telling.{tells_none, tells_more, tells_is}
 use Rattle.l4_text.specs.declared.faults.RunFault.{RunFault}
+use Rattle.l4_text.specs.declared.faults.RunFault.TheVariants.{Memory}
 use Rattle.l4_answers.proofs.AnswerTexts.{begins}
-use Rattle.l4_history.specs.Annotations.{number_text, line_text, tells_transfer, HasMoves, IsAnnotated, Annotates}
-use Rattle.l4_history.specs.Inside.Annotating.{RanOut, Answered}
+use Rattle.l4_history.specs.Annotations.{number_text, line_text, tells_transfer, HasMoves, IsAnnotated, Annotates, AnnotatesPart}
+use Rattle.l4_history.specs.Inside.Annotating.{RanOut, RanOutIn, RanOutBelow, Answered}
 use Rattle.l4_history.specs.declared.annotating.Annotated.{Annotated}
 use Rattle.l4_history.specs.Moves.{NextMoves}
 use Rattle.l4_history.specs.declared.moves.Follower.{Follower}
@@ -65,10 +66,20 @@ moving_line (Ok done) numbers line history follower after bytes w v u x s t z y 
     )
 moving_line (Err fault) numbers line history follower after bytes w v u x s t z y answer transfer number told h = h
 
-pub moving_err : (r : Result (Unit {0}) RunFault) (number bytes : List ℕ) (w v u x : Option (List ℕ)) (s t z y : List ℕ × Bool) → Tells w v s t number → Tells v u t z bytes → IfErr r (RanOut u x z y) → IfErr r (RanOut w x s y)
-moving_err (Ok done) number bytes w v u x s t z y one other h = h
-moving_err (Err fault) number bytes w v u x s t z y one other h =
-    (h.0, (number ++ (bytes ++ h.1.0), tells_more w v x s t y number (bytes ++ h.1.0) one (tells_more v u x t z y bytes h.1.0 other h.1.1)))
+-- there was no memory to find its moves
+pub moving_err : (r : Result (Unit {0}) RunFault) (numbers : Bool) (line : ℕ) (follower : Option Follower) (bytes : List ℕ) (w v u x : Option (List ℕ)) (s t z y : List ℕ × Bool)
+    → is_comment bytes ≡ false → tells_transfer bytes ≡ true → Tells w v s t (number_text numbers line) → Tells v u t z bytes
+    → IfErr r (λ e. (e ≡ Memory) × (is_some follower ≡ true) × (x ≡ u) × (y ≡ z)) → IfErr r (RanOutBelow numbers line follower bytes w x s y)
+moving_err (Ok done) numbers line follower bytes w v u x s t z y answer transfer number told h = h
+moving_err (Err fault) numbers line follower bytes w v u x s t z y answer transfer number told h =
+    let text : List ℕ = number_text numbers line ++ bytes in (
+      h.0,
+      answer,
+      transfer,
+      h.1,
+      subst (λ (o : Option (List ℕ)). Tells w o s y text) (sym h.2)
+          (subst (λ (o : List ℕ × Bool). Tells w u s o text) (sym h.3) (tells_more w v u s t z (number_text numbers line) bytes number told)),
+    )
 
 -- any other answer
 pub other_line : (numbers : Bool) (line : ℕ) (history : List Entry) (follower : Option Follower) (bytes : List ℕ) (w v u : Option (List ℕ)) (s t z : List ℕ × Bool)
@@ -89,9 +100,10 @@ pub record TextSoFar (numbers : Bool) (line : ℕ) (history : List Entry) (text 
   pub written : List ℕ
   pub tells : Tells w v s t written
   pub on : (more : List ℕ) (after : Option Follower) → Annotates numbers line history now (lines_of rest) more after → Annotates numbers line history first (lines_of text) (written ++ more) after
+  pub part : (more : List ℕ) → AnnotatesPart numbers line history now (lines_of rest) more → AnnotatesPart numbers line history first (lines_of text) (written ++ more)
 
 pub text_first : (numbers : Bool) (line : ℕ) (history : List Entry) (text : List ℕ) (follower : Option Follower) (w : Option (List ℕ)) (s : List ℕ × Bool) → TextSoFar numbers line history text text follower follower w w s s
-text_first numbers line history text follower w s = record { written = []; tells = tells_none w s; on = λ more after h. h }
+text_first numbers line history text follower w s = record { written = []; tells = tells_none w s; on = λ more after h. h; part = λ more h. h }
 
 pub text_more : (numbers : Bool) (line : ℕ) (history : List Entry) (text rest left piece : List ℕ) (first now then' : Option Follower) (w v u : Option (List ℕ)) (s t z : List ℕ × Bool) → TextSoFar numbers line history text rest first now w v s t
     → 0 < length rest → piece ≡ take (position_or_len (λ b. b == 10) rest + 1) rest → left ≡ drop (position_or_len (λ b. b == 10) rest + 1) rest
@@ -114,6 +126,17 @@ text_more numbers line history text rest left piece first now then' w v u s t z 
             subst (λ (r : List ℕ). Annotates numbers line history then' (lines_of r) more after) left_is h,
             refl,
           )));
+      part = λ more h.
+          subst (λ (x : List ℕ). AnnotatesPart numbers line history first (lines_of text) x) (sym (append_assoc so.written one.0 more))
+          (so.part (one.0 ++ more)
+          (subst (λ (ls : List TextLine). AnnotatesPart numbers line history now ls (one.0 ++ more)) (sym b.lines) (inr (
+            one.0,
+            more,
+            then',
+            subst (λ (p : List ℕ). IsAnnotated numbers line history now (is_comment p) p one.0 then') same one.1,
+            subst (λ (r : List ℕ). AnnotatesPart numbers line history then' (lines_of r) more) left_is h,
+            refl,
+          ))));
     }
 
 pub text_all : (numbers : Bool) (line : ℕ) (history : List Entry) (text rest : List ℕ) (first now : Option Follower) (w v : Option (List ℕ)) (s t : List ℕ × Bool) → TextSoFar numbers line history text rest first now w v s t → length rest ≡ 0
@@ -125,10 +148,29 @@ text_all numbers line history text rest first now w v s t so none =
       tells_is w v s t so.written (so.written ++ []) (sym (append-nil so.written)) so.tells,
     )
 
--- ran out below what was told
-pub text_err : (fault : RunFault) (numbers : Bool) (line : ℕ) (history : List Entry) (text rest : List ℕ) (first now : Option Follower) (w v u : Option (List ℕ)) (s t z : List ℕ × Bool) → TextSoFar numbers line history text rest first now w v s t
-    → RanOut v u t z fault → RanOut w u s z fault
-text_err fault numbers line history text rest first now w v u s t z so h = (h.0, (so.written ++ h.1.0, tells_more w v u s t z so.written h.1.0 so.tells h.1.1))
+-- ran out below the next line of the text
+pub text_err : (fault : RunFault) (numbers : Bool) (line : ℕ) (history : List Entry) (text rest piece : List ℕ) (first now : Option Follower) (w v u : Option (List ℕ)) (s t z : List ℕ × Bool)
+    → TextSoFar numbers line history text rest first now w v s t → 0 < length rest → piece ≡ take (position_or_len (λ b. b == 10) rest + 1) rest
+    → RanOutBelow numbers line now piece v u t z fault → RanOutIn numbers line history first (lines_of text) w u s z fault
+text_err fault numbers line history text rest piece first now w v u s t z so some piece_is h =
+    let b = begins rest some in
+    let front : TextLine = record { bytes = take (position_or_len (λ b. b == 10) rest) rest; whole = b.whole } in
+    let same : piece ≡ line_text front = piece_is ∙ sym b.piece in
+    let more : List ℕ = number_text numbers line ++ piece in (
+      h.0,
+      (
+        so.written ++ more,
+        so.part more
+            (subst (λ (ls : List TextLine). AnnotatesPart numbers line history now ls more) (sym b.lines)
+            (inl (ap is_comment (sym same) ∙ h.1, ap tells_transfer (sym same) ∙ h.2, h.3, ap (λ p. number_text numbers line ++ p) same))),
+        tells_more w v u s t z so.written more so.tells h.4,
+      ),
+    )
+
+-- the modes are those that it began with
+pub same_below : (first now : Annotated) (fault : RunFault) (line : ℕ) (bytes : List ℕ) (w v : Option (List ℕ)) (s t : List ℕ × Bool) → now ≡ record first { follower = now.follower }
+    → RanOutBelow now.number line now.follower bytes w v s t fault → RanOutBelow first.number line now.follower bytes w v s t fault
+same_below first now fault line bytes w v s t was h = subst (λ (a : Annotated). RanOutBelow a.number line now.follower bytes w v s t fault) was h
 
 -- nothing is left of a text
 pub none_left : (count : ℕ) (empty : Bool) → empty ≡ (count == 0) → empty ≡ true → count ≡ 0
@@ -153,6 +195,17 @@ line_answered contents first told_to sent writer explains strict m n line ending
       texts = subst (λ (t : List ℕ). AreAnswerTexts explains told t) (sym same) (subst (λ (e : Option PageSize). AreAnswerTexts e told w.1.0) is.explains_is w.1.1);
       refused_is = refused_is ∙ w.0.refused ∙ ap (λ b. cond b (last_refusal None told) None) is.strict_is;
     }
+
+-- memory ran out in its annotations
+pub line_ran_out : (fault : RunFault) (old now : Annotated) (line : ℕ) (ending : Ending) (bytes plain text : List ℕ) (refused : Option (List ℕ)) (w v : Option (List ℕ)) (s t : List ℕ × Bool)
+    → now ≡ record old { run = now.run } → text ≡ plain → Answered old.explains old.strict (state_of old.run) line ending bytes plain refused (state_of now.run)
+    → RanOutIn now.number line (state_of now.run).session.history now.follower (lines_of text) w v s t fault
+    → RanOut old.explains old.strict old.number (state_of old.run) line ending bytes old.follower w v s t fault
+line_ran_out fault old now line ending bytes plain text refused w v s t was same answered h =
+    let told : RanOutIn old.number line (state_of now.run).session.history old.follower (lines_of plain) w v s t fault =
+    subst (λ (a : Annotated). RanOutIn a.number line (state_of now.run).session.history a.follower (lines_of plain) w v s t fault) was
+    (subst (λ (x : List ℕ). RanOutIn now.number line (state_of now.run).session.history now.follower (lines_of x) w v s t fault) same h) in
+    (told.0, (told.1.0, inr (record { plain = plain; refused = refused; n = state_of now.run; answered = answered; part = told.1.1 }), told.1.2))
 
 -- the modes of the kernel of a script, and its history, are those that it began with
 pub same_modes : (first now : Annotated) (line : ℕ) (comment : Bool) (bytes : List ℕ) (after : Option Follower) (w v : Option (List ℕ)) (s t : List ℕ × Bool) → now ≡ record first { follower = now.follower }

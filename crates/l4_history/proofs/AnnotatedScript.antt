@@ -3,7 +3,7 @@ use Rattle.std.proofs.Common.{◌≡◌, ◌⊎◌, ℕ, ◌+◌, ◌-◌, ◌<�
 use Rattle.std.proofs.lemmas.Bool.{false≢true}
 use Rattle.std.proofs.lemmas.List.{append-nil}
 use Rattle.std.proofs.lemmas.List.Elements.{All-push}
-use Rattle.std.specs.Io.KnownBytes.{Consumes, Appends}
+use Rattle.std.specs.Io.KnownBytes.{Consumes, Appends, IsAtEnd}
 use Rattle.std.specs.List.{All}
 use mathlib.Core.List.{append_assoc}
 use denote.Enum.Bare.{sameb}
@@ -31,9 +31,9 @@ use Rattle.l4_sinks.specs.Texts.{last_refusal}
 use Rattle.l4_sinks.specs.Words.{says}
 use Rattle.l4_sinks.specs.declared.scripts.Ended.{Ended}
 use Rattle.l4_sinks.proofs.Running.{some_said}
-use Rattle.l4_answers.proofs.Taking.{Taken, taken_none, taken_more, taken_parts, taken_with, something_kept, nothing_kept}
-use Rattle.l4_history.specs.Annotations.{AnnotatesLine, AnnotatesLines, IsFirstFollower, AnnotatesFirst, AnnotatesScript}
-use Rattle.l4_history.specs.Inside.Annotating.{refusal_of, TellsLine, RanOut, TellsFirst, TellsLines}
+use Rattle.l4_answers.proofs.Taking.{Taken, taken_none, taken_more, taken_parts, taken_with, something_kept, nothing_kept, line_of_more}
+use Rattle.l4_history.specs.Annotations.{AnnotatesLine, AnnotatesLines, IsFirstFollower, AnnotatesFirst, AnnotatesSome, IsNextPart, IsTextBefore, AnnotatesScript}
+use Rattle.l4_history.specs.Inside.Annotating.{refusal_of, TellsLine, TellsSome, RanOut, TellsFirst, TellsLines}
 use Rattle.l4_history.specs.declared.annotating.Annotated.{Annotated}
 use Rattle.l4_history.specs.declared.annotating.Annotations.{Annotations}
 use Rattle.l4_history.specs.declared.moves.Follower.{Follower}
@@ -301,25 +301,49 @@ module _ (explains : Option PageSize) (strict numbers : Bool) (m : State) (first
             inl (g.1, sym all),
           )
 
-    -- memory ran out in a line
-    pub lines_ran_out : (ending : Ending) (r : Option Ending) (u : Option (List ℕ)) (t : List ℕ × Bool) (fault : RunFault) → GivesLine mid new now later kept (Ok r) → r ≡ Some ending → RanOut v u s t fault
-        → TellsLines explains strict numbers m first old new written u before t (Err fault)
-    unfolding some_with rest_is
+    -- memory ran out in this line
+    module _ (u : Option (List ℕ)) (t : List ℕ × Bool) (fault : RunFault) (ending : Ending) (line : TextLine) where
+      next_part : (rest : List TextLine) (text : List ℕ) → (line.whole ≡ true) ⊎ IsAtEnd new → asked_at n.session.machine.size n.names ending kept.0 ≡ asked_of n.session.machine.size n.names line
+          → (text ≡ []) ⊎ TellsSome explains strict numbers n number ending kept.0 after text → IsNextPart explains strict numbers n after a.lines (line ∷ rest) a.told new text
+      next_part rest text sure asks (inl none) = inl none
+      next_part rest text sure asks (inr h) =
+          let at : number ≡ length a.lines + 1 = let k = a.taken.number_is in omega (arith, k) in
+          let some : AnnotatesSome explains numbers n number after line text = record {
+            told = h.answered.told;
+            new = h.n;
+            answers = subst (λ q. AnswersLine n number q h.answered.told h.n) asks h.answered.answers;
+            plain = h.plain;
+            is_plain = h.answered.texts;
+            part = h.part;
+          } in
+          inr (line, rest, refl, sure, a.quiet, subst (λ (k : ℕ). AnnotatesSome explains numbers n k after line text) at some)
+
+      ran_out : (read taken : List ℕ) (rest : List TextLine) → Consumes mid new read → now.0 ++ read ≡ taken → lines_of taken ≡ line ∷ rest → (line.whole ≡ true) ⊎ IsAtEnd new
+          → asked_at n.session.machine.size n.names ending kept.0 ≡ asked_of n.session.machine.size n.names line → RanOut explains strict numbers n number ending kept.0 after v u s t fault
+          → TellsLines explains strict numbers m first old new written u before t (Err fault)
+      unfolding some_with
+      ran_out read taken rest more same is sure asks h =
+          subst (λ (f : RunFault). TellsLines explains strict numbers m first old new written u before t (Err f)) (sym h.0)
+          ((n, after, some_with read taken (line ∷ rest) more same is), h.1.0, next_part rest h.1.0 sure asks h.1.1, tells_more written v u before s t a.text h.1.0 a.tells h.1.2)
+
+    pub lines_ran_out : (ending : Ending) (r : Option Ending) (u : Option (List ℕ)) (t : List ℕ × Bool) (fault : RunFault) → GivesLine mid new now later kept (Ok r) → r ≡ Some ending
+        → RanOut explains strict numbers n number ending kept.0 after v u s t fault → TellsLines explains strict numbers m first old new written u before t (Err fault)
+    unfolding rest_is
     lines_ran_out Whole r u t fault gives is h =
         let g = subst (λ (o : Option Ending). GivesLine mid new now later kept (Ok o)) is gives in
         let l = g.0 in
-        subst (λ (f : RunFault). TellsLines explains strict numbers m first old new written u before t (Err f)) (sym h.0)
-        ((n, after, some_with l.takes.read ((l.bytes ++ 10 ∷ []) ++ later.0) (lines_of ((l.bytes ++ 10 ∷ []) ++ later.0)) l.takes.from l.takes.same refl), h.1.0, tells_more written v u before s t a.text h.1.0 a.tells h.1.1)
+        ran_out u t fault Whole (record { bytes = l.bytes; whole = true }) l.takes.read ((l.bytes ++ 10 ∷ []) ++ later.0) (lines_of later.0) l.takes.from l.takes.same
+        (line_of_more mid new now later kept l) (inl refl) (asked_whole n.session.machine.size n.names l.bytes kept l.kept_is g.1) h
     lines_ran_out Long r u t fault gives is h =
         let g = subst (λ (o : Option Ending). GivesLine mid new now later kept (Ok o)) is gives in
         let l = g.0 in
-        subst (λ (f : RunFault). TellsLines explains strict numbers m first old new written u before t (Err f)) (sym h.0)
-        ((n, after, some_with l.takes.read ((l.bytes ++ 10 ∷ []) ++ later.0) (lines_of ((l.bytes ++ 10 ∷ []) ++ later.0)) l.takes.from l.takes.same refl), h.1.0, tells_more written v u before s t a.text h.1.0 a.tells h.1.1)
+        ran_out u t fault Long (record { bytes = l.bytes; whole = true }) l.takes.read ((l.bytes ++ 10 ∷ []) ++ later.0) (lines_of later.0) l.takes.from l.takes.same
+        (line_of_more mid new now later kept l) (inl refl) (asked_long n.session.machine.size n.names l.bytes kept l.kept_is g.1) h
     lines_ran_out Cut r u t fault gives is h =
         let g = subst (λ (o : Option Ending). GivesLine mid new now later kept (Ok o)) is gives in
         let l = g.0 in
-        subst (λ (f : RunFault). TellsLines explains strict numbers m first old new written u before t (Err f)) (sym h.0)
-        ((n, after, some_with l.takes.read l.bytes (lines_of l.bytes) l.takes.from (rest_is l) refl), h.1.0, tells_more written v u before s t a.text h.1.0 a.tells h.1.1)
+        let some : 0 < length (take 4096 l.bytes) = omega (arith, g.2, ap (λ k. length k.0) l.kept_is) in
+        ran_out u t fault Cut (record { bytes = l.bytes; whole = false }) l.takes.read l.bytes [] l.takes.from (rest_is l) (cut_line l.bytes l.plain (something_kept l.bytes some)) (inr g.1) refl h
 
   -- a write failed
   pub lines_failed : (mid : Option (List ℕ)) (now : List ℕ × ℕ) (number : ℕ) (n : State) (after : Option Follower) (v : Option (List ℕ)) (s : List ℕ × Bool) → LinesSoFar mid now number n after v s → s.1 ≡ true
@@ -349,6 +373,13 @@ pub tells_modes : (first now : Annotated) (m n : State) (line : ℕ) (ending : E
 tells_modes first now m n line ending bytes kept follower after refused w v s t was same h =
     subst (λ (b : List ℕ). TellsLine first.explains first.strict first.number m line ending b follower refused n after w v s t) same
     (subst (λ (a : Annotated). TellsLine a.explains a.strict a.number m line ending bytes follower refused n after w v s t) was h)
+
+pub ran_modes : (first now : Annotated) (m : State) (line : ℕ) (ending : Ending) (bytes kept : List ℕ) (follower : Option Follower) (fault : RunFault) (w v : Option (List ℕ)) (s t : List ℕ × Bool)
+    → now ≡ record first { run = now.run; follower = now.follower } → bytes ≡ kept → RanOut now.explains now.strict now.number m line ending bytes follower w v s t fault
+    → RanOut first.explains first.strict first.number m line ending kept follower w v s t fault
+ran_modes first now m line ending bytes kept follower fault w v s t was same h =
+    subst (λ (b : List ℕ). RanOut first.explains first.strict first.number m line ending b follower w v s t fault) same
+    (subst (λ (a : Annotated). RanOut a.explains a.strict a.number m line ending bytes follower w v s t fault) was h)
 
 pub kept_modes : (first now new : Annotated) → now ≡ record first { run = now.run; follower = now.follower } → new ≡ record now { run = new.run; follower = new.follower } → new ≡ record first { run = new.run; follower = new.follower }
 kept_modes first now new was is = is ∙ ap (λ (a : Annotated). record a { run = new.run; follower = new.follower }) was
@@ -386,6 +417,23 @@ first_of frames size notes a n after old new b s = record {
   stops = λ is. s.stops (b.2 ∙ is);
 }
 
+-- the text where memory ran out
+text_before : (frames : ℕ) (size : PageSize) (notes : Annotations) (a : Annotated) (n : State) (after : Option Follower) (old new : Option (List ℕ)) (b : Starts frames size notes a)
+    (f : TellsFirst a.explains a.strict a.number (state_of a.run) n a.follower after old new) (more : List ℕ) → IsNextPart a.explains a.strict a.number n after f.lines f.later f.told new more
+    → IsTextBefore frames size notes old new (first_of frames size notes a n after old new b f) (f.text ++ more)
+unfolding first_of
+text_before frames size notes a n after old new b f more part = (
+  more,
+  subst (λ (e : Option PageSize). IsNextPart e notes.style.strict notes.number n after f.lines f.later f.told new more) b.1
+      (subst (λ (k : Bool). IsNextPart a.explains k notes.number n after f.lines f.later f.told new more) b.2
+      (subst (λ (k : Bool). IsNextPart a.explains a.strict k n after f.lines f.later f.told new more) b.3 part)),
+  refl,
+)
+
+-- all of the text of the first lines
+text_whole : (frames : ℕ) (size : PageSize) (notes : Annotations) (old new : Option (List ℕ)) (f : AnnotatesFirst frames size notes old new) → IsTextBefore frames size notes old new f f.text
+text_whole frames size notes old new f = ([], inl refl, sym (append-nil f.text))
+
 module _ (frames : ℕ) (size : PageSize) (notes : Annotations) (a : Annotated) (old new written v now : Option (List ℕ)) (before s : List ℕ × Bool) (b : Starts frames size notes a) (empty : before ≡ ([], false)) where
   -- all that was told went out
   pub script_out : (result : Result Ended RunFault) → TellsLines a.explains a.strict a.number (state_of a.run) a.follower old new written v before s result → s.1 ≡ false
@@ -400,25 +448,20 @@ module _ (frames : ℕ) (size : PageSize) (notes : Annotations) (a : Annotated) 
   )
   script_out (Err Read) h whole sent = (first_of frames size notes a h.0.0 h.0.1 old new b h.0.2, h.2, all_out written v now before s h.0.2.text empty h.1 sent)
   script_out (Err Write) h whole sent = absurd (false≢true (sym whole ∙ h.2))
-  script_out (Err Memory) h whole sent = inr (first_of frames size notes a h.0.0 h.0.1 old new b h.0.2, h.1, all_out written v now before s (h.0.2.text ++ h.1) empty h.2 sent)
+  script_out (Err Memory) h whole sent =
+      inr (first_of frames size notes a h.0.0 h.0.1 old new b h.0.2, h.0.2.text ++ h.1, text_before frames size notes a h.0.0 h.0.1 old new b h.0.2 h.1 h.2, all_out written v now before s (h.0.2.text ++ h.1) empty h.3 sent)
 
   -- a write failed
-  pub script_lost : (result : Result Ended RunFault) → TellsLines a.explains a.strict a.number (state_of a.run) a.follower old new written v before s result
+  lost_whole : (n : State) (after : Option Follower) (f : TellsFirst a.explains a.strict a.number (state_of a.run) n a.follower after old new) → Tells written v before s f.text
       → ((start : Option (List ℕ)) (told : List ℕ) → HasTold start v s.0 s.1 told → WentOut start now told) → AnnotatesScript frames size notes old new written now (Err Write)
   unfolding first_of
-  script_lost (Ok ended) h lost = (
-    first_of frames size notes a h.0.0 h.0.1 old new b h.0.2,
-    [],
-    subst (λ (t : List ℕ). WentOut written now t) (sym (append-nil h.0.2.text)) (some_out written v now before s h.0.2.text empty h.1 lost),
-  )
-  script_lost (Err Read) h lost = (
-    first_of frames size notes a h.0.0 h.0.1 old new b h.0.2,
-    [],
-    subst (λ (t : List ℕ). WentOut written now t) (sym (append-nil h.0.2.text)) (some_out written v now before s h.0.2.text empty h.1 lost),
-  )
-  script_lost (Err Write) h lost = (
-    first_of frames size notes a h.0.0 h.0.1 old new b h.0.2,
-    [],
-    subst (λ (t : List ℕ). WentOut written now t) (sym (append-nil h.0.2.text)) (some_out written v now before s h.0.2.text empty h.1 lost),
-  )
-  script_lost (Err Memory) h lost = (first_of frames size notes a h.0.0 h.0.1 old new b h.0.2, h.1, some_out written v now before s (h.0.2.text ++ h.1) empty h.2 lost)
+  lost_whole n after f tells lost =
+      let g = first_of frames size notes a n after old new b f in (g, f.text, text_whole frames size notes old new g, some_out written v now before s f.text empty tells lost)
+
+  pub script_lost : (result : Result Ended RunFault) → TellsLines a.explains a.strict a.number (state_of a.run) a.follower old new written v before s result
+      → ((start : Option (List ℕ)) (told : List ℕ) → HasTold start v s.0 s.1 told → WentOut start now told) → AnnotatesScript frames size notes old new written now (Err Write)
+  script_lost (Ok ended) h lost = lost_whole h.0.0 h.0.1 h.0.2 h.1 lost
+  script_lost (Err Read) h lost = lost_whole h.0.0 h.0.1 h.0.2 h.1 lost
+  script_lost (Err Write) h lost = lost_whole h.0.0 h.0.1 h.0.2 h.1 lost
+  script_lost (Err Memory) h lost =
+      (first_of frames size notes a h.0.0 h.0.1 old new b h.0.2, h.0.2.text ++ h.1, text_before frames size notes a h.0.0 h.0.1 old new b h.0.2 h.1 h.2, some_out written v now before s (h.0.2.text ++ h.1) empty h.3 lost)

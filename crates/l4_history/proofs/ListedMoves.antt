@@ -1,19 +1,18 @@
--- The moves of a step that were written so far.
-use Rattle.std.proofs.Common.{◌≡◌, ◌⊎◌, ◌↔◌, ℕ, ◌+◌, ◌<◌, ◌≤◌, Bool, true, false, nat_lt, List, [], ◌∷◌, ◌++◌, get_or, Contains, Option, refl, sym, ap, ◌∙◌, subst, inl, inr, arith}
+-- The moves of a step that were found so far, and their lines.
+use Rattle.std.proofs.Common.{◌≡◌, ◌⊎◌, ◌↔◌, ℕ, ◌+◌, ◌<◌, ◌≤◌, Bool, true, false, nat_lt, List, [], ◌∷◌, ◌++◌, map, get_or, Contains, refl, sym, ap, ◌∙◌, subst, inl, inr, arith}
 use Rattle.std.proofs.lemmas.Bool.Decides.{nat_tests}
-use Rattle.std.proofs.lemmas.List.{append-nil, get_or_default}
+use Rattle.std.proofs.lemmas.List.{map-append, get_or_default}
 use Rattle.std.proofs.lemmas.List.Quantifiers.{all_pairs_push}
 use Rattle.std.proofs.lemmas.List.Elements.{Contains-push, Contains-push_cases, Contains-append_left}
-use Rattle.std.proofs.lemmas.Grind.{flat_map-append}
 use Rattle.std.specs.List.{flat_map, AllPairs}
 use Rattle.l4_ipc.specs.Machine.{Machine}
 use Rattle.l4_ipc.specs.declared.steps.Step.{Step}
+use Rattle.l4_mapdb.specs.Mappings.{Mappings}
 use Rattle.l4_mapdb.specs.Transfer.{PageMove}
-use Rattle.l4_provenance.specs.Moved.{IsMoved, IsFrom, IsNextMove, NoneMovedFrom}
+use Rattle.l4_provenance.specs.Moved.{IsMoved, IsFrom, IsTold, IsNextMove, NoneMovedFrom}
 use Rattle.l4_provenance.specs.declared.moves.MovedPage.{MovedPage}
 use Rattle.l4_provenance.proofs.Moving.{moved_once}
-use Rattle.l4_text.specs.Streams.{Tells}
-use Rattle.l4_text.proofs.Telling.{tells_none, tells_more, tells_is}
+use Rattle.l4_history.specs.Inside.Moving.{page_of, ArePages, page_line}
 use Rattle.l4_history.specs.Moves.{moved_line, Before, IsMovesText}
 
 lower : (a b : ℕ) → (a < b) ⊎ (b ≤ a)
@@ -69,15 +68,16 @@ at_next next move (inl later) (inr less) = let a = less.0 in absurd (omega (arit
 at_next next move (inr here) (inl below) = let a = here.0 in absurd (omega (arith, a, below))
 at_next next move (inr here) (inr less) = let a = here.1 in let b = less.1 in (here.0, omega (arith, a, b))
 
-pub record Listed (m : Machine) (step : Step) (item page : ℕ) (old new : Option (List ℕ)) (before after : List ℕ × Bool) : Type 0 where
+-- these are the moves that were found so far
+pub record Listed (m : Machine) (step : Step) (item page : ℕ) (pages : List MovedPage) : Type 0 where
   pub moves : List PageMove
   pub rising : AllPairs Before moves
   pub each : (move : PageMove) → Contains moves move ↔ (IsMoved m step move × IsBehind item page move)
   pub low : page ≤ 4194304
-  pub tells : Tells old new before after (flat_map moved_line moves)
+  pub pages_are : pages ≡ map page_of moves
 
-pub listed_none : (m : Machine) (step : Step) (w : Option (List ℕ)) (s : List ℕ × Bool) → Listed m step 0 0 w w s s
-listed_none m step w s = record {
+pub listed_none : (m : Machine) (step : Step) → Listed m step 0 0 []
+listed_none m step = record {
   moves = [];
   rising = λ i j d less short. absurd (omega (arith, short));
   each = λ move. (
@@ -85,13 +85,16 @@ listed_none m step w s = record {
     λ h. absurd (elim h.1 [ inl below ↦ omega (arith, below) | inr less ↦ let a = less.1 in omega (arith, a) ]),
   );
   low = omega arith;
-  tells = tells_none w s;
+  pages_are = refl;
 }
 
-pub listed_more : (m : Machine) (step : Step) (item page : ℕ) (old mid new : Option (List ℕ)) (before s after : List ℕ × Bool) (moved : MovedPage) (line : List ℕ)
-    → Listed m step item page old mid before s → (n : IsNextMove m step item page moved) → line ≡ moved_line n.move → Tells mid new s after line
-    → Listed m step moved.item (moved.source + 1) old new before after
-listed_more m step item page old mid new before s after moved line l n is tells =
+-- the move of a page as data
+is_page : (moved : MovedPage) (move : PageMove) → IsTold moved move → moved ≡ page_of move
+is_page moved move t = λ i. record { item = t.item i; source = t.source i; space = t.space i; target = t.target i; rights = t.rights i }
+
+pub listed_more : (m : Machine) (step : Step) (item page : ℕ) (pages : List MovedPage) (moved : MovedPage) → Listed m step item page pages → IsNextMove m step item page moved
+    → Listed m step moved.item (moved.source + 1) (pages ++ moved ∷ [])
+listed_more m step item page pages moved l n =
     let last = n.move in
     let behind : (move : PageMove) → IsBehind last.item (last.source.page + 1) move → IsBehind moved.item (moved.source + 1) move =
     λ move b. subst (λ (k : ℕ). IsBehind moved.item (k + 1) move) (sym n.told.source) (subst (λ (k : ℕ). IsBehind k (last.source.page + 1) move) (sym n.told.item) b) in
@@ -115,26 +118,30 @@ listed_more m step item page old mid new before s after moved line l n is tells 
         ],
       );
       low = let small = n.small in omega (arith, small);
-      tells =
-          tells_is old new before after _ _
-          (ap (λ x. flat_map moved_line l.moves ++ x) (is ∙ sym (append-nil (moved_line last))) ∙ sym (flat_map-append moved_line l.moves (last ∷ [])))
-          (tells_more old mid new before s after _ line l.tells tells);
+      pages_are = (λ i. l.pages_are i ++ is_page moved last n.told i ∷ []) ∙ sym (map-append page_of l.moves (last ∷ []));
     }
 
-pub listed_all : (m : Machine) (step : Step) (item page : ℕ) (old new : Option (List ℕ)) (before after : List ℕ × Bool)
-    → Listed m step item page old new before after → NoneMovedFrom m step item page → (text : List ℕ) × IsMovesText m step true text × Tells old new before after text
-listed_all m step item page old new before after l none = (
-  flat_map moved_line l.moves,
-  (
-    l.moves,
-    record {
-      rising = l.rising;
-      each = λ q. (
-        λ h. ((l.each q).0 h).0,
-        λ h. elim (behind_or item page q) [ inl was ↦ (l.each q).1 (h, was) | inr reached ↦ absurd (none q h reached) ],
-      );
-    },
-    refl,
-  ),
-  l.tells,
+pub listed_all : (m : Machine) (step : Step) (item page : ℕ) (pages : List MovedPage) → Listed m step item page pages → NoneMovedFrom m step item page → ArePages m step true pages
+listed_all m step item page pages l none = (
+  l.moves,
+  record {
+    rising = l.rising;
+    each = λ q. (
+      λ h. ((l.each q).0 h).0,
+      λ h. elim (behind_or item page q) [ inl was ↦ (l.each q).1 (h, was) | inr reached ↦ absurd (none q h reached) ],
+    );
+  },
+  l.pages_are,
 )
+
+-- ---- the lines of the pages
+
+lines_are : (after : Mappings) (moves : List PageMove) → flat_map (page_line after) (map page_of moves) ≡ flat_map (moved_line after) moves
+unfolding page_line
+lines_are after [] = refl
+lines_are after (move ∷ moves) = ap (λ t. moved_line after move ++ t) (lines_are after moves)
+
+-- none where the step was not delivered
+pub moves_text : (m : Machine) (step : Step) (after : Machine) (done : Bool) (pages : List MovedPage) → ArePages m step done pages → IsMovesText m step after done (flat_map (page_line after.mappings) pages)
+moves_text m step after true pages h = (h.0, h.1, ap (flat_map (page_line after.mappings)) h.2 ∙ lines_are after.mappings h.0)
+moves_text m step after false pages h = ap (flat_map (page_line after.mappings)) h

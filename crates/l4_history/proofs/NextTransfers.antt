@@ -32,7 +32,7 @@ module _ (first now between : Machine) (history : List Entry) (start place : ℕ
         ahead.on text after next (subst (λ (es : List Entry). NextMoves es now place text after next) (sym (drop_at history place entry at)) (between, steps, inr (other, h)));
   }
 
-  pub transfer_next : (text : List ℕ) (next : ℕ) → is_transfer entry.step ≡ true → IsMovesText now entry.step (is_done entry.answer.outcome) text → next ≡ place + 1
+  pub transfer_next : (text : List ℕ) (next : ℕ) → is_transfer entry.step ≡ true → IsMovesText now entry.step between (is_done entry.answer.outcome) text → next ≡ place + 1
       → NextMoves (drop start history) first start text between next
   transfer_next text next transfer moves is =
       ahead.on text between next (subst (λ (es : List Entry). NextMoves es now place text between next) (sym (drop_at history place entry at)) (between, steps, inl (transfer, moves, refl, is)))
@@ -50,13 +50,14 @@ tells_from old mid new before s after text w o tells =
 -- the transfer was executed, and its moves were told
 pub transfer_ok : (r : Result (Unit {0}) RunFault) (first now after : Machine) (history : List Entry) (start place next : ℕ) (entry : Entry) (old mid new : Option (List ℕ)) (before s told_to : List ℕ × Bool)
     → Ahead first history start place now → slice_get history place ≡ Some entry → is_transfer entry.step ≡ true → mid ≡ old → s ≡ before
-    → IfOk r (λ _. (text : List ℕ) × IsMovesText now entry.step (is_done entry.answer.outcome) text × Steps now entry.step (Ok entry.answer) after × (next ≡ place + 1) × Tells mid new s told_to text)
+    → IfOk r (λ _. (text : List ℕ) × IsMovesText now entry.step after (is_done entry.answer.outcome) text × Steps now entry.step (Ok entry.answer) after × (next ≡ place + 1) × Tells mid new s told_to text)
     → IfOk r (λ _. (text : List ℕ) × NextMoves (drop start history) first start text after next × Tells old new before told_to text)
 transfer_ok (Ok done) first now after history start place next entry old mid new before s told_to ahead at is w o h =
     (h.0, transfer_next first now after history start place entry ahead at h.2 h.0 next is h.1 h.3, tells_from old mid new before s told_to h.0 w o h.4)
 transfer_ok (Err fault) first now after history start place next entry old mid new before s told_to ahead at is w o h = h
 
+-- it was not, and nothing was told
 pub transfer_err : (r : Result (Unit {0}) RunFault) (old mid new : Option (List ℕ)) (before s told_to : List ℕ × Bool) → mid ≡ old → s ≡ before
-    → IfErr r (λ e. (e ≡ Memory) × ((text : List ℕ) × Tells mid new s told_to text)) → IfErr r (λ e. (e ≡ Memory) × ((text : List ℕ) × Tells old new before told_to text))
+    → IfErr r (λ e. (e ≡ Memory) × (new ≡ mid) × (told_to ≡ s)) → IfErr r (λ e. (e ≡ Memory) × (new ≡ old) × (told_to ≡ before))
 transfer_err (Ok done) old mid new before s told_to w o h = h
-transfer_err (Err fault) old mid new before s told_to w o h = (h.0, (h.1.0, tells_from old mid new before s told_to h.1.0 w o h.1.1))
+transfer_err (Err fault) old mid new before s told_to w o h = (h.0, h.1 ∙ w, h.2 ∙ o)

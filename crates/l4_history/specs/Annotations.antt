@@ -5,7 +5,7 @@ use Rattle.std.specs.Io.KnownBytes.{Consumes, Appends, IsAtEnd}
 use Rattle.l4_fpage.specs.declared.sizes.PageSize.{PageSize}
 use Rattle.l4_ipc.specs.Machine.{Machine, IsBoot}
 use Rattle.l4_record.specs.declared.entries.Entry.{Entry}
-use Rattle.l4_answers.specs.Reports.{Report}
+use Rattle.l4_answers.specs.Reports.{Report, has_refusal}
 use Rattle.l4_answers.specs.Replies.{newline}
 use Rattle.l4_text.specs.Grammar.{TextLine, lines_of, is_comment}
 use Rattle.l4_text.specs.Streams.{WentOut}
@@ -57,6 +57,16 @@ Annotates numbers line history follower (answer ∷ answers) text after =
     × IsAnnotated numbers line history follower (is_comment (line_text answer)) (line_text answer) first between
     × Annotates numbers line history between answers rest after × (text ≡ first ++ rest)
 
+-- A part of these answers, one after another, up to one about a transfer of which the moves are to follow. It is told where there is no memory to
+-- find them.
+abbrev pub AnnotatesPart : Bool → ℕ → List Entry → Option Follower → List TextLine → List ℕ → Type 0
+AnnotatesPart numbers line history follower [] text = ⊥
+AnnotatesPart numbers line history follower (answer ∷ answers) text =
+    ((is_comment (line_text answer) ≡ false) × (tells_transfer (line_text answer) ≡ true) × (is_some follower ≡ true) × (text ≡ number_text numbers line ++ line_text answer))
+    ⊎ ((first : List ℕ) × (rest : List ℕ) × (between : Option Follower)
+    × IsAnnotated numbers line history follower (is_comment (line_text answer)) (line_text answer) first between
+    × AnnotatesPart numbers line history between answers rest × (text ≡ first ++ rest))
+
 -- THE ANSWERS TO A SCRIPT
 
 -- the line with this number was answered, and this is the text of its answers with annotations
@@ -73,6 +83,23 @@ AnnotatesLines explains numbers old number follower (line ∷ lines) told text n
     (first : List Report) × (rest : List Report) × (one : List ℕ) × (others : List ℕ) × (between : State) × (then' : Option Follower)
     × AnnotatesLine explains numbers old number follower line first one between then'
     × AnnotatesLines explains numbers between (number + 1) then' lines rest others new after × (told ≡ first ++ rest) × (text ≡ one ++ others)
+
+-- the line with this number was answered, and this is a part of the text of its answers with annotations
+pub record AnnotatesSome (explains : Option PageSize) (numbers : Bool) (old : State) (number : ℕ) (follower : Option Follower) (line : TextLine) (text : List ℕ) : Type 0 where
+  pub told : List Report
+  pub new : State
+  pub answers : AnswersLine old number (asked_of old.session.machine.size old.names line) told new
+  pub plain : List ℕ
+  pub is_plain : AreAnswerTexts explains told plain
+  pub part : AnnotatesPart numbers number new.session.history follower (lines_of plain) text
+
+-- The text of the line behind the answered ones where memory ran out: none, or a part of the text of its answers. In a strict run, no line
+-- before it was refused.
+abbrev pub IsNextPart : Option PageSize → Bool → Bool → State → Option Follower → List TextLine → List TextLine → List Report → Option (List ℕ) → List ℕ → Type 0
+IsNextPart explains strict numbers last follower lines later told new text =
+    (text ≡ [])
+    ⊎ ((line : TextLine) × (rest : List TextLine) × (later ≡ line ∷ rest) × ((line.whole ≡ true) ⊎ IsAtEnd new)
+    × (strict ≡ true → has_refusal told ≡ false) × AnnotatesSome explains numbers last (length lines + 1) follower line text)
 
 -- the second kernel at the start, if moves are written
 abbrev pub IsFirstFollower : ℕ → PageSize → Bool → Option Follower → Type 0
@@ -101,9 +128,14 @@ pub record AnnotatesFirst (frames : ℕ) (size : PageSize) (notes : Annotations)
   pub annotates : AnnotatesLines (explains_by notes.style.explain size) notes.number (first_state frames boot) 1 follower lines told text last after
   pub stops : notes.style.strict ≡ true → StopsAtRefusal (length lines) told
 
+-- the text of these lines, and then that of the next one as far as there was memory
+abbrev pub IsTextBefore : (frames : ℕ) (size : PageSize) (notes : Annotations) (old new : Option (List ℕ)) → AnnotatesFirst frames size notes old new → List ℕ → Type 0
+IsTextBefore frames size notes old new a text =
+    (more : List ℕ) × IsNextPart (explains_by notes.style.explain size) notes.style.strict notes.number a.last a.after a.lines a.later a.told new more × (text ≡ a.text ++ more)
+
 -- A RUN OF A SCRIPT WITH ANNOTATIONS: the text of all lines is written, unless a refused line ended a strict run. After a failed read, it is that
--- of the whole lines; after a failed write, a beginning. If memory ran out, nothing was read or written, or the text of the first lines and a part
--- of that of the next line was written.
+-- of the whole lines. If memory ran out, nothing was read or written, or the text of the first lines and a part of that of the next line was
+-- written. After a failed write, a beginning of such a text was written.
 abbrev pub AnnotatesScript : ℕ → PageSize → Annotations → Option (List ℕ) → Option (List ℕ) → Option (List ℕ) → Option (List ℕ) → Result Ended RunFault → Type 0
 AnnotatesScript frames size notes old new written now (Ok ended) =
     (a : AnnotatesFirst frames size notes old new) × Appends written now a.text
@@ -112,6 +144,6 @@ AnnotatesScript frames size notes old new written now (Ok ended) =
 AnnotatesScript frames size notes old new written now (Err Read) =
     (a : AnnotatesFirst frames size notes old new) × (a.lines ≡ filter (λ line. line.whole) (lines_of a.read)) × Appends written now a.text
 AnnotatesScript frames size notes old new written now (Err Write) =
-    (a : AnnotatesFirst frames size notes old new) × (more : List ℕ) × WentOut written now (a.text ++ more)
+    (a : AnnotatesFirst frames size notes old new) × (text : List ℕ) × IsTextBefore frames size notes old new a text × WentOut written now text
 AnnotatesScript frames size notes old new written now (Err Memory) =
-    ((new ≡ old) × (now ≡ written)) ⊎ ((a : AnnotatesFirst frames size notes old new) × (more : List ℕ) × Appends written now (a.text ++ more))
+    ((new ≡ old) × (now ≡ written)) ⊎ ((a : AnnotatesFirst frames size notes old new) × (text : List ℕ) × IsTextBefore frames size notes old new a text × Appends written now text)

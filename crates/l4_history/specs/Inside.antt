@@ -1,3 +1,4 @@
 pub mod Annotating
 pub mod Finding
 pub mod Telling
+pub mod Moving

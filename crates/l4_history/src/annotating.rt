@@ -1,5 +1,5 @@
 //! Reads a script, and writes its answers with the numbers of their lines or with the pages that transfers moved.
-ghost use Rattle.std.specs.Prelude.{◌≡◌, ◌≤◌, ◌+◌, ◌==◌, ◌++◌, min, ℕ, List, None, true, codes, decimal, length, IfOk, IfErr, IfSome};
+ghost use Rattle.std.specs.Prelude.{◌≡◌, ◌≤◌, ◌+◌, ◌==◌, ◌++◌, min, ℕ, List, None, true, is_some, codes, decimal, length, IfOk, IfErr, IfSome};
 ghost use Rattle.std.specs.List.{position_or_len};
 ghost use Rattle.l4_fpage.specs.Pages.{max_frames};
 ghost use Rattle.l4_ipc.specs.Machine.{IsBoot};
@@ -8,8 +8,9 @@ ghost use Rattle.l4_sinks.specs.Scripts.{explains_by};
 ghost use Rattle.l4_text.specs.Grammar.{lines_of, is_comment};
 ghost use Rattle.l4_text.specs.Sizes.{held_bytes};
 ghost use Rattle.l4_text.specs.Streams.{Tells};
+ghost use Rattle.l4_text.specs.declared.faults.RunFault.TheVariants.{Memory};
 ghost use Rattle.l4_history.specs.Annotations.{number_text, tells_transfer, HasMoves, IsAnnotated, Annotates, IsFirstFollower, AnnotatesScript};
-ghost use Rattle.l4_history.specs.Inside.Annotating.{Answered, TellsLine, RanOut, TellsLines};
+ghost use Rattle.l4_history.specs.Inside.Annotating.{Answered, TellsLine, RanOut, RanOutIn, RanOutBelow, TellsLines};
 
 use crate::moves::Follower;
 use l4_answers::{Sink, line_len};
@@ -140,7 +141,7 @@ impl Annotated {
             (λ _. (moves : List ℕ) × HasMoves true (state_of self.old.run).session.history self.old.follower moves self.new.follower
             × Tells (W.contents writer.old) (W.contents writer.new) out.old out.new moves) }
         ensures err { IfErr result
-            (RanOut (W.contents writer.old) (W.contents writer.new) out.old out.new) }
+            (λ e. (e ≡ Memory) × (is_some self.old.follower ≡ true) × (W.contents writer.new ≡ W.contents writer.old) × (out.new ≡ out.old)) }
         ensures same { self.new ≡ record self.old { follower = self.new.follower } }
     {
         match &mut self.follower {
@@ -162,7 +163,7 @@ impl Annotated {
             (λ _. (text : List ℕ) × IsAnnotated self.old.number line (state_of self.old.run).session.history self.old.follower (is_comment bytes.now) bytes.now text self.new.follower
             × Tells (W.contents writer.old) (W.contents writer.new) out.old out.new text) }
         ensures err { IfErr result
-            (RanOut (W.contents writer.old) (W.contents writer.new) out.old out.new) }
+            (RanOutBelow self.old.number line self.old.follower bytes.now (W.contents writer.old) (W.contents writer.new) out.old out.new) }
         ensures same { self.new ≡ record self.old { follower = self.new.follower } }
     {
         if is_comment(bytes) {
@@ -189,7 +190,8 @@ impl Annotated {
             (λ _. (written : List ℕ) × Annotates self.old.number line (state_of self.old.run).session.history self.old.follower (lines_of text.now) written self.new.follower
             × Tells (W.contents writer.old) (W.contents writer.new) out.old out.new written) }
         ensures err { IfErr result
-            (RanOut (W.contents writer.old) (W.contents writer.new) out.old out.new) }
+            (RanOutIn self.old.number line (state_of self.old.run).session.history self.old.follower (lines_of text.now)
+            (W.contents writer.old) (W.contents writer.new) out.old out.new) }
         ensures same { self.new ≡ record self.old { follower = self.new.follower } }
     {
         let mut rest = text;
@@ -216,7 +218,8 @@ impl Annotated {
             (λ refused. TellsLine self.old.explains self.old.strict self.old.number (state_of self.old.run) line read.entry.0 read.entry.1.now self.old.follower refused (state_of self.new.run) self.new.follower
             (W.contents writer.old) (W.contents writer.new) out.old out.new) }
         ensures err { IfErr result
-            (RanOut (W.contents writer.old) (W.contents writer.new) out.old out.new) }
+            (RanOut self.old.explains self.old.strict self.old.number (state_of self.old.run) line read.entry.0 read.entry.1.now self.old.follower
+            (W.contents writer.old) (W.contents writer.new) out.old out.new) }
         ensures same { self.new ≡ record self.old { run = self.new.run; follower = self.new.follower } }
     {
         let (ending, bytes) = read;

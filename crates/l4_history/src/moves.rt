@@ -1,26 +1,40 @@
 //! The lines of the pages that the transfers of a history moved.
-ghost use Rattle.std.specs.Prelude.{◌≡◌, ◌+◌, ◌<◌, ◌^◌, ℕ, List, Ok, true, drop, IfOk, IfErr, IfSome};
+ghost use Rattle.std.specs.Prelude.{◌≡◌, ◌≤◌, ◌+◌, ◌++◌, ◌<◌, ◌^◌, ℕ, List, Ok, true, length, drop, IfOk, IfErr, IfSome};
+ghost use Rattle.std.specs.List.{flat_map};
 ghost use Rattle.l4_ipc.specs.Machine.{IsBoot};
 ghost use Rattle.l4_ipc.specs.Steps.{Steps, is_done};
-ghost use Rattle.l4_mapdb.specs.Transfer.{PageMove as APageMove};
-ghost use Rattle.l4_provenance.specs.Moved.{IsTold};
+ghost use Rattle.l4_text.specs.Sizes.{text_bytes};
 ghost use Rattle.l4_text.specs.Streams.{Tells};
 ghost use Rattle.l4_text.specs.declared.faults.RunFault.TheVariants.{Memory};
-ghost use Rattle.l4_history.specs.Moves.{moved_line, IsMovesText, is_transfer, NextMoves};
+ghost use Rattle.l4_history.specs.Inside.Moving.{page_line, ArePages};
+ghost use Rattle.l4_history.specs.Moves.{left_text, IsMovesText, is_transfer, NextMoves};
 
 use crate::telling::repeats;
 use l4_answers::add_rights;
-use l4_ipc::{Kernel, Outcome, PageSize, Step};
+use l4_ipc::{Kernel, Mapping, Outcome, PageSize, Step};
 use l4_provenance::{MovedPage, next_move};
 use l4_record::{Entry, History};
 use l4_text::{Output, RunFault, Text};
 use std::alloc::Global;
 use std::io::Write;
 
-/// `# moved SOURCE to TARGET RIGHTS`
-#[tactic(auto, unfolding(crate::specs::Moves::moved_line))]
-fn moved_text(moved: &MovedPage) -> Text
-    ensures { (move : APageMove) → IsTold moved.now move → result ≡ moved_line move }
+/// Adds the rights that the receiver has at a page, or `absent`.
+#[tactic(auto, unfolding(crate::specs::Moves::left_text))]
+fn add_left(text: &mut Text, left: Option<Mapping>)
+    requires { length text.old + 6 ≤ text_bytes }
+    ensures value { text.new ≡ text.old ++ left_text left }
+    ensures len { length text.new ≤ length text.old + 6 }
+{
+    match left {
+        Some(mapping) => add_rights(text, mapping.rights),
+        None => text.add(b"absent"),
+    }
+}
+
+/// `# moved SOURCE to TARGET RIGHTS`, or `absent` in place of the rights
+#[tactic(auto, unfolding(crate::specs::Inside::Moving::page_line))]
+fn moved_text(kernel: &Kernel, moved: &MovedPage) -> Text
+    ensures { result ≡ page_line kernel.now.mappings moved.now }
 {
     let mut text = Text::new();
     text.add(b"# moved ");
@@ -28,35 +42,50 @@ fn moved_text(moved: &MovedPage) -> Text
     text.add(b" to ");
     text.add_number(u64::from(moved.target));
     text.push(b' ');
-    add_rights(&mut text, moved.rights);
+    add_left(&mut text, kernel.mapping(moved.space, moved.target));
     text.push(b'\n');
     text
 }
 
-/// Writes a line for each page that a transfer moves if it is delivered now, by item and then by page.
-fn put_step_moves<W: Write>(kernel: &Kernel, step: &Step, out: &mut Output, writer: &mut W)
-    ensures { (text : List ℕ) × IsMovesText kernel.now step.now true text
-        × Tells (W.contents writer.old) (W.contents writer.new) out.old out.new text }
+/// Writes a line for each of these pages, with what the receiver has there now.
+fn put_moved<W: Write>(kernel: &Kernel, moved: &[MovedPage], out: &mut Output, writer: &mut W)
+    ensures { Tells (W.contents writer.old) (W.contents writer.new) out.old out.new
+        (flat_map (page_line kernel.now.mappings) moved.now) }
 {
+    for page in moved {
+        out.put(writer, &moved_text(kernel, page));
+    }
+}
+
+/// Returns the pages that a transfer moves if it is delivered now, by item and then by page. Returns None if there is no memory for them.
+fn step_moves(alloc: Global, kernel: &Kernel, step: &Step) -> Option<Vec<MovedPage>>
+    ensures { IfSome result (λ pages. ArePages kernel.now step.now true pages.items) }
+{
+    let mut pages = Vec::new(alloc);
     let mut item = 0;
     let mut page = 0;
     loop {
         let Some(moved) = next_move(kernel, step, item, page) else {
-            return;
+            return Some(pages);
         };
-        out.put(writer, &moved_text(&moved));
         item = moved.item;
         page = moved.source + 1;
+        if let Err(_) = pages.push(moved) {
+            return None;
+        }
     }
 }
 
-/// Writes a line for each page that the step of an entry moved, from the kernel before it.
-fn put_moves<W: Write>(kernel: &Kernel, entry: &Entry, out: &mut Output, writer: &mut W)
-    ensures { (text : List ℕ) × IsMovesText kernel.now entry.now.step (is_done entry.now.answer.outcome) text
-        × Tells (W.contents writer.old) (W.contents writer.new) out.old out.new text }
+/// Returns the pages that the step of an entry moves, from the kernel before it: none if it is not delivered. Returns None if there is no memory
+/// for them.
+fn entry_moves(alloc: Global, kernel: &Kernel, entry: &Entry) -> Option<Vec<MovedPage>>
+    ensures { IfSome result
+        (λ pages. ArePages kernel.now entry.now.step (is_done entry.now.answer.outcome) pages.items) }
 {
     if entry.answer.outcome == Outcome::Done {
-        put_step_moves(kernel, &entry.step, out, writer);
+        step_moves(alloc, kernel, &entry.step)
+    } else {
+        Some(Vec::new(alloc))
     }
 }
 
@@ -74,6 +103,7 @@ fn is_transfer(step: &Step) -> bool
 /// A second kernel, which has executed the first entries of a history, and their number.
 #[derive(Drop)]
 pub(crate) struct Follower {
+    alloc: Global,
     kernel: Kernel,
     next: usize,
 }
@@ -87,10 +117,15 @@ impl Follower {
         let Ok(kernel) = Kernel::boot(alloc, frames, size) else {
             return None;
         };
-        Some(Follower { kernel, next: 0 })
+        Some(Follower {
+            alloc,
+            kernel,
+            next: 0,
+        })
     }
 
-    /// Executes the transfer of the entry with this number, and writes a line for each page that it moved.
+    /// Executes the transfer of the entry with this number, and writes a line for each page that it moved, with what the receiver has there
+    /// now.
     fn put_transfer<W: Write>(
         &mut self,
         place: usize,
@@ -99,24 +134,27 @@ impl Follower {
         writer: &mut W,
     ) -> Result<(), RunFault>
         requires { place + 1 < 2 ^ 64 }
-        ensures ok { IfOk result (λ _. (text : List ℕ) × IsMovesText self.old.kernel entry.now.step (is_done entry.now.answer.outcome) text
+        ensures ok { IfOk result (λ _. (text : List ℕ) × IsMovesText self.old.kernel entry.now.step self.new.kernel (is_done entry.now.answer.outcome) text
             × Steps self.old.kernel entry.now.step (Ok entry.now.answer) self.new.kernel
             × (self.new.next ≡ place + 1)
             × Tells (W.contents writer.old) (W.contents writer.new) out.old out.new text) }
-        ensures err { IfErr result (λ e. (e ≡ Memory) × ((text : List ℕ)
-            × Tells (W.contents writer.old) (W.contents writer.new) out.old out.new text)) }
+        ensures err { IfErr result (λ e. (e ≡ Memory) × (W.contents writer.new ≡ W.contents writer.old) × (out.new ≡ out.old)) }
     {
-        put_moves(&self.kernel, entry, out, writer);
+        let Some(moved) = entry_moves(self.alloc, &self.kernel, entry) else {
+            return Err(RunFault::Memory);
+        };
         if !repeats(&mut self.kernel, entry) {
             return Err(RunFault::Memory);
         }
+        put_moved(&self.kernel, moved.as_slice(), out, writer);
         self.next = place + 1;
         Ok(())
     }
 
     /// Executes the entries of the history up to its next transfer, and writes a line for each page that this transfer moved.
     ///
-    /// Returns `Memory` if a step gets another answer than the entry has, because memory ran out in one of the two executions.
+    /// Returns `Memory`, and writes nothing, if there is no memory for the pages, or if a step gets another answer than the entry has, because
+    /// memory ran out in one of the two executions.
     pub(crate) fn put_next_moves<W: Write>(
         &mut self,
         history: &History,
@@ -126,8 +164,7 @@ impl Follower {
         ensures ok { IfOk result (λ _. (text : List ℕ)
             × NextMoves (drop self.old.next history.now.entries) self.old.kernel self.old.next text self.new.kernel self.new.next
             × Tells (W.contents writer.old) (W.contents writer.new) out.old out.new text) }
-        ensures err { IfErr result (λ e. (e ≡ Memory) × ((text : List ℕ)
-            × Tells (W.contents writer.old) (W.contents writer.new) out.old out.new text)) }
+        ensures err { IfErr result (λ e. (e ≡ Memory) × (W.contents writer.new ≡ W.contents writer.old) × (out.new ≡ out.old)) }
     {
         for place in self.next..history.len() {
             let Some(entry) = history.get(place) else {

@@ -50,7 +50,7 @@ module _ (size : PageSize) (s : Mappings) («from» to : ℕ) (items : List Item
 
   pub moves_page : (page : ℕ) (pages : Move) (shows : Mapping) (rights : RightsSet) (m : IsMoveOf size items window item pages) → InBlock pages.source.first pages.source.log page
       → shown s (place_at «from» page) ≡ Some shows → rights ≡ common shows.rights (rights_of (fpage_of m.by)) → ¬ (rights ≡ no_rights)
-      → MovesPage size s «from» to items window item page (record { item = item; source = page; target = pages.target.first + (page - pages.source.first); rights = rights })
+      → MovesPage size s «from» to items window item page (record { item = item; source = page; space = to; target = pages.target.first + (page - pages.source.first); rights = rights })
   moves_page page pages shows rights m within is are some =
       let target : ℕ = pages.target.first + (page - pages.source.first) in
       let a = within.«from» in
@@ -74,7 +74,7 @@ module _ (size : PageSize) (s : Mappings) («from» to : ℕ) (items : List Item
           refl,
         );
         page_is = refl;
-        told = record { item = refl; source = refl; target = refl; rights = refl };
+        told = record { item = refl; source = refl; space = refl; target = refl; rights = refl };
       }
 
   -- a used move of the item is of one of its pages

@@ -37,6 +37,7 @@ IsFrom item page move = (item < move.item) ⊎ ((move.item ≡ item) × (page �
 pub record IsTold (moved : MovedPage) (move : PageMove) : Type 0 where
   pub item : moved.item ≡ move.item
   pub source : moved.source ≡ move.source.page
+  pub space : moved.space ≡ move.target.space
   pub target : moved.target ≡ move.target.page
   pub rights : moved.rights ≡ move.rights
 

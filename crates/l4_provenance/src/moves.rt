@@ -10,12 +10,13 @@ use l4_fpage::Rights;
 use l4_ipc::{Kernel, Step};
 use l4_msg::{Move, item_moves};
 
-/// A page that a transfer moves: the number of the item that names it, its page in the sender's space and in the receiver's, and the rights
-/// that the receiver gets.
+/// A page that a transfer moves: the number of the item that names it, its page in the sender's space, the receiver's space and its page there,
+/// and the rights that page and item share. The grants of the same transfer may cut these rights, and remove the page again.
 #[derive(Clone, Copy)]
 pub struct MovedPage {
     pub item: usize,
     pub source: u32,
+    pub space: u64,
     pub target: u32,
     pub rights: Rights,
 }
@@ -49,6 +50,7 @@ fn moved_page(
     Some(MovedPage {
         item,
         source: page,
+        space: letter.to,
         target: pages.target.first + (page - pages.source.first),
         rights,
     })

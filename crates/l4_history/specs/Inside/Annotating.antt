@@ -1,10 +1,10 @@
 -- The lines of a script that were answered with annotations so far.
-use Rattle.std.specs.Prelude.{ℕ, ◌≡◌, ◌⊎◌, Bool, true, List, ◌++◌, length, filter, Option, None, is_some, Result, Ok, Err, if◌then◌else◌}
+use Rattle.std.specs.Prelude.{ℕ, ◌≡◌, ◌⊎◌, Bool, true, false, List, [], ◌++◌, length, filter, Option, None, is_some, Result, Ok, Err, if◌then◌else◌}
 use Rattle.std.specs.List.{All}
 use Rattle.std.specs.Io.KnownBytes.{Consumes, IsAtEnd}
 use Rattle.l4_fpage.specs.declared.sizes.PageSize.{PageSize}
 use Rattle.l4_answers.specs.Reports.{Report}
-use Rattle.l4_text.specs.Grammar.{TextLine, lines_of}
+use Rattle.l4_text.specs.Grammar.{TextLine, lines_of, is_comment}
 use Rattle.l4_text.specs.Streams.{Tells}
 use Rattle.l4_text.specs.declared.faults.RunFault.{RunFault}
 use Rattle.l4_text.specs.declared.faults.RunFault.TheVariants.{Read, Write, Memory}
@@ -14,7 +14,8 @@ use Rattle.l4_shell.specs.Sessions.{State, AnswersLine}
 use Rattle.l4_sinks.specs.Scripts.{StopsAtRefusal}
 use Rattle.l4_sinks.specs.Texts.{AreAnswerTexts, last_refusal}
 use Rattle.l4_sinks.specs.declared.scripts.Ended.{Ended}
-use Rattle.l4_history.specs.Annotations.{Annotates, AnnotatesLines}
+use Rattle.l4_history.specs.Annotations.{number_text, tells_transfer, Annotates, AnnotatesPart, AnnotatesLines, IsNextPart}
+use Rattle.l4_record.specs.declared.entries.Entry.{Entry}
 use Rattle.l4_history.specs.declared.moves.Follower.{Follower}
 
 -- why a line was refused, if that ends a strict script
@@ -36,9 +37,30 @@ pub record TellsLine (explains : Option PageSize) (strict numbers : Bool) (m : S
   pub annotated : Annotates numbers line n.session.history follower (lines_of plain) text after
   pub tells : Tells written now before out text
 
--- something was told before memory ran out
-abbrev pub RanOut : Option (List ℕ) → Option (List ℕ) → List ℕ × Bool → List ℕ × Bool → RunFault → Type 0
-RanOut written now before out fault = (fault ≡ Memory) × ((text : List ℕ) × Tells written now before out text)
+-- the line was answered, and memory ran out in the annotations
+pub record TellsSome (explains : Option PageSize) (strict numbers : Bool) (m : State) (line : ℕ) (ending : Ending) (bytes : List ℕ) (follower : Option Follower) (text : List ℕ) : Type 0 where
+  pub plain : List ℕ
+  pub refused : Option (List ℕ)
+  pub n : State
+  pub answered : Answered explains strict m line ending bytes plain refused n
+  pub part : AnnotatesPart numbers line n.session.history follower (lines_of plain) text
+
+-- what was told when memory ran out in a line: nothing, or a part of the text of its answers
+abbrev pub RanOut : Option PageSize → Bool → Bool → State → ℕ → Ending → List ℕ → Option Follower → Option (List ℕ) → Option (List ℕ) → List ℕ × Bool → List ℕ × Bool → RunFault → Type 0
+RanOut explains strict numbers m line ending bytes follower written now before out fault =
+    (fault ≡ Memory)
+    × ((text : List ℕ) × ((text ≡ []) ⊎ TellsSome explains strict numbers m line ending bytes follower text) × Tells written now before out text)
+
+-- what was told when memory ran out in the annotations of answers
+abbrev pub RanOutIn : Bool → ℕ → List Entry → Option Follower → List TextLine → Option (List ℕ) → Option (List ℕ) → List ℕ × Bool → List ℕ × Bool → RunFault → Type 0
+RanOutIn numbers line history follower answers written now before out fault =
+    (fault ≡ Memory) × ((text : List ℕ) × AnnotatesPart numbers line history follower answers text × Tells written now before out text)
+
+-- what was told when memory ran out below an answer: its number and the answer, about a transfer whose moves are written
+abbrev pub RanOutBelow : Bool → ℕ → Option Follower → List ℕ → Option (List ℕ) → Option (List ℕ) → List ℕ × Bool → List ℕ × Bool → RunFault → Type 0
+RanOutBelow numbers line follower bytes written now before out fault =
+    (fault ≡ Memory) × (is_comment bytes ≡ false) × (tells_transfer bytes ≡ true) × (is_some follower ≡ true)
+    × Tells written now before out (number_text numbers line ++ bytes)
 
 -- the first lines that were read were answered with annotations, and this left this session
 pub record TellsFirst (explains : Option PageSize) (strict numbers : Bool) (m n : State) (follower after : Option Follower) (old new : Option (List ℕ)) : Type 0 where
@@ -64,4 +86,5 @@ module _ (explains : Option PageSize) (strict numbers : Bool) (m : State) (follo
       × ((IsAtEnd new × (s.2.lines ≡ lines_of s.2.read)) ⊎ (is_some ended.refused ≡ true))
   TellsLines (Err Read) = (s : Some') × Tells written now before out s.2.text × (s.2.lines ≡ filter (λ line. line.whole) (lines_of s.2.read))
   TellsLines (Err Write) = (s : Some') × Tells written now before out s.2.text × (out.1 ≡ true)
-  TellsLines (Err Memory) = (s : Some') × (more : List ℕ) × Tells written now before out (s.2.text ++ more)
+  TellsLines (Err Memory) =
+      (s : Some') × (more : List ℕ) × IsNextPart explains strict numbers s.0 s.1 s.2.lines s.2.later s.2.told new more × Tells written now before out (s.2.text ++ more)

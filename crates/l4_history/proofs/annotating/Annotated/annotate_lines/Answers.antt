@@ -1,5 +1,5 @@
 use Rattle.std.proofs.Common.{ap, sym, refl, ◌∙◌, inl, inr}
-use Rattle.l4_history.proofs.AnnotatedScript.{lines_none, lines_sent, lines_failed, lines_read, lines_end, lines_ran_out, lines_over, lines_on, tells_modes, kept_modes, none_is}
+use Rattle.l4_history.proofs.AnnotatedScript.{lines_none, lines_sent, lines_failed, lines_read, lines_end, lines_ran_out, lines_over, lines_on, tells_modes, ran_modes, kept_modes, none_is}
 use Rattle.l4_history.proofs.annotating.Annotated.annotate_lines.Goals as goal
 
 pub loop-line-init : goal.loop-line-init
@@ -18,7 +18,8 @@ returns-in_default g c = lines_end _ _ _ _ _ _ _ _ _ _ _ _ _ _ _ _ _ _ (lines_se
 pub returns-in-Err-annotate_line : goal.returns-in-Err-annotate_line
 returns-in-Err-annotate_line g c =
     lines_ran_out _ _ _ _ _ _ _ _ _ _ _ _ _ _ _ _ _ _ (lines_sent _ _ _ _ _ _ _ _ _ _ _ _ _ _ _ _ _ c.loop-line.invariant.0 c.send_before_line.ensures.told)
-    c.in-Some.ending _ _ _ c.in-Err-annotate_line.fault c.in-Ok.ensures c.in-Some.is c.in-Err-annotate_line.ensures.err
+    c.in-Some.ending _ _ _ c.in-Err-annotate_line.fault c.in-Ok.ensures c.in-Some.is
+    (ran_modes c.args.self.now _ _ _ c.in-Some.ending _ _ _ c.in-Err-annotate_line.fault _ _ _ _ c.loop-line.invariant.1 c.line.ensures c.in-Err-annotate_line.ensures.err)
 
 pub returns-then-is_some : goal.returns-then-is_some
 returns-then-is_some g c =

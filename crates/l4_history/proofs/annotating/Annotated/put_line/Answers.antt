@@ -11,7 +11,9 @@ returns-then-tells_transfer-clause-ok g c =
     c.put_number.ensures c.put_bytes-2.ensures c.put_next_moves.ensures.ok
 
 pub returns-then-tells_transfer-clause-err : goal.returns-then-tells_transfer-clause-err
-returns-then-tells_transfer-clause-err g c = moving_err c.put_next_moves.result _ _ _ _ _ _ _ _ _ _ c.put_number.ensures c.put_bytes-2.ensures c.put_next_moves.ensures.err
+returns-then-tells_transfer-clause-err g c =
+    moving_err c.put_next_moves.result _ _ _ _ _ _ _ _ _ _ _ _ (sym c.is_comment.ensures ∙ c.if-is_comment.false) (sym c.tells_transfer.ensures ∙ c.if-tells_transfer.true)
+    c.put_number.ensures c.put_bytes-2.ensures c.put_next_moves.ensures.err
 
 pub returns-clause-ok : goal.returns-clause-ok
 returns-clause-ok g c =
