@@ -1,5 +1,5 @@
 -- Files of segments, one after another.
-use Rattle.std.proofs.Common.{◌≡◌, ◌≢◌, ◌⊎◌, ℕ, ◌+◌, ◌-◌, ◌<◌, ◌≤◌, List, [], ◌∷◌, ◌++◌, length, take, drop, sym, ap, ◌∙◌, subst, arith, inl, inr}
+use Rattle.std.proofs.Common.{◌≡◌, ◌≢◌, ◌⊎◌, Bool, true, false, cond, ℕ, ◌+◌, ◌-◌, ◌<◌, ◌≤◌, List, [], ◌∷◌, ◌++◌, length, take, drop, sym, ap, ◌∙◌, subst, arith, inl, inr}
 use Rattle.std.specs.List.{All}
 use Rattle.std.proofs.lemmas.List.{append_assoc, append-nil, length-append, length-drop, take-append-drop, drop-drop, take_all, drop_all}
 use Rattle.std.proofs.lemmas.List.Elements.{All-nil, All-push, All-head, All-tail}
@@ -12,7 +12,7 @@ use Rattle.l4_segments.specs.declared.faults.FaultKind.TheVariants.{NoMemory, Ma
 use Rattle.l4_segments.specs.declared.faults.FileFault.{FileFault}
 use Rattle.l4_segments.specs.declared.files.Heading.{Heading}
 use Rattle.l4_segments.specs.Files.{bytes_of, heading_code, entries_code, body_of, file_of, IsSegment}
-use Rattle.l4_segments.specs.Faults.{FieldFails, HeadingFails, EntryKind, EntryFails, HasBegun, IsWrongSum, EndFails, Departs, IsNotExtra, BeginsNoFile, AreNoFiles, DepartsAfter}
+use Rattle.l4_segments.specs.Faults.{FieldFails, begins_as_file, HeadingFails, EntryKind, EntryFails, HasBegun, IsWrongSum, EndFails, Departs, IsNotExtra, BeginsNoFile, AreNoFiles, DepartsAfter}
 use Rattle.l4_segments.specs.Saved.{Saved, saved_files, AreSegments}
 use Rattle.l4_segments.specs.Inside.Reading.{EndsWithSum, ReadsFront}
 use Rattle.l4_segments.proofs.Departing.{front, no_front}
@@ -84,8 +84,13 @@ field_within words Checksum at fails = absurd fails
 field_within words Cut at fails = absurd fails
 field_within words Extra at fails = absurd fails
 
+-- bytes that end within a heading
+short_kind : (begins : Bool) → IsNotExtra (cond begins Cut Magic)
+short_kind true = tt
+short_kind false = tt
+
 pub heading_within : (bytes : List ℕ) (fault : FileFault) → HeadingFails bytes fault → (fault.position ≤ length bytes) × IsNotExtra fault.kind
-heading_within bytes fault (inl cut) = let is = cut.1 in (omega (arith, is), subst IsNotExtra (sym cut.0) tt)
+heading_within bytes fault (inl cut) = let is = cut.1 in (omega (arith, is), subst IsNotExtra (sym cut.0) (short_kind (begins_as_file bytes)))
 heading_within bytes fault (inr field) =
     let at = field_within field.0 fault.kind fault.position field.4 in
     let small = at.0 in

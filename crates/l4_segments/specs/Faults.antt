@@ -1,6 +1,6 @@
 -- Why bytes are not the file of a segment, and where they depart from all such files (this profile's own).
-use Rattle.std.specs.Prelude.{◌≡◌, ◌≢◌, ◌≤◌, ◌<◌, ◌+◌, ◌*◌, ◌^◌, ◌⊎◌, ⊤, ℕ, List, [], ◌∷◌, ◌++◌, length, take, drop, slice_index}
-use Rattle.std.specs.List.{All}
+use Rattle.std.specs.Prelude.{◌≡◌, ◌≢◌, ◌≤◌, ◌<◌, ◌==◌, ◌||◌, ◌+◌, ◌*◌, ◌^◌, ◌⊎◌, ⊤, ℕ, Bool, codes, if◌then◌else◌, List, [], ◌∷◌, ◌++◌, length, take, drop, slice_index}
+use Rattle.std.specs.List.{All, starts_with}
 use Rattle.std.specs.Int.{w32, to_le_bytes}
 use Rattle.sha2.specs.Sha256.{sha256}
 use Rattle.l4_fpage.specs.Pages.{page_bytes, max_frames}
@@ -34,10 +34,14 @@ FieldFails words Checksum at = ⊥
 FieldFails words Cut at = ⊥
 FieldFails words Extra at = ⊥
 
--- the heading is cut off, or one of its words is wrong
+-- the bytes begin with "LSG4", or end within it
+abbrev pub begins_as_file : List ℕ → Bool
+begins_as_file bytes = starts_with ◌==◌ bytes (codes "LSG4") || starts_with ◌==◌ (codes "LSG4") bytes
+
+-- the bytes end within the heading, or one of its words is wrong
 abbrev pub HeadingFails : List ℕ → FileFault → Type 0
 HeadingFails bytes fault =
-    ((fault.kind ≡ Cut) × (fault.position ≡ 0) × (length bytes < 32))
+    ((fault.kind ≡ (if begins_as_file bytes then Cut else Magic)) × (fault.position ≡ 0) × (length bytes < 32))
     ⊎ ((words : List ℕ) × (length words ≡ 8) × AreWords words × (bytes ≡ bytes_of words ++ drop 32 bytes) × FieldFails words fault.kind fault.position)
 
 -- the bytes begin with the heading and these entries, which end at the position

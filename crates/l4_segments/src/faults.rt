@@ -5,7 +5,7 @@
 pub enum FaultKind {
     /// An allocation failed.
     NoMemory,
-    /// The first word is not "LSG4".
+    /// The bytes do not begin with "LSG4", nor end within it.
     Magic,
     /// The version of the form is unknown.
     Version,
@@ -19,7 +19,7 @@ pub enum FaultKind {
     Entry,
     /// The checksum is not that of the bytes before it.
     Checksum,
-    /// The bytes end within the heading, the entry or the checksum.
+    /// The bytes end within the heading, the entry or the checksum. Bytes that end within a heading begin with "LSG4", or end within it.
     Cut,
     /// Bytes follow the checksum.
     Extra,

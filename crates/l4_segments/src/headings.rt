@@ -1,9 +1,10 @@
 //! Reads the heading of a file.
-ghost use Rattle.std.specs.Prelude.{◌≡◌, ◌≢◌, ◌+◌, ◌*◌, ◌^◌, length, slice_index, IfOk, IfErr, MatchOption};
+ghost use Rattle.std.specs.Prelude.{◌≡◌, ◌≢◌, ◌+◌, ◌*◌, ◌^◌, if◌then◌else◌, length, slice_index, IfOk, IfErr, MatchOption};
 ghost use Rattle.l4_fpage.specs.Pages.{page_bytes};
 ghost use Rattle.l4_fpage.specs.declared.sizes.PageSize.{PageSize as APageSize};
+ghost use Rattle.l4_segments.specs.declared.faults.FaultKind.TheVariants.{Cut, Magic};
 ghost use Rattle.l4_segments.specs.Files.{heading_code, IsHeading};
-ghost use Rattle.l4_segments.specs.Faults.{FieldFails, HeadingFails};
+ghost use Rattle.l4_segments.specs.Faults.{FieldFails, begins_as_file, HeadingFails};
 ghost use Rattle.l4_segments.specs.Inside.Reading.{BeginsWith};
 
 use crate::faults::{FaultKind, FileFault};
@@ -12,6 +13,9 @@ use crate::words::read_words;
 use l4_fpage::{MAX_FRAMES, PageSize};
 use l4_journal::Record;
 use l4_record::MAX_HANDED_OUT;
+
+/// The first word of a heading, as bytes.
+const FIRST_BYTES: &[u8] = b"LSG4";
 
 /// The words of a heading.
 const HEADING_WORDS: usize = 8;
@@ -85,6 +89,24 @@ fn heading_of(words: &[u32]) -> Result<Heading, FileFault>
     })
 }
 
+/// Returns whether bytes begin with "LSG4", or end within it.
+fn begins_as_file(bytes: &[u8]) -> bool
+    ensures { result ≡ begins_as_file bytes.now }
+{
+    bytes.starts_with(FIRST_BYTES) || FIRST_BYTES.starts_with(bytes)
+}
+
+/// Returns how bytes that end within the heading are wrong.
+fn short_kind(bytes: &[u8]) -> FaultKind
+    ensures { result ≡ (if begins_as_file bytes.now then Cut else Magic) }
+{
+    if begins_as_file(bytes) {
+        FaultKind::Cut
+    } else {
+        FaultKind::Magic
+    }
+}
+
 /// Reads the heading at the beginning.
 pub(crate) fn read_heading(bytes: &[u8]) -> Result<Heading, FileFault>
     ensures ok { IfOk result (λ h. BeginsWith bytes.now h) }
@@ -93,7 +115,7 @@ pub(crate) fn read_heading(bytes: &[u8]) -> Result<Heading, FileFault>
     if bytes.len() < HEADING_BYTES {
         return Err(FileFault {
             position: 0,
-            kind: FaultKind::Cut,
+            kind: short_kind(bytes),
         });
     }
     let mut record = Record::new();
