@@ -440,7 +440,8 @@ In answers, TAG and WORD are hexadecimal without the prefix.
                                    or no-memory
   expire N                         a zero timeout of N expired
   N waits                          the call blocks until a later line ends it
-  N none                           no call of N has ended yet (for reply N)
+  N none                           no call of N has ended yet, and none waits (for
+                                   reply N; l4_steps also prints none if it waits)
   page P frame F RIGHTS            a page that show lists. Then shown K gives the
                                    number of these pages
   parent SPACE PAGE                the parent of the page, with the number of its

@@ -18,7 +18,8 @@ by spaces. Empty lines, and lines that begin with #, are skipped.
   transfer S R       delivers the message of thread S to thread R
   expire N           expires the timeout of thread N
   enabled            prints which step comes next
-  reply N            prints how the last call of thread N ended
+  reply N            prints how the last call of thread N ended, or none if it has
+                     not ended yet, or if N has made no call
   space N            prints the number of the space in which thread N runs
   pages SPACE        lists the present pages of a space
 
