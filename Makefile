@@ -199,6 +199,7 @@ install: programs install-library install-bed
 	install -D -m 755 crates/l4_steps/out/l4_steps "$$DESTDIR$$PREFIX/bin/l4_steps"
 	install -D -m 644 man/l4.1 "$$DESTDIR$$PREFIX/share/man/man1/l4.1"
 	install -D -m 644 man/l4_steps.1 "$$DESTDIR$$PREFIX/share/man/man1/l4_steps.1"
+	packages/completions "$$DESTDIR$$PREFIX" crates/l4/out/l4 crates/l4_steps/out/l4_steps
 endif
 
 uninstall:
