@@ -970,12 +970,12 @@ typedef struct l4_searched {
 } l4_searched;
 
 /* Reads a litmus test of `length` bytes, and executes it in all its orders on a new kernel with 1 to 4,096 frames. It visits at most `most`
- * states. A state is visited once, even if several orders lead to it. Fewer frames make a search faster.
+ * states. If several orders lead to one state, it is visited once as a rule. Fewer frames make a search faster.
  *
  * The handle must be empty; it then owns the search, and you free it with l4_orders_free. Each outcome that was found is that of an order,
  * and none was found twice. Every order's outcome was found if l4_orders_found says so. After a refusal the handle is unchanged. Refusals
  * in this order: B2; K6; S2, S3, S4 or O1 to O4 for the first line that cannot be part of a litmus test; O6; O5 for the first line of a
- * thread that is neither there at boot nor created; NoMemory, or L1 if a history is full, before the search has begun. NoMemory may come
+ * thread that is neither there at boot nor created; NoMemory, or L1 if the script of an order fills the history. NoMemory may come
  * before any of those of the test. */
 l4_searched l4_orders_search(l4_orders *orders, uint32_t frames, const char *plan, size_t length, uint64_t most);
 

@@ -20,7 +20,7 @@ fn fill(
     text: &[u8],
     most: u64,
 ) -> SearchResult
-    ensures { Searches frames size text.now handle.old.value result handle.new.value }
+    ensures { Searches frames size most text.now handle.old.value result handle.new.value }
 {
     if let Some(held) = handle.take(alloc) {
         handle.put(held);
@@ -49,7 +49,7 @@ pub extern "C" fn l4_orders_search(
     plan: &[u8],
     most: u64,
 ) -> SearchResult
-    ensures { Searches frames Kib4 plan.now handle.old.value result handle.new.value }
+    ensures { Searches frames Kib4 most plan.now handle.old.value result handle.new.value }
 {
     fill(alloc, handle, frames, PageSize::Kib4, plan, most)
 }
@@ -65,7 +65,7 @@ pub extern "C" fn l4_orders_search_sized(
     page_bytes: u32,
 ) -> SearchResult
     ensures { InBytes page_bytes
-        (λ size. Searches frames size plan.now handle.old.value result handle.new.value)
+        (λ size. Searches frames size most plan.now handle.old.value result handle.new.value)
         ((result ≡ refused_by (codes "B4")) × (handle.new.value ≡ handle.old.value)) }
 {
     match size_of(page_bytes) {

@@ -76,9 +76,9 @@ other_take Whole size p number bytes = other_line (kind_of (asked_at size p.name
 other_take TooLong size p number bytes = tt
 other_take IsCut size p number bytes = tt
 
-never : (size : PageSize) (p : Parts) (number thread : ℕ) (later : List TextLine) → FailsNext size p number later (NoThread thread) → ⊥
-never size p number thread [] h = h
-never size p number thread (line ∷ later) h = subst IsOther h (other_take (ending_of line) size p number line.bytes)
+never : (size : PageSize) (new : Option (List ℕ)) (p : Parts) (number thread : ℕ) (later : List TextLine) → FailsNext size new p number later (NoThread thread) → ⊥
+never size new p number thread [] h = h
+never size new p number thread (line ∷ later) h = subst IsOther h.0 (other_take (ending_of line) size p number line.bytes)
 
 -- HOW A FILE IS NO PLAN
 
@@ -94,7 +94,7 @@ fails_plan (Malformed number Repeated) size old new last h = h
 fails_plan (Malformed number OfNoThread) size old new last h = h
 fails_plan (Malformed number NoQuery) size old new last h = h
 fails_plan (Malformed number Steps) size old new last h = h
-fails_plan (Malformed number (NoThread thread)) size old new last h = absurd (never size h.0.parts number thread h.0.later h.2)
+fails_plan (Malformed number (NoThread thread)) size old new last h = absurd (never size new h.0.parts number thread h.0.later h.2)
 
 pub finishes_plan : (result : Result Plan PlanFault) (size : PageSize) (old new : Option (List ℕ)) (p : Parts) (a : ReadsAll size old new) → p ≡ a.parts → Finishes p result → ReadsPlan size old new result
 finishes_plan result size old new p a is h = at result (subst (λ (q : Parts). Finishes q result) is h) where

@@ -18,7 +18,7 @@ use Rattle.l4_orders.proofs.Turning.{lines_more}
 use Rattle.l4_orders.specs.Inside.Executed.{Executed, Asked}
 use Rattle.l4_orders.specs.Turns.{AnswersWell, AnswersInTurn}
 
-in_turn_more : (s m new : State) (first number : ℕ) (lines : List PlanLine) (line : PlanLine) (told more : List Report) → AnswersInTurn s first lines told m → number ≡ first + length lines
+pub in_turn_more : (s m new : State) (first number : ℕ) (lines : List PlanLine) (line : PlanLine) (told more : List Report) → AnswersInTurn s first lines told m → number ≡ first + length lines
     → AnswersLine m number (asked_at m.session.machine.size m.names Whole line.bytes.items) more new → AnswersInTurn s first (lines ++ line ∷ []) (told ++ more) new
 in_turn_more s m new first number [] line told more x is answer = (
   more,
@@ -92,7 +92,7 @@ order_no_line s m end first number last blocks gone order now i lt x same none e
     (subst (λ (o : List ℕ). Executed s m first number (lines_from blocks gone o)) (sym (take_more order i 0 lt))
     (executed_no_line s m first number blocks gone (take i order) now (get_or order i 0) x same (sym none)))
 
-in_turn_both : (s m t : State) (first number : ℕ) (xs ys : List PlanLine) (a b : List Report) → AnswersInTurn s first xs a m → number ≡ first + length xs → AnswersInTurn m number ys b t
+pub in_turn_both : (s m t : State) (first number : ℕ) (xs ys : List PlanLine) (a b : List Report) → AnswersInTurn s first xs a m → number ≡ first + length xs → AnswersInTurn m number ys b t
     → AnswersInTurn s first (xs ++ ys) (a ++ b) t
 in_turn_both s m t first number [] ys a b x is y =
     subst (λ (p : State × ℕ). AnswersInTurn p.0 p.1 ys (a ++ b) t) (λ i. (x.1 i, (let same : number ≡ first = omega (arith, is) in same) i))

@@ -11,3 +11,8 @@ pub mod Sticking
 pub mod Adding
 pub mod Ruling
 pub mod Placing
+pub mod Rising
+pub mod Asking
+pub mod Naming
+pub mod Unique
+pub mod Filled

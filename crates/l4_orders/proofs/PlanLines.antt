@@ -1,5 +1,5 @@
 -- The lines of a plan's file that were read so far.
-use Rattle.std.proofs.Common.{◌≡◌, ℕ, ◌+◌, ◌<◌, Bool, true, false, List, [], ◌∷◌, ◌++◌, length, take, Option, Some, None, Result, Ok, Err, is_ok, refl, sym, ap, subst, ◌∙◌, arith}
+use Rattle.std.proofs.Common.{◌≡◌, ◌⊎◌, inl, inr, ℕ, ◌+◌, ◌<◌, Bool, true, false, List, [], ◌∷◌, ◌++◌, length, take, Option, Some, None, Result, Ok, Err, is_ok, refl, sym, ap, subst, ◌∙◌, arith}
 use Rattle.std.specs.Io.KnownBytes.{Consumes}
 use Rattle.std.proofs.lemmas.Bool.{false≢true}
 use Rattle.std.proofs.lemmas.List.{append-nil}
@@ -91,7 +91,15 @@ ends_all size old mid new now after kept number p r a gives is =
 record Next (size : PageSize) (old new : Option (List ℕ)) (number : ℕ) (p : Parts) (ending : Ending) (bytes : List ℕ) : Type 0 where
   pub first : ReadsFirst size old new
   pub number_is : number ≡ 1 + length first.lines
-  pub fails : (fault : LineFault) → take_line size p number ending bytes ≡ Err fault → FailsNext size first.parts number first.later fault
+  pub fails : (fault : LineFault) → take_line size p number ending bytes ≡ Err fault → FailsNext size new first.parts number first.later fault
+
+-- a line that ends with a newline is not cut
+not_cut : (ending : Ending) → (ending ≡ Whole) ⊎ (ending ≡ TooLong) → ending ≡ IsCut → ⊥
+not_cut ending with_newline cut = subst IsNotCut cut (elim with_newline [ inl e ↦ subst IsNotCut (sym e) tt | inr e ↦ subst IsNotCut (sym e) tt ]) where
+  IsNotCut : Ending → Type 0
+  IsNotCut Whole = Unit {0}
+  IsNotCut TooLong = Unit {0}
+  IsNotCut IsCut = ⊥
 
 next_of : (ending : Ending) (size : PageSize) (old mid new : Option (List ℕ)) (now after : List ℕ × ℕ) (kept : List ℕ × Bool) (number : ℕ) (p : Parts) (r : Option Ending) (bytes : List ℕ)
     → SoFar size old mid now number p → GivesLine mid new now after kept (Ok r) → r ≡ Some ending → bytes ≡ kept.0 → Next size old new number p ending bytes
@@ -104,7 +112,10 @@ next_of Whole size old mid new now after kept number p r bytes a gives is same =
     record {
       first = first_with size old mid new now number p l.takes.read ((l.bytes ++ 10 ∷ []) ++ after.0) (line ∷ lines_of after.0) a l.takes.from l.takes.same (line_of_more mid new now after kept l);
       number_is = a.taken.number_is;
-      fails = λ fault h. ap (λ (x : Ending). take_line size p number x l.bytes) e.0 ∙ ap (λ (b : List ℕ). take_line size p number Whole b) (sym (same ∙ e.1)) ∙ h;
+      fails = λ fault h. (
+        ap (λ (x : Ending). take_line size p number x l.bytes) e.0 ∙ ap (λ (b : List ℕ). take_line size p number Whole b) (sym (same ∙ e.1)) ∙ h,
+        λ cut. absurd (not_cut (ending_of line) (inl e.0) cut),
+      );
     }
 next_of TooLong size old mid new now after kept number p r bytes a gives is same =
     let g = subst (λ (o : Option Ending). GivesLine mid new now after kept (Ok o)) is gives in
@@ -114,7 +125,7 @@ next_of TooLong size old mid new now after kept number p r bytes a gives is same
     record {
       first = first_with size old mid new now number p l.takes.read ((l.bytes ++ 10 ∷ []) ++ after.0) (line ∷ lines_of after.0) a l.takes.from l.takes.same (line_of_more mid new now after kept l);
       number_is = a.taken.number_is;
-      fails = λ fault h. ap (λ (x : Ending). take_line size p number x l.bytes) e ∙ h;
+      fails = λ fault h. (ap (λ (x : Ending). take_line size p number x l.bytes) e ∙ h, λ cut. absurd (not_cut (ending_of line) (inr e) cut));
     }
 next_of IsCut size old mid new now after kept number p r bytes a gives is same =
     let g = subst (λ (o : Option Ending). GivesLine mid new now after kept (Ok o)) is gives in
@@ -124,7 +135,7 @@ next_of IsCut size old mid new now after kept number p r bytes a gives is same =
     record {
       first = first_with size old mid new now number p l.takes.read l.bytes (line ∷ []) a l.takes.from (rest_is mid new now after kept l) (cut_line l.bytes l.plain (something_kept l.bytes some));
       number_is = a.taken.number_is;
-      fails = λ fault h. h;
+      fails = λ fault h. (h, λ cut. g.1);
     }
 
 fails_by : (fault : PlanFault) (size : PageSize) (old new : Option (List ℕ)) (number : ℕ) (p q last : Parts) (ending : Ending) (bytes : List ℕ) → Next size old new number p ending bytes

@@ -4,6 +4,7 @@ use Rattle.std.specs.Io.KnownBytes.{Consumes, IsAtEnd}
 use Rattle.l4_fpage.specs.declared.sizes.PageSize.{PageSize}
 use Rattle.l4_text.specs.Grammar.{TextLine, lines_of, ending_of}
 use Rattle.l4_text.specs.declared.faults.RunFault.TheVariants.{Read, Write, Memory}
+use Rattle.l4_text.specs.declared.lines.Ending.TheVariants.{Cut as IsCut}
 use Rattle.l4_orders.specs.declared.parts.LineFault.{LineFault}
 use Rattle.l4_orders.specs.declared.parts.LineFault.TheVariants.{NoThread}
 use Rattle.l4_orders.specs.declared.parts.PlanFault.{PlanFault}
@@ -29,10 +30,11 @@ pub record ReadsAll (size : PageSize) (old new : Option (List ℕ)) : Type 0 whe
   pub parts : Parts
   pub are : AreRead size 1 no_parts (lines_of read) parts
 
--- the next line cannot be part of a plan
-abbrev pub FailsNext : PageSize → Parts → ℕ → List TextLine → LineFault → Type 0
-FailsNext size p number [] fault = ⊥
-FailsNext size p number (line ∷ later) fault = take_line size p number (ending_of line) line.bytes ≡ Err fault
+-- the next line cannot be part of a plan; and if it does not end with a newline, it is the file's last one
+abbrev pub FailsNext : PageSize → Option (List ℕ) → Parts → ℕ → List TextLine → LineFault → Type 0
+FailsNext size new p number [] fault = ⊥
+FailsNext size new p number (line ∷ later) fault =
+    (take_line size p number (ending_of line) line.bytes ≡ Err fault) × (ending_of line ≡ IsCut → IsAtEnd new)
 
 -- the first group whose thread neither is there at boot nor is created
 pub record IsUnknown (created : List ℕ) (groups : List Group) (number thread : ℕ) : Type 0 where
@@ -50,7 +52,7 @@ pub record IsUnknown (created : List ℕ) (groups : List Group) (number thread :
 abbrev pub FailsPlan : PageSize → Option (List ℕ) → Option (List ℕ) → PlanFault → Type 0
 FailsPlan size old new (Malformed number (NoThread thread)) = (a : ReadsAll size old new) × HasBegun a.parts.part × IsUnknown a.parts.created a.parts.groups number thread
 FailsPlan size old new (Malformed number fault) =
-    (a : ReadsFirst size old new) × (number ≡ 1 + length a.lines) × FailsNext size a.parts number a.later fault
+    (a : ReadsFirst size old new) × (number ≡ 1 + length a.lines) × FailsNext size new a.parts number a.later fault
 FailsPlan size old new NoUnordered = (a : ReadsAll size old new) × (HasBegun a.parts.part → ⊥)
 FailsPlan size old new (Stopped Read) = (a : ReadsFirst size old new) × (filter (λ line. line.whole) a.later ≡ [])
 FailsPlan size old new (Stopped Write) = ⊥

@@ -8,4 +8,5 @@ pub mod Files
 pub mod Telling
 pub mod Rules
 pub mod Witnesses
+pub mod Filling
 pub mod Inside

@@ -1,5 +1,5 @@
 -- The outcomes of all orders of a plan (this profile's own).
-use Rattle.std.specs.Prelude.{◌≡◌, ℕ, length, min, OnOk, List}
+use Rattle.std.specs.Prelude.{◌≡◌, ℕ, ◌≤◌, length, min, Err, OnOk, List}
 use Rattle.std.specs.List.{All}
 use Rattle.l4_fpage.specs.declared.sizes.PageSize.{PageSize}
 use Rattle.l4_ipc.specs.Machine.{Machine, IsBoot}
@@ -7,10 +7,12 @@ use Rattle.l4_answers.specs.Reports.{Report}
 use Rattle.l4_shell.specs.Lacking.{LacksNothing}
 use Rattle.l4_shell.specs.Sessions.{State, first_state}
 use Rattle.l4_merges.specs.declared.exploring.Explored.{Explored}
+use Rattle.l4_merges.specs.declared.exploring.GaveUp.TheVariants.{Bound}
 use Rattle.l4_merges.specs.Graphs.{IsGraph}
-use Rattle.l4_merges.specs.Orders.{IsOrder, IsSound, AreDistinct, AreOrders, FindsEnd, most_orders}
+use Rattle.l4_merges.specs.Orders.{IsRun, IsOrder, IsFound, IsSound, AreDistinct, AreOrders, FindsEnd, most_orders}
 use Rattle.l4_orders.specs.declared.plans.Plan.{Plan}
 use Rattle.l4_orders.specs.Plans.{none_gone}
+use Rattle.l4_orders.specs.Reading.{IsRead}
 use Rattle.l4_orders.specs.Witnesses.{IsWitness}
 use Rattle.l4_orders.specs.Turns.{PlanPoint, point, AnswersInTurn, may_turn, Turns, next_line, HasOutcome}
 
@@ -25,9 +27,14 @@ pub record IsStart (frames : ℕ) (size : PageSize) (plan : Plan) (start : PlanP
   pub well : LacksNothing told
   pub is : start ≡ point plan after (none_gone plan)
 
--- the outcome of every order was found
+-- an outcome of every order was found
+abbrev pub FindsSome : PlanPoint → Explored → Type 0
+FindsSome start explored = (order : List ℕ) (end : PlanPoint) → IsOrder may_turn Turns start order end → FindsEnd HasOutcome end explored.found.items
+
+-- each outcome of each order was found
 abbrev pub FindsAll : PlanPoint → Explored → Type 0
-FindsAll start explored = (order : List ℕ) (end : PlanPoint) → IsOrder may_turn Turns start order end → FindsEnd HasOutcome end explored.found.items
+FindsAll start explored =
+    (order : List ℕ) (end : PlanPoint) (outcome : List ℕ) → IsOrder may_turn Turns start order end → HasOutcome end outcome → IsFound explored.found.items outcome
 
 -- this is the number of all orders, or the greatest number that is counted if there are more
 abbrev pub CountsAll : PlanPoint → Explored → Type 0
@@ -38,14 +45,28 @@ CountsAll start explored =
 abbrev pub DrawsAll : PlanPoint → Explored → Type 0
 DrawsAll start explored = IsGraph may_turn Turns next_line HasOutcome start explored.found.items explored.seen.items explored.start
 
--- Each outcome has an order that produces it, whose script is a run with this outcome, and none was found twice. If the search ended by itself, the outcome of every order was found,
--- and the orders were counted. Then the graph of the states is complete.
-pub record FindsOrders (frames : ℕ) (size : PageSize) (plan : Plan) (explored : Explored) : Type 0 where
+-- The search visited at most this many states: this many if it ended for that reason. If every order was followed, it visited the states of the graph.
+pub record CountsStates (most : ℕ) (explored : Explored) : Type 0 where
+  pub few : explored.states ≤ most
+  pub all : OnOk explored.ended (explored.states ≡ length explored.seen.items)
+  pub bound : explored.ended ≡ Err Bound → explored.states ≡ most
+
+-- Each outcome has an order that produces it, whose script is a run with this outcome, and none was found twice. If the search ended by itself, an outcome of every order was found,
+-- and the orders were counted. Then the graph of the states is complete. If the plan was read from a file, each outcome of each order was found.
+pub record FindsOrders (frames : ℕ) (size : PageSize) (plan : Plan) (most : ℕ) (explored : Explored) : Type 0 where
   pub start : PlanPoint
   pub starts : IsStart frames size plan start
   pub witnesses : All (IsWitness frames size plan) explored.found.items
   pub sound : IsSound may_turn Turns HasOutcome start explored.found.items
   pub distinct : AreDistinct explored.found.items
-  pub complete : OnOk explored.ended (FindsAll start explored)
+  pub complete : OnOk explored.ended (FindsSome start explored)
+  pub all : OnOk explored.ended (IsRead size plan → FindsAll start explored)
   pub counted : OnOk explored.ended (CountsAll start explored)
   pub drawn : OnOk explored.ended (DrawsAll start explored)
+  pub states : CountsStates most explored
+
+-- a state that an order of the plan reaches has one outcome, if the plan was read from a file
+abbrev pub OneOutcome : Type 0
+OneOutcome =
+    (frames : ℕ) (size : PageSize) (plan : Plan) (start : PlanPoint) → IsRead size plan → IsStart frames size plan start
+    → (order : List ℕ) (end : PlanPoint) → IsRun may_turn Turns start order end → (outcome other : List ℕ) → HasOutcome end outcome → HasOutcome end other → outcome ≡ other

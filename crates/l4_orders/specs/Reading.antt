@@ -153,3 +153,7 @@ pub record IsPlanOf (size : PageSize) (lines : List TextLine) (plan : Plan) : Ty
   pub first : lines_in plan.first.items ≡ parts.first
   pub groups : groups_in plan.blocks.items ≡ parts.groups
   pub queries : lines_in plan.queries.items ≡ parts.queries
+
+-- the plan is that of some lines
+abbrev pub IsRead : PageSize → Plan → Type 0
+IsRead size plan = (lines : List TextLine) × IsPlanOf size lines plan

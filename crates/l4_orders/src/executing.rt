@@ -1,9 +1,14 @@
 //! Executes lines of a plan one after another, and reads the answers to its queries.
-ghost use Rattle.std.specs.Prelude.{◌≡◌, ◌+◌, List, None, IfOk};
+ghost use Rattle.std.specs.Prelude.{◌≡◌, ◌+◌, ℕ, List, true, None, MatchResult};
+ghost use Rattle.std.specs.List.{list_any};
 ghost use Rattle.l4_answers.specs.Reports.{Report};
+ghost use Rattle.l4_commands.specs.Requests.{asked_at};
 ghost use Rattle.l4_shell.specs.ByLines.{state_of};
+ghost use Rattle.l4_shell.specs.Sessions.{AnswersLine};
 ghost use Rattle.l4_sinks.specs.Texts.{AreAnswerTexts};
+ghost use Rattle.l4_text.specs.declared.lines.Ending.TheVariants.{Whole};
 ghost use Rattle.l4_orders.specs.Turns.{AnswersWell, AnswersInTurn};
+ghost use Rattle.l4_orders.specs.Filling.{is_full, FillsFrom};
 ghost use Rattle.l4_orders.specs.Inside.Executed.{Executed};
 ghost use Rattle.l4_orders.specs.Plans.{gone_after, none_gone};
 ghost use Rattle.l4_orders.specs.Telling.{lines_of_order};
@@ -16,10 +21,13 @@ use l4_shell::ScriptRun;
 use l4_text::Ending;
 use std::alloc::Global;
 
-/// Executes a line of a thread.
+/// Executes a line of a thread. Returns the failure if an answer says that memory ran out, or that the history is full.
 pub(crate) fn execute(script: &mut ScriptRun, line: u64, bytes: &[u8]) -> Result<(), Failure>
-    ensures { IfOk result
-        (λ _. AnswersWell (state_of script.old) line bytes.now (state_of script.new)) }
+    ensures { MatchResult result
+        (λ _. AnswersWell (state_of script.old) line bytes.now (state_of script.new))
+        (λ why. why ≡ Failure.Full → (told : List Report)
+        × AnswersLine (state_of script.old) line (asked_at (state_of script.old).session.machine.size (state_of script.old).names Whole bytes.now) told (state_of script.new)
+        × (list_any is_full told ≡ true)) }
 {
     let mut sink = Lacking::new();
     script.answer_line(line, Ending::Whole, bytes, &mut sink);
@@ -30,13 +38,13 @@ pub(crate) fn execute(script: &mut ScriptRun, line: u64, bytes: &[u8]) -> Result
     }
 }
 
-/// Returns the next line's number.
+/// Returns the next line's number. No memory has room for so many lines that there is none.
 pub(crate) fn next_number(number: u64) -> Result<u64, Failure>
-    ensures { IfOk result (λ next. next ≡ number + 1) }
+    ensures { MatchResult result (λ next. next ≡ number + 1) (λ why. why ≡ Failure.Memory) }
 {
     match number.checked_add(1) {
         Some(next) => Ok(next),
-        None => Err(Failure::Full),
+        None => Err(Failure::Memory),
     }
 }
 
@@ -46,8 +54,9 @@ pub(crate) fn execute_all(
     first: u64,
     lines: &[PlanLine],
 ) -> Result<u64, Failure>
-    ensures { IfOk result
-        (λ next. Executed (state_of script.old) (state_of script.new) first next lines.now) }
+    ensures { MatchResult result
+        (λ next. Executed (state_of script.old) (state_of script.new) first next lines.now)
+        (λ why. why ≡ Failure.Full → FillsFrom (state_of script.old) first lines.now) }
 {
     let mut number = first;
     for line in lines {
@@ -66,10 +75,12 @@ pub(crate) fn execute_order(
     plan: &Plan,
     order: &[usize],
 ) -> Result<(u64, Vec<usize>), Failure>
-    ensures { IfOk result
+    ensures { MatchResult result
         (λ r. Executed (state_of script.old) (state_of script.new) first r.0
         (lines_of_order plan.now order.now)
-        × (r.1.items ≡ gone_after (none_gone plan.now) order.now)) }
+        × (r.1.items ≡ gone_after (none_gone plan.now) order.now))
+        (λ why. why ≡ Failure.Full → (part : List ℕ)
+        × FillsFrom (state_of script.old) first (lines_of_order plan.now part)) }
 {
     let Ok(mut gone) = plan.none_gone(alloc) else {
         return Err(Failure::Memory);
@@ -81,7 +92,7 @@ pub(crate) fn execute_order(
             number = next_number(number)?;
         }
         if advance(&mut gone, *place).is_err() {
-            return Err(Failure::Full);
+            return Err(Failure::Memory);
         }
     }
     Ok((number, gone))
@@ -94,10 +105,11 @@ pub(crate) fn answers(
     first: u64,
     queries: &[PlanLine],
 ) -> Result<Vec<u8>, Failure>
-    ensures { IfOk result
+    ensures { MatchResult result
         (λ text. (told : List Report)
         × AnswersInTurn (state_of script.old) first queries.now told (state_of script.new)
-        × AreAnswerTexts None told text.items) }
+        × AreAnswerTexts None told text.items)
+        (λ why. why ≡ Failure.Memory) }
 {
     let mut text = Vec::new(alloc);
     let mut number = first;

@@ -1,6 +1,7 @@
 //! All orders of a plan.
-ghost use Rattle.std.specs.Prelude.{◌≤◌, IfOk};
+ghost use Rattle.std.specs.Prelude.{◌≡◌, ◌≤◌, MatchResult};
 ghost use Rattle.l4_fpage.specs.Pages.{max_frames};
+ghost use Rattle.l4_orders.specs.Filling.{FillsHistory};
 ghost use Rattle.l4_orders.specs.Orders.{FindsOrders};
 
 use crate::executing::execute_all;
@@ -20,7 +21,8 @@ pub fn all_orders(
     most: u64,
 ) -> Result<Explored, Failure>
     requires { frames ≤ max_frames }
-    ensures { IfOk result (FindsOrders frames size plan.now) }
+    ensures { MatchResult result (FindsOrders frames size plan.now most)
+        (λ why. why ≡ Failure.Full → FillsHistory frames size plan.now) }
 {
     watched_orders(alloc, frames, size, plan, most, &mut Unwatched)
 }
@@ -34,7 +36,7 @@ pub fn all_orders(
 /// Returns each outcome once, with an order that produces it, and whether every order was followed. The script of each of these orders is
 /// executed once more, from boot, and has this outcome. If every order was followed, returns the graph of the states too. `watch` gets a report
 /// after each state. Returns the failure if a line before `unordered` or such a script could not be executed
-/// for lack of memory, or because the history is full.
+/// for lack of memory, or because the history is full: then an answer to one of its lines says so.
 pub fn watched_orders<W: Watch>(
     alloc: Global,
     frames: u32,
@@ -44,7 +46,8 @@ pub fn watched_orders<W: Watch>(
     watch: &mut W,
 ) -> Result<Explored, Failure>
     requires { frames ≤ max_frames }
-    ensures { IfOk result (FindsOrders frames size plan.now) }
+    ensures { MatchResult result (FindsOrders frames size plan.now most)
+        (λ why. why ≡ Failure.Full → FillsHistory frames size plan.now) }
 {
     let mut script = booted(alloc, frames, size)?;
     let line = execute_all(&mut script, 1, plan.first.as_slice())?;

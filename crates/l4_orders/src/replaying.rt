@@ -1,8 +1,9 @@
 //! Executes the script of an order once more, from boot.
-ghost use Rattle.std.specs.Prelude.{◌≤◌, IfOk};
+ghost use Rattle.std.specs.Prelude.{◌≡◌, ◌≤◌, MatchResult};
 ghost use Rattle.std.specs.List.{All};
 ghost use Rattle.l4_fpage.specs.Pages.{max_frames};
 ghost use Rattle.l4_shell.specs.ByLines.{state_of, IsFirst};
+ghost use Rattle.l4_orders.specs.Filling.{FillsScript, FillsHistory};
 ghost use Rattle.l4_orders.specs.Witnesses.{IsRunTo, IsOutcomeOf, IsWitness};
 
 use crate::executing::{answers, execute_all, execute_order};
@@ -16,7 +17,7 @@ use std::alloc::Global;
 /// Boots a kernel for a script.
 pub(crate) fn booted(alloc: Global, frames: u32, size: PageSize) -> Result<Box<ScriptRun>, Failure>
     requires { frames ≤ max_frames }
-    ensures { IfOk result (λ run. IsFirst frames size run.value) }
+    ensures { MatchResult result (λ run. IsFirst frames size run.value) (λ why. why ≡ Failure.Memory) }
 {
     let Some(run) = ScriptRun::new(alloc, frames, size) else {
         return Err(Failure::Memory);
@@ -34,7 +35,9 @@ fn replayed(
     plan: &Plan,
     order: &[usize],
 ) -> Result<Vec<u8>, Failure>
-    ensures { IfOk result (λ text. IsRunTo (state_of script.old) plan.now order.now text.items) }
+    ensures { MatchResult result
+        (λ text. IsRunTo (state_of script.old) plan.now order.now text.items)
+        (λ why. why ≡ Failure.Full → FillsScript (state_of script.old) plan.now) }
 {
     let first = execute_all(script, 1, plan.first.as_slice())?;
     let (line, gone) = execute_order(alloc, script, first, plan, order)?;
@@ -55,13 +58,16 @@ fn replay(
     order: &[usize],
 ) -> Result<Vec<u8>, Failure>
     requires { frames ≤ max_frames }
-    ensures { IfOk result (λ text. IsOutcomeOf frames size plan.now order.now text.items) }
+    ensures { MatchResult result
+        (λ text. IsOutcomeOf frames size plan.now order.now text.items)
+        (λ why. why ≡ Failure.Full → FillsHistory frames size plan.now) }
 {
     let mut script = booted(alloc, frames, size)?;
     replayed(alloc, &mut script, plan, order)
 }
 
-/// Executes the script of each order on a new kernel, and compares its outcome with the one that was found.
+/// Executes the script of each order on a new kernel, and compares its outcome with the one that was found. An outcome that differs has the
+/// same result as a lack of memory: no order of a plan that was read from a file has two outcomes.
 pub(crate) fn replay_all(
     alloc: Global,
     frames: u32,
@@ -70,14 +76,16 @@ pub(crate) fn replay_all(
     found: &[Found],
 ) -> Result<(), Failure>
     requires { frames ≤ max_frames }
-    ensures { IfOk result (λ _. All (IsWitness frames size plan.now) found.now) }
+    ensures { MatchResult result
+        (λ _. All (IsWitness frames size plan.now) found.now)
+        (λ why. why ≡ Failure.Full → FillsHistory frames size plan.now) }
 {
     for one in found {
         let outcome = replay(alloc, frames, size, plan, one.order.as_slice())?;
         if outcome.as_slice() == one.outcome.as_slice() {
             continue;
         }
-        return Err(Failure::Full);
+        return Err(Failure::Memory);
     }
     Ok(())
 }

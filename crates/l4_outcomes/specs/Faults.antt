@@ -1,5 +1,7 @@
 -- Why there is no search of a text, in numbers (this profile's own).
-use Rattle.std.specs.Prelude.{◌≡◌, ◌⊎◌, ℕ, List, codes}
+use Rattle.std.specs.Prelude.{ℕ, List, codes}
+use Rattle.l4_merges.specs.declared.machine.Failure.{Failure}
+use Rattle.l4_merges.specs.declared.machine.Failure.TheVariants.{Memory, Full}
 use Rattle.l4_refusals.specs.Texts.{spelled}
 use Rattle.l4_orders.specs.Codes.{line_code}
 use Rattle.l4_orders.specs.declared.parts.LineFault.{LineFault}
@@ -27,6 +29,7 @@ fault_result (Stopped fault) = refused_by (codes "NoMemory")
 fault_result (Malformed number fault) = search_result (spelled (line_code fault)) (line_thread fault) number
 fault_result NoUnordered = refused_by (codes "O6")
 
--- memory ran out, or a history was full
-abbrev pub IsLack : SearchResult → Type 0
-IsLack r = (r ≡ refused_by (codes "NoMemory")) ⊎ (r ≡ refused_by (codes "L1"))
+-- the result for a plan whose orders cannot be executed: memory ran out, or a history was full
+abbrev pub failure_result : Failure → SearchResult
+failure_result Memory = refused_by (codes "NoMemory")
+failure_result Full = refused_by (codes "L1")

@@ -1,6 +1,6 @@
 //! Why there is no search.
 ghost use Rattle.std.specs.Prelude.{◌≡◌};
-ghost use Rattle.l4_outcomes.specs.Faults.{search_result, line_thread, fault_result, IsLack};
+ghost use Rattle.l4_outcomes.specs.Faults.{search_result, line_thread, fault_result, failure_result};
 
 use l4_merges::Failure;
 use l4_orders::{LineFault, PlanFault, line_code};
@@ -54,7 +54,7 @@ pub(crate) fn fault_told(fault: PlanFault) -> SearchResult
 
 /// Returns the result for a plan whose orders cannot be executed.
 pub(crate) fn failure_told(failure: Failure) -> SearchResult
-    ensures { IsLack result }
+    ensures { result ≡ failure_result failure }
 {
     match failure {
         Failure::Memory => without_line(number_of(b"NoMemory")),

@@ -27,7 +27,7 @@ pub fn search(
     text: &[u8],
     most: u64,
 ) -> Result<Searched, SearchResult>
-    ensures { MatchResult result (IsSearched frames size text.now)
+    ensures { MatchResult result (IsSearched frames size most text.now)
         (IsUnsearched frames size text.now) }
 {
     if !has_frames(frames) {

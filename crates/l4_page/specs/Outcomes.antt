@@ -54,7 +54,7 @@ TellsRefusal r old new told = (told ≡ refused_told r) × (new ≡ placed (mean
 
 -- THE RESULT OF A SEARCH: the outcomes that it found, with their answers, the scripts of orders that produce them, and the rules that they
 -- break; or why there is no search. There is none either if memory ran out for the texts.
-abbrev pub TellsOutcomes : ℕ → PageSize → List ℕ → List ℕ → List ℕ → List ℕ → List ℕ → OutcomesTold → Type 0
-TellsOutcomes frames size script old new lengths sizes told =
-    ((s : Searched) × IsSearched frames size script s × TellsFound s old new lengths sizes told)
+abbrev pub TellsOutcomes : ℕ → PageSize → ℕ → List ℕ → List ℕ → List ℕ → List ℕ → List ℕ → OutcomesTold → Type 0
+TellsOutcomes frames size most script old new lengths sizes told =
+    ((s : Searched) × IsSearched frames size most script s × TellsFound s old new lengths sizes told)
     ⊎ ((r : SearchResult) × IsUnsearched frames size script r × TellsRefusal r old new told × (sizes ≡ lengths))

@@ -132,7 +132,7 @@ fn searched(
     out: &mut [u8],
     lengths: &mut [u64],
 ) -> OutcomesTold
-    ensures { TellsOutcomes given.now.frames size script.now out.old out.new lengths.old
+    ensures { TellsOutcomes given.now.frames size given.now.most script.now out.old out.new lengths.old
         lengths.new result }
 {
     match search(alloc, given.frames, size, script, given.most) {
@@ -153,7 +153,7 @@ pub extern "C" fn page_orders(
     lengths: &mut [u64],
 ) -> OutcomesTold
     ensures { InBytes given.now.page_bytes
-        (λ size. TellsOutcomes given.now.frames size script.now out.old out.new lengths.old
+        (λ size. TellsOutcomes given.now.frames size given.now.most script.now out.old out.new lengths.old
         lengths.new result)
         (TellsRefusal (refused_by (codes "B4")) out.old out.new result
         × (lengths.new ≡ lengths.old)) }

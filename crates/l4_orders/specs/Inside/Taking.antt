@@ -10,7 +10,7 @@ use Rattle.l4_orders.specs.Reading.{Parts}
 
 -- the first lines are parts of a plan, and the next one is not
 abbrev pub FailsFirst : PageSize → Option (List ℕ) → Option (List ℕ) → ℕ → LineFault → Type 0
-FailsFirst size old new number fault = (a : ReadsFirst size old new) × (number ≡ 1 + length a.lines) × FailsNext size a.parts number a.later fault
+FailsFirst size old new number fault = (a : ReadsFirst size old new) × (number ≡ 1 + length a.lines) × FailsNext size new a.parts number a.later fault
 
 abbrev pub ReadsLines : PageSize → Option (List ℕ) → Option (List ℕ) → Parts → Result (Unit {0}) PlanFault → Type 0
 ReadsLines size old new last (Ok u) = (a : ReadsAll size old new) × (last ≡ a.parts)

@@ -6,5 +6,5 @@ use Rattle.l4_page.proofs.outcomes.searched.Goals as goal
 pub returns-in-Ok : goal.returns-in-Ok
 returns-in-Ok c = elim c.found.ensures [
   | inl told ↦ inl (c.in-Ok.search, c.in-Ok.ensures, told)
-  | inr told ↦ inr (refused_by (codes "NoMemory"), lacks_memory c.args.given.now.frames c.args.size c.args.script.now c.in-Ok.search c.in-Ok.ensures, told.0, told.1)
+  | inr told ↦ inr (refused_by (codes "NoMemory"), lacks_memory c.args.given.now.frames c.args.size c.args.given.now.most c.args.script.now c.in-Ok.search c.in-Ok.ensures, told.0, told.1)
 ]
