@@ -7,8 +7,7 @@ pub const ABOUT: &str = "An L4 X.2 kernel core in user space.";
 pub const PLAN: &str = "\
 Prints the shortest list of map items that moves a region: the COUNT pages that
 start at page SOURCE move to the pages that start at page TARGET, with these
-rights. No other page moves. Numbers are decimal, or hexadecimal with a 0x
-prefix.
+rights. No other page moves. SOURCE, TARGET and COUNT are decimal numbers.
 
 Each item is printed with one of its pages. No map item that stays within the
 region could move two of the printed pages, so no list is shorter.

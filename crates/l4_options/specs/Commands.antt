@@ -8,7 +8,7 @@ use Rattle.clap.specs.Simple.{App, Shape, new_rule, new_shape, matches_of, subco
 use Rattle.clap.specs.Walk.{Row, Rule, Text, all_of, first_of}
 use Rattle.clap.specs.declared.builder.action.ArgAction.TheVariants.{Set, Append, SetTrue}
 use Rattle.clap.specs.declared.error.kind.ErrorKind.TheVariants.{DisplayHelp, DisplayVersion}
-use Rattle.l4_options.specs.Spelled.{AreEncodedIn, AreFilesIn, AreFramesIn, AreNumbersIn, IsChosenAt, IsCountAt, IsNumberAt, IsReadingIn, IsRegionIn, IsScriptIn, IsSizeIn, is_on}
+use Rattle.l4_options.specs.Spelled.{AreEncodedIn, AreFilesIn, AreFramesIn, AreNumbersIn, IsChosenAt, IsCountAt, IsDecimalAt, IsReadingIn, IsRegionIn, IsScriptIn, IsSizeIn, is_on}
 use Rattle.l4_options.specs.declared.requests.Options.{Options}
 use Rattle.l4_options.specs.declared.requests.Options.TheVariants.{Run, History, Segments, Judge, Why, WhySegments, Plan, Check, Decode, Encode, Test, Orders, Show}
 use Rattle.l4_options.specs.declared.requests.StepOptions.{StepOptions}
@@ -123,11 +123,11 @@ Asks name found (Segments files answers) =
 Asks name found (Judge list all) = (name ≡ codes "judge") × IsScriptIn found list × (all ≡ is_on found (codes "all"))
 Asks name found (Why script strict thread page) =
     (name ≡ codes "why") × IsScriptIn found script × (strict ≡ is_on found (codes "strict"))
-    × IsNumberAt found (codes "thread") thread × IsNumberAt found (codes "page") page
+    × IsDecimalAt found (codes "thread") thread × IsDecimalAt found (codes "page") page
     × (all_of (codes "from") found ≡ None)
 Asks name found (WhySegments files thread page) =
     (name ≡ codes "why") × (Some (map string_bytes files.items) ≡ all_of (codes "from") found)
-    × IsNumberAt found (codes "thread") thread × IsNumberAt found (codes "page") page × HasNoScript found
+    × IsDecimalAt found (codes "thread") thread × IsDecimalAt found (codes "page") page × HasNoScript found
 Asks name found (Plan region size) = (name ≡ codes "plan") × IsRegionIn found region × IsSizeIn found size
 Asks name found (Check region size) = (name ≡ codes "check") × IsRegionIn found region × IsSizeIn found size
 Asks name found (Decode words reading size) =

@@ -101,9 +101,9 @@ Encodes (Some kind) size tokens words = AreWords kind size tokens words
 
 -- ---- arguments
 
--- the argument's word spells this number, decimal or hexadecimal
-abbrev pub IsNumberAt : List Row → Text → ℕ → Type 0
-IsNumberAt found id n = number_of (word_at found id) ≡ Some n
+-- the word of the argument or of the option spells this number in decimal
+abbrev pub IsDecimalAt : List Row → Text → ℕ → Type 0
+IsDecimalAt found id n = decimal_of (word_at found id) ≡ Some n
 
 -- the word rights spells these rights
 abbrev pub AreRightsIn : List Row → RightsSet → Type 0
@@ -111,9 +111,9 @@ AreRightsIn found rights = rights_of (word_at found (codes "rights")) ≡ Some r
 
 -- the region that is spelled by the four words of a plan or a check
 pub record IsRegionIn (found : List Row) (region : Region) : Type 0 where
-  pub source : IsNumberAt found (codes "source") region.source
-  pub target : IsNumberAt found (codes "target") region.target
-  pub count : IsNumberAt found (codes "count") region.count
+  pub source : IsDecimalAt found (codes "source") region.source
+  pub target : IsDecimalAt found (codes "target") region.target
+  pub count : IsDecimalAt found (codes "count") region.count
   pub rights : AreRightsIn found region.rights
 
 -- the number of frames: 256 where it is left out
@@ -147,10 +147,6 @@ IsKindIn found kind = spelled_or None kind_of (first_of (codes "as") found) ≡ 
 abbrev pub AreEncodedIn : List Row → List ℕ → Type 0
 AreEncodedIn found words =
     (size : PageSize) × (kind : Option WordKind) × IsSizeIn found size × IsKindIn found kind × Encodes kind size (words_at found (codes "tokens")) words
-
--- the option's word spells this number in decimal
-abbrev pub IsDecimalAt : List Row → Text → ℕ → Type 0
-IsDecimalAt found id n = decimal_of (word_at found id) ≡ Some n
 
 -- the number of states: 1,000,000 where it is left out
 abbrev pub IsCountAt : List Row → Text → ℕ → Type 0

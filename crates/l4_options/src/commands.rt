@@ -265,8 +265,8 @@ fn judge_options(alloc: Global, matches: &ArgMatches<'_>) -> Result<Options, Opt
 fn why_options(alloc: Global, matches: &ArgMatches<'_>) -> Result<Options, OptionFault>
     ensures { IfOk result (Asks (codes "why") (found_in matches.now)) }
 {
-    let thread = number_of(alloc, matches, "thread", "THREAD")?;
-    let page = number_of(alloc, matches, "page", "PAGE")?;
+    let thread = number_of(alloc, matches, "thread", "<THREAD>")?;
+    let page = number_of(alloc, matches, "page", "<PAGE>")?;
     if let Some(names) = texts_of(matches, "from") {
         return match segment_files(alloc, matches, names) {
             Ok(files) => Ok(Options::WhySegments {

@@ -16,7 +16,6 @@ pub fn misread(rt: &impl Eprint, fault: &OptionFault) -> u8
         OptionFault::Words(_)
         | OptionFault::Frames(_)
         | OptionFault::Pages(_)
-        | OptionFault::Number { .. }
         | OptionFault::Decimal { .. }
         | OptionFault::Rights(_)
         | OptionFault::Hyphens { .. }

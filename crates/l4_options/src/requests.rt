@@ -121,10 +121,7 @@ pub enum OptionFault {
     /// The page size is neither 4096 nor 1024 in decimal digits.
     #[error("error: invalid value '{0}' for '--page-size <BYTES>': expected 4096 or 1024")]
     Pages(String),
-    /// This argument, for a thread, a page or a count, is not a number.
-    #[error("error: invalid value '{word}' for '<{name}>': expected a number up to 4294967295, decimal or hexadecimal with a 0x prefix")]
-    Number { name: &'static str, word: String },
-    /// The value of this option is not a number below 2^32 in decimal digits.
+    /// This argument, or the value of this option, is not a number below 2^32 in decimal digits.
     #[error("error: invalid value '{word}' for '{name}': expected a decimal number up to 4294967295")]
     Decimal { name: &'static str, word: String },
     /// The rights are not r, w and x in this order, each of them or `-` or `_` in its place.

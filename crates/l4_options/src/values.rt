@@ -5,7 +5,7 @@ ghost use Rattle.std.specs.String.{string_bytes};
 ghost use Rattle.clap.specs.Walk.{all_of, first_of};
 ghost use Rattle.clap.specs.Values.{kind_of};
 ghost use Rattle.l4_text.specs.Numbers.{below, digit_of, value_from};
-ghost use Rattle.l4_options.specs.Spelled.{word_at, is_on, right_of, rights_of, decimal_of, frame_count_of, page_size_of, reading_of, Spell, IsNumberAt, AreRightsIn, IsRegionIn, AreFramesIn, IsSizeIn, IsScriptIn, AreNumbersIn, IsReadingIn};
+ghost use Rattle.l4_options.specs.Spelled.{word_at, is_on, right_of, rights_of, decimal_of, frame_count_of, page_size_of, reading_of, Spell, IsDecimalAt, AreRightsIn, IsRegionIn, AreFramesIn, IsSizeIn, IsScriptIn, AreNumbersIn, IsReadingIn};
 ghost use Rattle.l4_options.specs.Commands.{word, needed_words, option, switch};
 ghost use Rattle.l4_options.specs.Inside.Lines.{IsRule, IsTextKind, found_in};
 ghost use Rattle.l4_options.specs.Inside.Words.{underscored, spelled_anew};
@@ -382,26 +382,19 @@ pub(crate) fn is_strict(matches: &ArgMatches<'_>) -> bool
     is_on(matches, "strict")
 }
 
-/// The number of a thread, or of a part of a region, by the argument's name.
+/// The decimal number of a thread, of a page, or of a part of a region, by the argument and its name on the command line.
 pub(crate) fn number_of(
     alloc: Global,
     matches: &ArgMatches<'_>,
     id: &str,
     name: &'static str,
 ) -> Result<u32, OptionFault>
-    ensures { IfOk result (IsNumberAt (found_in matches.now) id.now) }
+    ensures { IfOk result (IsDecimalAt (found_in matches.now) id.now) }
 {
-    let word = word_at(matches, id);
-    match number(word.as_bytes()) {
-        Some(number) => Ok(number),
-        None => match String::from_str(alloc, word) {
-            Ok(word) => Err(OptionFault::Number { name, word }),
-            Err(_) => Err(OptionFault::Memory),
-        },
-    }
+    decimal_of(alloc, word_at(matches, id), name)
 }
 
-/// The decimal number of an option, by its name and its value's on the command line.
+/// The decimal number of an argument or of an option, by its name on the command line.
 pub(crate) fn decimal_of(alloc: Global, word: &str, name: &'static str) -> Result<u32, OptionFault>
     ensures { IfOk result (λ n. decimal_of word.now ≡ Some n) }
 {
@@ -433,9 +426,9 @@ pub(crate) fn region_of(alloc: Global, matches: &ArgMatches<'_>) -> Result<Regio
     ensures { IfOk result (IsRegionIn (found_in matches.now)) }
 {
     Ok(Region {
-        source: number_of(alloc, matches, "source", "SOURCE")?,
-        target: number_of(alloc, matches, "target", "TARGET")?,
-        count: number_of(alloc, matches, "count", "COUNT")?,
+        source: number_of(alloc, matches, "source", "<SOURCE>")?,
+        target: number_of(alloc, matches, "target", "<TARGET>")?,
+        count: number_of(alloc, matches, "count", "<COUNT>")?,
         rights: rights_of(alloc, matches)?,
     })
 }

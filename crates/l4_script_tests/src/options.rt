@@ -135,7 +135,7 @@ fn is_planned(asked: &Options, owed: &Region) -> bool {
 
 #[test]
 fn reads_regions(rt: HostRuntime) -> Result<(), Fail> {
-    let words = ["l4", "plan", "0x4", "12", "0xffffffff", "r_-"];
+    let words = ["l4", "plan", "4", "12", "4294967295", "r_-"];
     let Ok(asked) = options(rt.alloc(), words.as_slice()) else {
         return Err("not understood".into());
     };
@@ -150,7 +150,10 @@ fn reads_regions(rt: HostRuntime) -> Result<(), Fail> {
     assert!(rt;
         matches!(
             options(rt.alloc(), words.as_slice()),
-            Err(OptionFault::Number { name: "COUNT", .. })
+            Err(OptionFault::Decimal {
+                name: "<COUNT>",
+                ..
+            })
         )
     );
     let words = ["l4", "check", "0", "0", "1", "rxw"];
