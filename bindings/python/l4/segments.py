@@ -93,12 +93,14 @@ class _Reader:
     def segment(self) -> SavedSegment:
         """Reads a segment."""
         begin = self.at
-        magic, version, frames, page_bytes, first, count = _HEADING.unpack(self.take(_HEADING.size))
+        front = self.data[begin : begin + 4]
+        if front != b"LSG4"[: len(front)]:
+            raise BadSegments(f"byte {begin}", "F1: the segment does not begin with LSG4")
+        _, version, frames, page_bytes, first, count = _HEADING.unpack(self.take(_HEADING.size))
         for is_right, offset, why in (
-            (magic == b"LSG4", 0, "F1: a segment begins with LSG4"),
-            (version == 1, 4, "F2: the version of the file must be 1"),
-            (1 <= frames <= MAX_FRAMES, 8, "F3: the number of frames must be from 1 to 4,096"),
-            (page_bytes in (PAGE_BYTES, SMALL_PAGE_BYTES), 12, "F4: the page size must be 4,096 or 1,024 bytes"),
+            (version == 1, 4, "F2: the version of the file is not 1"),
+            (1 <= frames <= MAX_FRAMES, 8, "F3: the number of frames is not in 1..=4096"),
+            (page_bytes in (PAGE_BYTES, SMALL_PAGE_BYTES), 12, "F4: the page size is neither 4096 nor 1024 bytes"),
             (first + count <= _MOST, 16, "F5: the number of an entry would exceed 2^63"),
         ):
             if not is_right:
@@ -141,7 +143,7 @@ def join(segments: Iterable[SavedSegment]) -> SavedSegment:
         if place and segment.page_bytes != page_bytes:
             raise BadSegments(f"segment {place}", "J2: the page size is not that of the segments before it")
         if segment.first != len(entries):
-            raise BadSegments(f"segment {place}", f"J3: it begins with entry {segment.first}, and not with entry {len(entries)}")
+            raise BadSegments(f"segment {place}", f"J3: the segment does not begin with the next entry, number {len(entries)}")
         frames, page_bytes = segment.frames, segment.page_bytes
         entries += segment.entries
     return SavedSegment(frames, page_bytes, 0, tuple(entries))

@@ -54,7 +54,10 @@ class Segments(unittest.TestCase):
         for place in range(len(whole)):
             with self.assertRaises(BadSegments):
                 read(whole[:place] + bytes([whole[place] ^ 1]) + whole[place + 1 :])
-        self.fails("byte 0", "F8", read, b"LSG4")
+        for cut in (b"", b"LS", b"LSG4", b"LSG4" + bytes(27)):
+            self.fails("byte 0", "F8", read, cut)
+        for other in (b"X", b"LSX", b"LSG5", bytes(31)):
+            self.fails("byte 0", "F1", read, other)
         self.fails("byte 0", "F1", read, b"X" + whole[1:])
         self.fails("byte 8", "F3", read, sealed(whole[:8] + struct.pack("<I", 0) + whole[12:]))
         self.fails("byte 12", "F4", read, sealed(whole[:12] + struct.pack("<I", 512) + whole[16:]))

@@ -77,10 +77,10 @@ pub(crate) fn report_unproved(rt: &impl Eprint, answer: &Answer, is_empty: bool)
 fn file_words(kind: FaultKind) -> &'static str {
     match kind {
         FaultKind::NoMemory => "out of memory",
-        FaultKind::Magic => "F1: a segment begins with LSG4",
-        FaultKind::Version => "F2: the version of the file must be 1",
-        FaultKind::Frames => "F3: the number of frames must be from 1 to 4,096",
-        FaultKind::Pages => "F4: the page size must be 4,096 or 1,024 bytes",
+        FaultKind::Magic => "F1: the segment does not begin with LSG4",
+        FaultKind::Version => "F2: the version of the file is not 1",
+        FaultKind::Frames => "F3: the number of frames is not in 1..=4096",
+        FaultKind::Pages => "F4: the page size is neither 4096 nor 1024 bytes",
         FaultKind::Numbers => "F5: the number of an entry would exceed 2^63",
         FaultKind::Entry => "F6: the words are not those of an entry",
         FaultKind::Checksum => "F7: the checksum is not that of the segment",
@@ -107,7 +107,7 @@ pub(crate) fn report_misfit(rt: &impl Eprint, name: &str, place: usize, misfit: 
             "error: '{name}': segment {place}: J2: the page size is not that of the segments before it"
         ),
         MisfitKind::Number => eprintln!(rt;
-            "error: '{name}': segment {place}: J3: the segment must begin with entry {expected}"
+            "error: '{name}': segment {place}: J3: the segment does not begin with the next entry, number {expected}"
         ),
     };
 }
@@ -116,7 +116,7 @@ pub(crate) fn report_misfit(rt: &impl Eprint, name: &str, place: usize, misfit: 
 pub(crate) fn report_history(rt: &impl Eprint, fault: HistoryFault) {
     let _ = match fault {
         HistoryFault::NotNext(number) => eprintln!(rt;
-            "error: entry {number}: J4: the step is not the next step, nor the start of a call by the thread of its seat"
+            "error: entry {number}: J4: the step is neither the next step nor the start of a call by its seat"
         ),
         HistoryFault::OtherAnswer(number) => eprintln!(rt;
             "error: entry {number}: J5: the kernel gives this step another answer"

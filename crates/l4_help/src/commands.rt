@@ -64,18 +64,18 @@ executed again.
 A file, a segment or an entry that is wrong has one of these codes. The bytes of
 a file, its segments, and the entries count from 0:
 
-  F1    a segment does not begin with LSG4
-  F2    the version of the file is unknown
+  F1    the segment does not begin with LSG4
+  F2    the version of the file is not 1
   F3    the number of frames is not in 1..=4096
-  F4    the page size is neither 4096 nor 1024
+  F4    the page size is neither 4096 nor 1024 bytes
   F5    the number of an entry would exceed 2^63
   F6    the words are not those of an entry
   F7    the checksum is not that of the segment
   F8    the segment is cut off
   J1    the number of frames is not that of the segments before it
   J2    the page size is not that of the segments before it
-  J3    the segment does not begin where the one before it ended
-  J4    the entry is not the next step, nor the start of a call
+  J3    the segment does not begin with the next entry
+  J4    the step is neither the next step nor the start of a call by its seat
   J5    the kernel gives this step another answer
 
 Exit status: as for 'l4 run'. With --from, 2 also for a file, a segment or an
