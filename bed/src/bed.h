@@ -110,6 +110,7 @@ struct bed {
     enum end end;
     char end_reason[80];
     int has_stopped; /* the bed has stopped a thread */
+    int has_gdb;
     struct costs costs;
 };
 
@@ -137,6 +138,8 @@ const char *rights_text(uint32_t rights);
 void end_begin(struct bed *bed);
 /* Ends the run if it has reached a limit, if a signal asks for it, or if an output cannot be written. Writes whole lines from time to time. */
 void end_watch(struct bed *bed);
+/* Ends the run at gdb's request. */
+void end_by_gdb(struct bed *bed);
 /* Prints why the run has ended, and what each thread does, unless a program has ended it. */
 void end_report(struct bed *bed);
 /* Returns the exit status; or ends the bed by the signal that has ended the run. */

@@ -97,6 +97,10 @@ static const char *partner_text(struct bed *bed, uint32_t id) {
     return partner != NULL && partner->state == STOPPED ? ", which is stopped" : "";
 }
 
+void end_by_gdb(struct bed *bed) {
+    end_by(bed, ENDED_BY_LIMIT, "gdb has ended it", 0);
+}
+
 static void print_ipc(struct bed *bed, const struct thread *thread, const l4_state *state) {
     if (state->partner == L4_ANYTHREAD)
         print("%u waits to receive from any thread\n", thread->number);

@@ -22,7 +22,8 @@ enum stop_kind {
     STOP_BY_TRAP,      /* the instruction at eip is invalid: the stub of a system call, the look-up of the KIP, or a mistake */
     STOP_BY_FAULT,     /* the mapped pages do not permit the instruction's access to `address` */
     STOP_BY_EXCEPTION, /* the processor raised exception `number` */
-    STOP_BY_BUDGET     /* the thread ran for a whole turn */
+    STOP_BY_BUDGET,    /* the thread ran for a whole turn */
+    STOP_BY_BREAK      /* there is a breakpoint at eip */
 };
 
 struct stop {
@@ -64,6 +65,8 @@ struct engine_kind {
     void (*run)(struct engine *engine, struct engine_space *space, struct registers *registers, struct stop *stop);
     /* The thread with these registers no longer exists. */
     void (*forget)(struct engine *engine, struct engine_space *space, const struct registers *registers);
+    /* Sets or removes a breakpoint, at which programs stop before its instruction. NULL if the engine has none. */
+    void (*set_break)(struct engine *engine, struct engine_space *space, uint32_t address, int is_set);
 };
 
 extern const struct engine_kind engine_kvm;

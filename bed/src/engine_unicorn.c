@@ -35,6 +35,13 @@
 #define TRAP_FLAG UINT32_C(0x100)
 #define MAX_STEPS 4096u
 
+/* A breakpoint: a hook at its address. */
+#define MAX_BREAKS 64
+struct stop_place {
+    uint32_t address;
+    uc_hook hook;
+};
+
 struct engine {
     const struct memory *memory;
     uint32_t blocks_of_turn;
@@ -49,6 +56,8 @@ struct engine_space {
     uint64_t gs_base;
     int is_changed; /* the processor may remember pages that have changed */
     struct registers *float_owner;
+    struct stop_place breaks[MAX_BREAKS];
+    uint32_t break_count;
     /* of the present run */
     struct stop *stop;
     uint32_t blocks, most_blocks, block_first, block_bytes;
@@ -306,7 +315,22 @@ static void open_processor(struct engine_space *space) {
     set_processor(space);
 }
 
+static void on_break(uc_engine *unicorn, uint64_t address, uint32_t size, void *user) {
+    struct engine_space *space = user;
+    (void)address, (void)size;
+    space->stop->kind = STOP_BY_BREAK;
+    check_unicorn(uc_emu_stop(unicorn), "uc_emu_stop");
+}
+
+static void add_break_hook(struct engine_space *space, struct stop_place *place) {
+    check_unicorn(uc_hook_add(space->unicorn, &place->hook, UC_HOOK_CODE, (void *)(uintptr_t)on_break, space, place->address, place->address),
+                  "uc_hook_add");
+}
+
 static void add_hooks(struct engine_space *space) {
+    uint32_t k;
+    for (k = 0; k < space->break_count; k++)
+        add_break_hook(space, &space->breaks[k]);
     hook(space, UC_HOOK_INTR, (uintptr_t)on_exception);
     hook(space, UC_HOOK_INSN_INVALID, (uintptr_t)on_invalid);
     hook(space, UC_HOOK_MEM_READ | UC_HOOK_MEM_WRITE, (uintptr_t)on_access);
@@ -604,4 +628,22 @@ static void forget(struct engine *engine, struct engine_space *space, const stru
         space->float_owner = NULL;
 }
 
-const struct engine_kind engine_unicorn = {"unicorn", 1, 10, open_engine, close_engine, new_space, free_space, map, unmap, run, forget};
+/* Code that was translated before has no hook at the address, or still has one. (Unicorn would raise a page fault if the page were absent.) */
+static void set_break(struct engine *engine, struct engine_space *space, uint32_t address, int is_set) {
+    uint32_t k = 0;
+    (void)engine;
+    while (k < space->break_count && space->breaks[k].address != address)
+        k++;
+    if (is_set && k == space->break_count && k < MAX_BREAKS) {
+        space->breaks[k].address = address;
+        add_break_hook(space, &space->breaks[k]);
+        space->break_count++;
+    } else if (!is_set && k < space->break_count) {
+        check_unicorn(uc_hook_del(space->unicorn, space->breaks[k].hook), "uc_hook_del");
+        space->breaks[k] = space->breaks[--space->break_count];
+    }
+    if (is_executable(space, address))
+        check_unicorn(uc_ctl_remove_cache(space->unicorn, address, address + 1), "uc_ctl_remove_cache");
+}
+
+const struct engine_kind engine_unicorn = {"unicorn", 1, 10, open_engine, close_engine, new_space, free_space, map, unmap, run, forget, set_break};

@@ -2,6 +2,7 @@
 #define _GNU_SOURCE
 #include "bed.h"
 #include "check.h"
+#include "gdb.h"
 #include "signals.h"
 #include "test.h"
 #include <errno.h>
@@ -135,6 +136,7 @@ static const char usage[] =
     "\n"
     "  --turn MS        interrupt a thread that runs for MS milliseconds, 1 to 1000, without a system call\n"
     "  --clock NAME     SystemClock returns the host's time, or virtual time: what unicorn has executed (its default)\n"
+    "  --gdb PORT       wait until gdb connects to this port of the machine itself (only with unicorn)\n"
     "  --tap            with l4_bed test: print the results in TAP. Write all other options as --NAME=VALUE there\n"
     "\n"
     "Exit status:\n"
@@ -155,11 +157,11 @@ struct options {
     uint32_t frames;
     int prints_lines, prints_costs, verifies;
     struct limits limits;
-    uint32_t turn;
+    uint32_t turn, gdb_port;
     const char *clock;
 };
 
-enum { ENGINE = 1, ENGINES, FRAMES, LINES, TRACE, SCRIPT, STEPS, COSTS, VERIFY, TIME, CALLS, MEMORY, TURN, CLOCK, HELP, VERSION };
+enum { ENGINE = 1, ENGINES, FRAMES, LINES, TRACE, SCRIPT, STEPS, COSTS, VERIFY, TIME, CALLS, MEMORY, TURN, CLOCK, GDB, HELP, VERSION };
 
 static const struct option long_options[] = {{"engine", required_argument, NULL, ENGINE}, {"engines", no_argument, NULL, ENGINES},
                                              {"frames", required_argument, NULL, FRAMES}, {"lines", no_argument, NULL, LINES},
@@ -168,11 +170,13 @@ static const struct option long_options[] = {{"engine", required_argument, NULL,
                                              {"verify", no_argument, NULL, VERIFY},       {"time", required_argument, NULL, TIME},
                                              {"calls", required_argument, NULL, CALLS},   {"memory", required_argument, NULL, MEMORY},
                                              {"turn", required_argument, NULL, TURN},     {"clock", required_argument, NULL, CLOCK},
+                                             {"gdb", required_argument, NULL, GDB},
                                              {"help", no_argument, NULL, HELP},           {"version", no_argument, NULL, VERSION},
                                              {NULL, 0, NULL, 0}};
 
 #define MAX_LIMIT 1000000000u
 #define MAX_TURN 1000u
+#define MAX_PORT 65535u
 
 static uint32_t read_number(const char *option, const char *text, uint32_t most) {
     char *end;
@@ -205,6 +209,7 @@ static void read_option(struct options *options, int option) {
     case CALLS: options->limits.calls = read_number("--calls", optarg, MAX_LIMIT); break;
     case MEMORY: options->limits.memory = read_number("--memory", optarg, MAX_LIMIT); break;
     case TURN: options->turn = read_number("--turn", optarg, MAX_TURN); break;
+    case GDB: options->gdb_port = read_number("--gdb", optarg, MAX_PORT); break;
     case CLOCK: options->clock = optarg; break;
     case HELP: print_and_end(usage);
     case VERSION: print_and_end("l4_bed " BED_VERSION "\n");
@@ -239,12 +244,15 @@ static uint32_t begin(struct bed *bed, const struct options *options, int count,
     record_begin(bed);
     bed->engine = bed->kind->open(&bed->memory, options->turn == 0 ? bed->kind->turn : options->turn);
     kernel_begin_sigma0(bed);
+    bed->has_gdb = options->gdb_port != 0;
+    if (bed->has_gdb)
+        gdb_open(bed, options->gdb_port);
     return entry;
 }
 
 static int run(int count, char **words) {
     static struct bed bed;
-    struct options options = {NULL, NULL, NULL, &bed, DEFAULT_FRAMES, 0, 0, 0, {0, 0, 0}, 0, NULL};
+    struct options options = {NULL, NULL, NULL, &bed, DEFAULT_FRAMES, 0, 0, 0, {0, 0, 0}, 0, 0, NULL};
     int option;
     uint32_t entry;
     double start;
@@ -266,6 +274,7 @@ static int run(int count, char **words) {
     if (options.prints_costs)
         print_costs(&bed, now() - start);
     free_bed(&bed);
+    gdb_report_end(end_status(&bed));
     return end_status(&bed);
 }
 

@@ -1,5 +1,6 @@
 #include "bed.h"
 #include "check.h"
+#include "gdb.h"
 #include <stdlib.h>
 #include <string.h>
 
@@ -33,6 +34,8 @@ void space_set_areas(struct bed *bed, struct space *space, uint32_t kip, uint32_
     space->utcb_pages = 1u << (utcbs_log - L4_PAGE_LOG);
     space->engine_space = bed->kind->new_space(bed->engine, kip + KIP_CURRENT_UTCB);
     bed->kind->map(bed->engine, space->engine_space, space->kip_page, bed->frames, L4_READ | L4_EXECUTE);
+    if (bed->has_gdb)
+        gdb_add_space(bed, space);
 }
 
 int space_has_utcb(const struct space *space, uint32_t address) {

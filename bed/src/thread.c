@@ -1,5 +1,6 @@
 #include "bed.h"
 #include "check.h"
+#include "gdb.h"
 #include "signals.h"
 #include <stdio.h>
 #include <string.h>
@@ -127,6 +128,8 @@ static const char *exception_text(uint32_t number) {
 }
 
 static void stop(struct bed *bed, struct thread *thread, const char *why) {
+    if (bed->has_gdb)
+        gdb_report_stop(bed, thread);
     text_end_begun(thread);
     print("%u is stopped: %s\n", thread->number, why);
     print_line(bed, "%u stopped at eip %08x", thread->number, thread->registers.eip);
@@ -321,16 +324,23 @@ static int run(struct bed *bed, struct thread *thread) {
     stopped.time = 0;
     memcpy(bed_frame(bed, bed->frames) + KIP_CURRENT_UTCB, &thread->utcb, sizeof thread->utcb);
     bed->costs.runs++;
+    if (bed->has_gdb)
+        gdb_before(bed, thread);
+    if (bed->end != NOT_ENDED)
+        return 0;
     signals_set_thread(thread->number, thread->registers.eip);
     bed->kind->run(bed->engine, thread->space->engine_space, &thread->registers, &stopped);
     signals_set_thread(0, 0);
     bed->virtual_time += stopped.time + ENTRY_TIME;
     end_watch(bed);
+    if (bed->has_gdb && gdb_after(bed, thread, &stopped))
+        return 1;
     switch (stopped.kind) {
     case STOP_BY_TRAP: return take_trap(bed, thread, stopped.number);
     case STOP_BY_FAULT: thread_fault(bed, thread, stopped.address, stopped.access); return 1;
     case STOP_BY_EXCEPTION: raise_exception(bed, thread, stopped.number); return 1;
-    case STOP_BY_BUDGET: return 0;
+    case STOP_BY_BUDGET:
+    case STOP_BY_BREAK: return 0;
     }
     return 0;
 }
