@@ -451,7 +451,7 @@ typedef struct l4_judgement {
 /* Watches another kernel: executes a step that the other kernel executed, and compares the other kernel's answer with this kernel's, as
  * `l4 judge` does. The step is a line of a step list without its newline, such as "transfer 4 2" or "reply 3": a step or a query. The
  * answer has the lines that l4_steps prints for it, such as "done\n4 ipc 00000000 0 00000000\n", of which the last need not end with a
- * newline. A line "?" matches any one line. An answer without lines is not compared, and agrees.
+ * newline. A line "?" matches any one line. An answer without lines differs at place 0.
  *
  * Of this kernel's line at the place of the difference, at most the first `room` - 1 bytes are written to expected, and a 0 after them. A
  * line has at most 656 bytes. If the answers agree, the text is empty. Nothing is written if room is 0, or after a refusal.

@@ -1061,7 +1061,7 @@ static void judges(void) {
     EXPECT(l4_boot(&kernel, 256) == L4_OK);
     EXPECT(agrees(&kernel, "start 1 ipc 0x8001 0 0 0 0x70000", "started"));
     EXPECT(agrees(&kernel, "enabled", "enabled none\n"));
-    EXPECT(agrees(&kernel, "start 2 ipc 0 0xffffffff 0 0", ""));
+    EXPECT(differs(&kernel, "start 2 ipc 0 0xffffffff 0 0", "", 0, "started") && differs(&kernel, "enabled", "", 0, "enabled transfer 1 2"));
     seen = judge(&kernel, "transfer 2 1", "done\n", text);
     EXPECT(seen.refusal == L4_OK && seen.verdict == L4_NOT_ENABLED && seen.place == 0 && seen.length == 10 && strcmp(text, "refused K1") == 0);
     EXPECT(seen.enabled.kind == L4_TRANSFER && seen.enabled.thread == 1 && seen.enabled.receiver == 2 && seen.reserved[0] == 0 && seen.reserved[1] == 0);

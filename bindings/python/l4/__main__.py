@@ -9,7 +9,7 @@ from contextlib import nullcontext
 from typing import List, Optional, Tuple
 
 from . import draw
-from .judge import Adapter, Difference, Unfit, judge, shrink, unanswered
+from .judge import Adapter, Agreement, Difference, Uncompared, Unfit, judge, shrink, unanswered
 from .kernel import Kernel
 from .lab import Lab, read_script
 from .lab_answers import MOST_BYTES
@@ -36,7 +36,9 @@ def parse(words: Optional[List[str]]) -> argparse.Namespace:
     space.add_argument("space", type=int)
     judged = commands.add_parser("judge", help="compare the answers of another kernel, as l4 judge does, and shorten a list that differs")
     judged.add_argument("list", nargs="?", metavar="FILE", help="a step list with answers in lines that begin with '# ' [default: standard input]")
-    judged.add_argument("--with", dest="command_line", metavar="COMMAND", help="judge the answers that this command of the shell writes for the list")
+    judged.add_argument("--against", metavar="LIST", help="the steps and queries that the list must have, each with its answers")
+    judged.add_argument("--partial", action="store_true", help="accept steps and queries without answers")
+    judged.add_argument("--with", dest="command_line", metavar="COMMAND", help="judge what this command of the shell writes for the list, against the list")
     judged.add_argument("--shrink", action="store_true", help="leave out lines until the answers of COMMAND agree without any single one, and print that list")
     lab = commands.add_parser("lab", help="show the run of a script in a browser until interrupted")
     lab.add_argument("script", nargs="?", help="a file with a script or step list, which you can edit on the page")
@@ -46,21 +48,28 @@ def parse(words: Optional[List[str]]) -> argparse.Namespace:
     options = parser.parse_args(words)
     if options.command == "judge" and options.shrink and options.command_line is None:
         parser.error("--shrink needs --with COMMAND")
+    if options.command == "judge" and options.against and options.command_line is not None:
+        parser.error("--with COMMAND judges against the list itself, without --against")
     if options.command == "lab" and options.segments and options.script:
         parser.error("the lab shows a script or, with --from, files of segments")
     return options
 
 
+def lines_of(name: Optional[str]) -> List[bytes]:
+    """Returns the lines of a file, or of standard input if no file is named."""
+    with open(name, "rb") if name else nullcontext(sys.stdin.buffer) as file:
+        return file.readlines()
+
+
 def pass_judgement(options: argparse.Namespace) -> int:
     """Judges a list, or the answers of a command to it. Returns the exit status."""
-    with open(options.list, "rb") if options.list else nullcontext(sys.stdin.buffer) as file:
-        lines = file.readlines()
+    against, lines = lines_of(options.against) if options.against else None, lines_of(options.list)
     if options.command_line is None:
         with Kernel(options.frames, options.page_size) as kernel:
-            verdict = judge(kernel, lines)
+            verdict = judge(kernel, lines, against, options.partial)
         print(verdict)
-        return int(isinstance(verdict, Difference))
-    adapter, given = Adapter(options.command_line, options.frames, options.page_size), unanswered(lines)
+        return int(not isinstance(verdict, Agreement))
+    adapter, given = Adapter(options.command_line, options.frames, options.page_size, options.partial), unanswered(lines)
     verdict, text = adapter.judge(given)
     if isinstance(verdict, Difference) and options.shrink:
         verdict, text = adapter.judge(shrink(adapter, given))
@@ -68,7 +77,7 @@ def pass_judgement(options: argparse.Namespace) -> int:
         print(f"## {verdict}")
     else:
         print(verdict)
-    return int(isinstance(verdict, Difference))
+    return int(not isinstance(verdict, Agreement))
 
 
 def run(options: argparse.Namespace) -> None:
@@ -115,6 +124,9 @@ def main(words: Optional[List[str]] = None) -> int:
             show(options)
         else:
             run(options)
+    except Uncompared as why:
+        print(f"error: {why}", file=sys.stderr)
+        return 5
     except (Refused, Unread, Unfit, BadSegments, ValueError, OSError, OverflowError) as why:
         sys.stdout.flush()
         print(f"error: {why}", file=sys.stderr)

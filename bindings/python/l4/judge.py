@@ -1,9 +1,8 @@
 """Judges another kernel: compares its answers to a step list with those of the proved kernel, and shortens lists that differ."""
 from __future__ import annotations
 
-import collections
 import subprocess
-from dataclasses import dataclass
+from dataclasses import dataclass, replace
 from typing import Iterable, Iterator, List, NamedTuple, Optional, Sequence, Tuple, Union
 
 from ._library import L4_AGREES, L4_NOT_ENABLED
@@ -17,6 +16,14 @@ UNKNOWN = "?"
 
 _STEPS = (b"start", b"transfer", b"expire")
 _NO_FURTHER = "no further answer"
+_LIST_END = "the end of the list"
+
+
+class Uncompared(Exception):
+    """A list in which nothing differs, but no answer was compared."""
+
+    def __init__(self) -> None:
+        super().__init__("no answer was compared")
 
 
 class NoSteps(Unread):
@@ -28,7 +35,7 @@ class NoSteps(Unread):
 
 @dataclass(frozen=True)
 class Agreement:
-    """All answers are those of the proved kernel. `steps` counts the steps, and `answers` the answer lines that were compared."""
+    """The list has the wanted steps and queries, and the proved kernel's answers. `steps` counts the steps, and `answers` the answer lines that were compared."""
 
     steps: int
     answers: int
@@ -57,7 +64,28 @@ class Difference:
         where = "" if self.line is None else f"line {self.line}: "
         expected = _NO_FURTHER if self.expected is None else self.expected
         enabled = "" if self.enabled is None else f" ({self.enabled})"
-        return f"{where}{self.step}: expected {expected}{enabled}, found {_NO_FURTHER if self.found is None else self.found}"
+        missing = _NO_FURTHER if self.place else "no answer"
+        return f"{where}{self.step}: expected {expected}{enabled}, found {missing if self.found is None else self.found}"
+
+
+@dataclass(frozen=True)
+class OtherStep:
+    """The first step or query that is not the one of the list that was passed as `against`.
+
+    `line` is the number of its line. `expected` and `found` are the lines of both lists; either is None if that list ends there.
+    """
+
+    line: int
+    expected: Optional[str]
+    found: Optional[str]
+
+    def __str__(self) -> str:
+        expected, found = (_LIST_END if step is None else step for step in (self.expected, self.found))
+        return f"line {self.line}: expected {expected}, found {found}"
+
+
+#: What `judge` returns.
+Verdict = Union[Agreement, Difference, OtherStep]
 
 
 def _is_step(line: str) -> bool:
@@ -86,7 +114,7 @@ class Judge:
         """Executes a step or query on the proved kernel, and compares the other kernel's answer with it. Returns None if they agree.
 
         `step` is a line of a step list, or a value that prints as one. `answer` has the lines that `l4_steps` would print. A line `UNKNOWN`
-        matches any one line. If there are no lines, nothing is compared. Raises ValueError if the step is not a line of a step list.
+        matches any one line. An answer without lines differs at place 0. Raises ValueError if the step is not a line of a step list.
         """
         line = step if isinstance(step, str) else step_line(step)
         found = list(answer)
@@ -119,9 +147,9 @@ class _Listed(NamedTuple):
 
 
 def _entries(lines: Iterable[bytes]) -> Iterator[_Listed]:
-    """Yields the steps and queries of a list, each with its answers. Raises Unread for a line that is not whole, for an answer without a step,
-    and for a list without steps."""
-    entry, number = None, 0
+    """Yields the steps and queries of a list, each with its answers. Raises Unread for a line that is not whole, and for an answer without a
+    step."""
+    entry = None
     for number, line in enumerate(lines, 1):
         try:
             text = whole_line(number, line).decode("latin-1")
@@ -138,27 +166,79 @@ def _entries(lines: Iterable[bytes]) -> Iterator[_Listed]:
             if entry:
                 yield entry
             entry = _Listed(number, text, [], [])
-    if entry is None:
-        raise NoSteps(number + 1, "the list has no step or query")
-    yield entry
+    if entry is not None:
+        yield entry
 
 
-def judge(kernel: Kernel, lines: Iterable[bytes]) -> Union[Agreement, Difference]:
+def requests(lines: Iterable[bytes]) -> List[str]:
+    """Returns the steps and queries of a list: its lines that are neither empty nor comments. Raises Unread for a line that is not whole."""
+    texts = (whole_line(number, line).decode("latin-1") for number, line in enumerate(lines, 1))
+    return [text for text in texts if _is_step(text)]
+
+
+class _Comparison:
+    """The comparison of a list, step by step, with the steps and queries that it must have, if any are given, and with the proved kernel's
+    answers."""
+
+    def __init__(self, kernel: Kernel, wanted: Optional[List[str]], partial: bool) -> None:
+        self.watch, self.wanted, self.partial = Judge(kernel), wanted, partial
+        self.steps = 0
+        #: The answers that the last step lacks. They are missing if another step or the end of the list follows.
+        self.lack: Optional[Difference] = None
+
+    def wanted_next(self) -> Optional[str]:
+        return self.wanted[self.steps] if self.wanted and self.steps < len(self.wanted) else None
+
+    def step(self, entry: _Listed) -> Union[Difference, OtherStep, None]:
+        """Compares a step with its answers. Returns the first difference."""
+        try:
+            found = self.watch.compare(entry.line, entry.answers)
+        except ValueError:
+            raise Unread(entry.number, "is not a valid step or query") from None
+        expected, lack, self.lack = self.wanted_next(), self.lack, None
+        self.steps += 1
+        if lack is not None:
+            return lack
+        if self.wanted is not None and entry.line != expected:
+            return OtherStep(entry.number, expected, entry.line)
+        if found is None or self.partial and not entry.answers:
+            return None
+        found = replace(found, line=entry.number_of(found.place))
+        if found.found is not None:
+            return found
+        self.lack = found
+        return None
+
+    def end(self, number: int) -> Verdict:
+        """Compares the end of the list, which is before the line of this number."""
+        expected = self.wanted_next()
+        if self.lack is not None:
+            return self.lack
+        if expected is not None:
+            return OtherStep(number, expected, None)
+        if self.steps == 0:
+            raise NoSteps(number, "the list has no step or query")
+        if self.watch.answers == 0:
+            raise Uncompared
+        return Agreement(self.watch.steps, self.watch.answers)
+
+
+def judge(kernel: Kernel, lines: Iterable[bytes], against: Optional[Iterable[bytes]] = None, partial: bool = False) -> Verdict:
     """Judges a list: steps and queries, with the other kernel's answers below each, in lines that begin with '# '. Returns the first difference,
     or the agreement.
 
+    `against` is a list with the steps and queries that the first one must have; without it, any are accepted. With `partial`, a step or query
+    may have no answer.
+
     Raises Unread at the first line that is not valid: not a step or query, an answer without a step, a line that is not whole, or the end of a
-    list without steps.
+    list without steps. Raises Uncompared if nothing differs, but no answer was compared.
     """
-    watch = Judge(kernel)
-    for entry in _entries(lines):
-        try:
-            found = watch.compare(entry.line, entry.answers)
-        except ValueError:
-            raise Unread(entry.number, "is not a valid step or query") from None
+    comparison, given = _Comparison(kernel, None if against is None else requests(against), partial), list(lines)
+    for entry in _entries(given):
+        found = comparison.step(entry)
         if found is not None:
-            return Difference(found.step, found.place, found.expected, found.found, found.enabled, entry.number_of(found.place))
-    return Agreement(watch.steps, watch.answers)
+            return found
+    return comparison.end(len(given) + 1)
 
 
 class Unfit(Exception):
@@ -168,14 +248,15 @@ class Unfit(Exception):
 class Adapter:
     """A kernel behind a command of the shell, which reads a step list from standard input and writes the list with its answers.
 
-    `frames` and `page_bytes` are those of the machine. The command may take `seconds` for a list.
+    `frames` and `page_bytes` are those of the machine. If `partial`, steps and queries may have no answer. The command may take `seconds`
+    for a list.
     """
 
-    def __init__(self, command: str, frames: int, page_bytes: int, seconds: float = 60) -> None:
-        self.command, self.sizes, self.seconds = command, (frames, page_bytes), seconds
+    def __init__(self, command: str, frames: int, page_bytes: int, partial: bool = False, seconds: float = 60) -> None:
+        self.command, self.sizes, self.partial, self.seconds = command, (frames, page_bytes), partial, seconds
 
     def answered(self, lines: Sequence[str]) -> bytes:
-        """Returns the list of these lines with the answers of the command. Raises Unfit if it does not write that list."""
+        """Returns what the command writes for the list of these lines. Raises Unfit if it fails."""
         given = "".join(f"{line}\n" for line in lines).encode("latin-1")
         try:
             done = subprocess.run(self.command, shell=True, input=given, stdout=subprocess.PIPE, timeout=self.seconds)
@@ -183,22 +264,20 @@ class Adapter:
             raise Unfit(f"the command took more than {self.seconds:g} seconds") from None
         if done.returncode:
             raise Unfit(f"the command ended with status {done.returncode}")
-        if [entry.line for entry in _entries(done.stdout.splitlines(keepends=True))] != list(filter(_is_step, lines)):
-            raise Unfit("the command did not write the steps that it read")
         return done.stdout
 
-    def judge(self, lines: Sequence[str]) -> Tuple[Union[Agreement, Difference], bytes]:
-        """Runs the command on these lines. Returns the agreement or the first difference, and the list with the answers."""
+    def judge(self, lines: Sequence[str]) -> Tuple[Verdict, bytes]:
+        """Runs the command on these lines, and judges what it writes against them. Returns the verdict, and the list with the answers."""
         text = self.answered(lines)
         with Kernel(*self.sizes) as kernel:
-            return judge(kernel, text.splitlines(keepends=True)), text
+            return judge(kernel, text.splitlines(keepends=True), (f"{line}\n".encode("latin-1") for line in lines), self.partial), text
 
     def disagrees(self, steps: Sequence[str]) -> bool:
-        """Returns whether the command's answers to these lines differ from the proved kernel's. A list that the command does not answer
-        counts as agreement."""
+        """Returns whether an answer of the command to these lines differs from the proved kernel's. A list that the command does not answer
+        counts as agreement, and so does one in which it changes the steps."""
         try:
             return bool(steps) and isinstance(self.judge(steps)[0], Difference)
-        except (Unfit, Unread):
+        except (Unfit, Unread, Uncompared):
             return False
 
 
@@ -225,5 +304,6 @@ def shrink(adapter: Adapter, lines: Sequence[str]) -> List[str]:
 
 def unanswered(lines: Sequence[bytes]) -> List[str]:
     """Returns the lines of a list without its answers. Raises Unread for a list that `judge` does not read."""
-    collections.deque(_entries(lines), maxlen=0)
+    if not list(_entries(lines)):
+        raise NoSteps(len(lines) + 1, "the list has no step or query")
     return [line[:-1].decode("latin-1") for line in lines if not line.startswith(b"# ")]

@@ -6,7 +6,7 @@ import unittest
 from pathlib import Path
 
 from l4 import UNKNOWN, Agreement, Call, Difference, Judge, Kernel, Message, Start, ThreadId, Transfer
-from l4.judge import Adapter, Unfit, judge, shrink, unanswered
+from l4.judge import Adapter, OtherStep, Uncompared, Unfit, judge, shrink, unanswered
 from l4.lists import Unread
 
 TOP = Path(__file__).resolve().parents[3]
@@ -35,9 +35,9 @@ def l4(*words, given=b""):
 
 
 class Lists(unittest.TestCase):
-    def of(self, text):
+    def of(self, text, against=None, partial=False):
         with Kernel() as kernel:
-            return judge(kernel, lines(text))
+            return judge(kernel, lines(text), None if against is None else lines(against), partial)
 
     def test_the_suite_agrees(self):
         files = sorted(SUITE.glob("*/*.steps"))
@@ -52,7 +52,7 @@ class Lists(unittest.TestCase):
         transfer = SENDS + "transfer 1 2\n"
         for told, wanted in [
             (ENDS, "agrees: 3 steps, 5 answers"),
-            ([], "agrees: 3 steps, 2 answers"),
+            ([], "line 5: transfer 1 2: expected done, found no answer"),
             (["done", UNKNOWN, ENDS[2]], "agrees: 3 steps, 4 answers"),
             ([UNKNOWN] * 3, "agrees: 3 steps, 2 answers"),
             (["entangled", *ENDS[1:]], "line 6: transfer 1 2: expected done, found entangled"),
@@ -74,12 +74,51 @@ class Lists(unittest.TestCase):
         self.assertEqual(self.of("enabled\n# enabled none\nspace 2\n# space 1\n"), Agreement(0, 2))
         self.assertEqual(str(self.of("space 2\n# space 2\n")), "line 2: space 2: expected space 1, found space 2")
 
+    def test_answers_that_are_left_out(self):
+        for text, wanted in [
+            ("space 2\nspace 1\n# space 0\n", "line 1: space 2: expected space 1, found no answer"),
+            ("space 1\n# space 0\nspace 2\n#space 1\n", "line 3: space 2: expected space 1, found no answer"),
+        ]:
+            with self.subTest(text):
+                self.assertEqual(str(self.of(text)), wanted)
+                self.assertEqual(str(self.of(text, partial=True)), "agrees: 0 steps, 1 answers")
+        transfer = SENDS + "transfer 1 2\n# done\nspace 2\n"
+        self.assertEqual(str(self.of(transfer, partial=True)), "line 6: transfer 1 2: expected 1 ipc 00000000 0 00000000, found no further answer")
+        for text, partial in [("space 1\nspace 2\n", True), ("space 1\n# ?\n", False)]:
+            with self.subTest(text), self.assertRaises(Uncompared):
+                self.of(text, partial=partial)
+
+    def test_steps_that_are_not_those_of_the_list(self):
+        given = "## two queries\nspace 1\n\nspace 2\n# space 7\n"
+        first, second = "space 1\n# space 0\n", "space 2\n# space 1\n"
+        for text, wanted in [
+            (first + second, "agrees: 0 steps, 2 answers"),
+            ("## TEXT\n" + first + "\n" + second, "agrees: 0 steps, 2 answers"),
+            ("", "line 1: expected space 1, found the end of the list"),
+            ("## space 1\n", "line 2: expected space 1, found the end of the list"),
+            (first, "line 3: expected space 2, found the end of the list"),
+            (second, "line 1: expected space 1, found space 2"),
+            (first + "space 3\n# none\n" + second, "line 3: expected space 2, found space 3"),
+            (first + "space  2\n# space 1\n", "line 3: expected space 2, found space  2"),
+            (first + second + "enabled\n# enabled none\n", "line 5: expected the end of the list, found enabled"),
+            (first + "space 2\n", "line 3: space 2: expected space 1, found no answer"),
+            ("space 1\nspace 3\n", "line 1: space 1: expected space 0, found no answer"),
+        ]:
+            with self.subTest(text):
+                self.assertEqual(str(self.of(text, given)), wanted)
+        self.assertEqual(self.of(first, given), OtherStep(3, "space 2", None))
+        self.assertEqual(str(self.of("", "## nothing\nspace 1\n", True)), "line 1: expected space 1, found the end of the list")
+        with self.assertRaises(Unread) as caught:
+            self.of(first, "space 1")
+        self.assertEqual(str(caught.exception), "line 1 does not end with a newline")
+
     def test_lists_that_are_refused(self):
         for text, wanted in [
             ("", "line 1: the list has no step or query"),
             ("## only a comment\n", "line 2: the list has no step or query"),
             ("# a comment\nenabled\n", "line 1 is an answer without a step or query above it"),
             ("enabled\nfrob\n", "line 2 is not a valid step or query"),
+            ("space 1\nspace 2", "line 2 does not end with a newline"),
             ("enabled\n# enabled none\ntransfer 1 2", "line 3 does not end with a newline"),
             ("enabled\n# " + "x" * 4095 + "\n", "line 2 is longer than 4096 bytes"),
         ]:
@@ -113,6 +152,11 @@ class Steps(unittest.TestCase):
             with self.subTest(line), self.assertRaises(ValueError):
                 Judge().compare(line, ["done"])
 
+    def test_an_answer_without_lines_differs(self):
+        found = Judge().compare("space 2")
+        self.assertEqual(found, Difference("space 2", 0, "space 1", None))
+        self.assertEqual(str(found), "space 2: expected space 1, found no answer")
+
 
 class Shrinking(unittest.TestCase):
     def shrunk(self, name, wrong):
@@ -134,15 +178,19 @@ class Shrinking(unittest.TestCase):
     def test_commands_that_are_unfit(self):
         for command, wanted in [
             ("exit 3", "the command ended with status 3"),
-            ("echo enabled", "the command did not write the steps that it read"),
             ("sleep 5", "the command took more than 0.2 seconds"),
         ]:
             with self.subTest(command):
-                adapter = Adapter(command, 256, 4096, 0.2 if "sleep" in command else 60)
+                adapter = Adapter(command, 256, 4096, seconds=0.2 if "sleep" in command else 60)
                 with self.assertRaises(Unfit) as caught:
                     adapter.judge(["space 1"])
                 self.assertEqual(str(caught.exception), wanted)
                 self.assertFalse(adapter.disagrees(["space 1"]))
+
+    def test_a_command_that_writes_other_steps(self):
+        adapter = Adapter("echo enabled", 256, 4096)
+        self.assertEqual(str(adapter.judge(["space 1"])[0]), "line 1: expected space 1, found enabled")
+        self.assertFalse(adapter.disagrees(["space 1"]))
 
 
 class Command(unittest.TestCase):
@@ -152,6 +200,16 @@ class Command(unittest.TestCase):
         differs = agrees.replace(b"8000 2", b"8000 3")
         self.assertEqual(l4(given=differs)[:2], (1, "line 8: expire 2: expected 2 ipc 00008000 2 00000000, found 2 ipc 00008000 3 00000000\n"))
         self.assertEqual(l4(given=b"# done\n"), (2, "", "error: line 1 is an answer without a step or query above it\n"))
+        self.assertEqual(l4(given=b"space 1\n"), (1, "line 1: space 1: expected space 0, found no answer\n", ""))
+        self.assertEqual(l4("--partial", given=b"space 1\n"), (5, "", "error: no answer was compared\n"))
+
+    def test_against_a_list(self):
+        file = SUITE / "timeouts/send.steps"
+        self.assertEqual(l4("--against", str(file), given=file.read_bytes()), (0, "agrees: 2 steps, 4 answers\n", ""))
+        status, out, err = l4("--against", str(file))
+        self.assertEqual((status, err), (1, ""))
+        self.assertRegex(out, "^line 1: expected start .*, found the end of the list\n$")
+        self.assertEqual(l4("--against", str(file), "--with", KERNEL)[0], 2)
 
     def test_with_a_command(self):
         file = str(SUITE / "timeouts/receive.steps")

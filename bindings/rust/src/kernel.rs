@@ -181,7 +181,7 @@ pub struct Entered {
 #[derive(Clone, PartialEq, Eq, Debug)]
 #[non_exhaustive]
 pub enum Verdict {
-    /// Every line that was compared is this kernel's.
+    /// The answer has all lines of this kernel's, except those for which it has `?`.
     Agrees,
     /// A line differs.
     Differs {
@@ -470,8 +470,8 @@ impl Kernel {
     /// as `l4 judge` does.
     ///
     /// `step` is a line of a step list without its newline: a step or a query. `found` has the lines that `l4_steps` prints for it; the last
-    /// one may lack its newline. A line `?` matches any one line. An answer without lines is not compared, and agrees. This kernel
-    /// executes the step even if the answers differ, so its state follows the definition.
+    /// one may lack its newline. A line `?` matches any one line. An answer without lines differs at place 0. This kernel executes
+    /// the step even if the answers differ, so its state follows the definition.
     ///
     /// # Errors
     ///
@@ -491,6 +491,8 @@ impl Kernel {
     /// );
     /// let enabled = Some(Step::Transfer { sender: 1, receiver: 2 });
     /// assert_eq!(kernel.judge("transfer 2 1", "done")?, Verdict::NotEnabled { enabled });
+    /// let expected = Some("space 1".to_string());
+    /// assert_eq!(kernel.judge("space 2", "")?, Verdict::Differs { place: 0, expected });
     /// # Ok::<(), l4::Refusal>(())
     /// ```
     pub fn judge(&mut self, step: &str, found: &str) -> Result<Verdict, Refusal> {

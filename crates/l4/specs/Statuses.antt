@@ -9,8 +9,9 @@ use Rattle.l4_programs.specs.Statuses.{run_status}
 use Rattle.l4_plan_lines.specs.Answers.{is_proved}
 use Rattle.l4_plan_lines.specs.declared.answers.Answer.{Answer}
 use Rattle.l4_sinks.specs.declared.scripts.Ended.{Ended}
-use Rattle.l4_step_lines.specs.declared.judging.JudgeFault.{JudgeFault}
-use Rattle.l4_step_lines.specs.declared.judging.JudgeFault.TheVariants.{List as OfList}
+use Rattle.l4_judging.specs.declared.judging.JudgeFault.{JudgeFault}
+use Rattle.l4_judging.specs.declared.judging.JudgeFault.TheVariants.{List as OfList, Uncompared}
+use Rattle.l4_step_lines.specs.declared.running.Fault.{Fault}
 use Rattle.l4_step_lines.specs.declared.running.Fault.TheVariants.{Stopped}
 use Rattle.l4_text.specs.declared.faults.RunFault.{RunFault}
 use Rattle.l4_saved.specs.declared.following.HistoryFault.{HistoryFault}
@@ -52,9 +53,15 @@ abbrev pub ruled_status : Bool → Result (Unit {0}) GaveUp → ℕ
 ruled_status true ended = 1
 ruled_status false ended = orders_status ended
 
--- judge: 1 where the answers differ, 2 where the list is invalid
+-- the requests that a list is judged against: 2 where their list is invalid
+abbrev pub requests_status : Fault → ℕ
+requests_status (Stopped fault) = run_status fault
+requests_status fault = 2
+
+-- judge: 1 where a request or an answer differs, 5 where nothing differs but no answer was compared, 2 where the list is invalid
 abbrev pub judged_status : Result Bool JudgeFault → ℕ
 judged_status (Ok agrees) = if agrees then 0 else 1
+judged_status (Err Uncompared) = 5
 judged_status (Err (OfList (Stopped fault))) = run_status fault
 judged_status (Err fault) = 2
 

@@ -6,6 +6,7 @@
 //! opened; 3 if a read or a write failed; 4 if there was no memory.
 #![tactic(auto)]
 
+mod judged;
 mod ordered;
 mod plan_tests;
 mod progress;
@@ -16,9 +17,10 @@ mod tested;
 mod whys;
 
 ghost use Rattle.std.specs.Prelude.{◌≡◌, IfErr};
-ghost use Rattle.l4.specs.Statuses.{script_status, judged_status, page_status, why_status, plan_status, check_status, text_status};
+ghost use Rattle.l4.specs.Statuses.{script_status, page_status, why_status, plan_status, check_status, text_status};
 ghost use Rattle.l4_options.specs.Ranges.{IsFrameCount, IsInRange};
 
+use judged::judge_list;
 use l4_decode::{Reading, decode};
 use l4_fpage::PageSize;
 use l4_history::{
@@ -36,7 +38,6 @@ use l4_programs::{
 use l4_reasons::Reason;
 use l4_record::NoSegments;
 use l4_sinks::{Ended, Outputs, Style, answer_script};
-use l4_step_lines::{Fault, JudgeFault, judge};
 use l4_symbols::write_words;
 use l4_text::{RunFault, ScriptReader};
 use ordered::{print_orders, wanted_by};
@@ -102,29 +103,6 @@ fn script_ended<R: Read, W: Write>(
             0
         }
         Err(fault) => stopped(rt, fault, file, cause(fault, reader, writer)),
-    }
-}
-
-/// Reports what is wrong with a judged list. Returns the exit status.
-fn judged<R: Read, W: Write>(
-    rt: &impl Eprint,
-    agrees: Result<bool, JudgeFault>,
-    file: Option<&str>,
-    reader: &WatchedReader<R>,
-    writer: &WatchedWriter<W>,
-) -> u8
-    ensures { result ≡ judged_status agrees }
-{
-    match agrees {
-        Ok(true) => 0,
-        Ok(false) => DIFFERS,
-        Err(JudgeFault::List(Fault::Stopped(fault))) => {
-            stopped(rt, fault, file, cause(fault, reader, writer))
-        }
-        Err(fault) => {
-            let _ = rt.eprintln(&fault);
-            NOT_UNDERSTOOD
-        }
     }
 }
 
@@ -322,30 +300,6 @@ fn tell_history<R: AllocGlobal + Files + Input + Print + Eprint>(
     script_ended(rt, told, file, &reader, &writer)
 }
 
-/// Judges a step list with another kernel's answers.
-#[inline(never)]
-fn judge_list<R: AllocGlobal + Files + Input + Print + Eprint>(
-    rt: &R,
-    list: &ScriptOptions,
-    all: bool,
-) -> u8 {
-    let file = list.file.as_deref();
-    let mut reader = match opened(rt, file) {
-        Ok(reader) => reader,
-        Err(status) => return status,
-    };
-    let mut writer = WatchedWriter::new(io::writer(rt));
-    let agrees = judge(
-        rt.alloc(),
-        list.frames,
-        list.size,
-        all,
-        &mut reader,
-        &mut writer,
-    );
-    judged(rt, agrees, file, &reader, &writer)
-}
-
 /// Prints how a page got to its place in a script.
 #[inline(never)]
 fn tell_why<R: AllocGlobal + Files + Input + Print + Eprint>(
@@ -429,7 +383,7 @@ fn execute<R: AllocGlobal + Files + Input + Print + Eprint + Clock>(
             answers,
         } => tell_history(rt, &script, strict, answers),
         Options::Segments { files, answers } => tell_segments(rt, files.as_slice(), answers),
-        Options::Judge { list, all } => judge_list(rt, &list, all),
+        Options::Judge(asked) => judge_list(rt, &asked),
         Options::Why {
             script,
             strict,

@@ -1,10 +1,10 @@
 -- Another kernel's answer to a step, compared with that of the kernel in a handle (this profile's own).
 use Rattle.std.specs.Prelude.{ℕ, ◌≡◌, List, codes, Option, None, Some, Result, Ok, Err}
 use Rattle.l4_ipc.specs.Machine.{Machine}
-use Rattle.l4_step_lines.specs.declared.watching.Judgement.{Judgement}
-use Rattle.l4_step_lines.specs.declared.watching.Unjudged.{Unjudged}
-use Rattle.l4_step_lines.specs.declared.watching.Unjudged.TheVariants.{Unread, Memory}
-use Rattle.l4_step_lines.specs.Watching.{JudgesStep}
+use Rattle.l4_judging.specs.declared.watching.Judgement.{Judgement}
+use Rattle.l4_judging.specs.declared.watching.Unjudged.{Unjudged}
+use Rattle.l4_judging.specs.declared.watching.Unjudged.TheVariants.{Unread, Memory}
+use Rattle.l4_judging.specs.Watching.{JudgesStep}
 use Rattle.l4_refusals.specs.Texts.{spelled}
 use Rattle.l4_c_values.specs.Judged.{expected_of, judge_result, unjudged_result}
 use Rattle.l4_c_values.specs.declared.judgements.JudgeResult.{JudgeResult}

@@ -7,7 +7,7 @@ use l4_c_values::{
     EMPTY, JudgeResult, KernelHandle, NO_MEMORY, NO_SUCH_STEP, expected_of, judge_told, unjudged,
 };
 use l4_ipc::Kernel;
-use l4_step_lines::{Judgement, Unjudged, judge_step};
+use l4_judging::{Judgement, Unjudged, judge_step};
 use std::alloc::Global;
 
 /// Writes the line that was expected, and returns the result.

@@ -1,8 +1,8 @@
 -- What was found about another kernel's answer, as C gets it (this profile's own).
 use Rattle.std.specs.Prelude.{ℕ, List, [], length, codes, bytes_eq, Option, None, Some, if◌then◌else◌}
 use Rattle.l4_ipc.specs.declared.steps.Step.{Step}
-use Rattle.l4_step_lines.specs.declared.watching.Difference.{Difference}
-use Rattle.l4_step_lines.specs.declared.watching.Judgement.{Judgement}
+use Rattle.l4_judging.specs.declared.watching.Difference.{Difference}
+use Rattle.l4_judging.specs.declared.watching.Judgement.{Judgement}
 use Rattle.l4_c_values.specs.Told.{filled, no_step_result, next_result}
 use Rattle.l4_c_values.specs.declared.results.NextResult.{NextResult}
 use Rattle.l4_c_values.specs.declared.judgements.JudgeResult.{JudgeResult}

@@ -3,7 +3,7 @@ ghost use Rattle.std.specs.Prelude.{◌≡◌};
 ghost use Rattle.l4_c_values.specs.Judged.{verdict_of, place_of, expected_of, judge_result, unjudged_result};
 
 use crate::results::{NextResult, no_step, step_told};
-use l4_step_lines::Judgement;
+use l4_judging::Judgement;
 
 /// The result of comparing another kernel's answer.
 #[repr(C)]

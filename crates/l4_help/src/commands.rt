@@ -97,24 +97,34 @@ writes such lists. Any other line that begins with # (as '## text') is a comment
   # 3 ipc 00000000 0 00000000
   # ?
 
-A step or query without answers is executed, but not compared. If it has answers,
-they must be all the lines that l4_steps prints, in the same order. The line
-'# ?' takes the place of any one line, and is not counted.
+Each step or query must have all the lines that l4_steps prints, in the same
+order. The line '# ?' takes the place of any one line, and is not counted. With
+--partial, a step or query without any answer is executed, but not compared.
+
+With --against, the steps and queries must be those of LIST: the same lines in
+the same order, byte for byte. Comments and answers in LIST are ignored.
 
   agrees: N steps, A answers
-                             all compared answers are those of this kernel
+                             all answers are those of this kernel
   line L: STEP: expected ANSWER, found ANSWER
                              line L is the first answer that differs: this
                              kernel's answer, and the one in the list. 'no
-                             further answer' takes the place of a missing line.
-                             After 'refused K1', the enabled step is named
+                             answer' or 'no further answer' takes the place of a
+                             missing line. After 'refused K1', the enabled step
+                             is named
+  line L: expected STEP, found STEP
+                             line L is the first step or query that LIST does
+                             not have there: the one of LIST, and the one in
+                             FILE. 'the end of the list' takes the place of a
+                             missing one
 
 With --all, every difference is printed. After each, the steps continue from the
-state of this kernel.
+state of this kernel, and the next step or query is compared with the next one
+of LIST. FILE is always read to its end.
 
-Exit status: 0 if the list agrees, 1 if it differs, 2 if the command line or the
-list is invalid or FILE cannot be opened, 3 if a read or a write failed, 4 if
-there is not enough memory.";
+Exit status: 0 if the list agrees, 1 if it differs, 2 if the command line or a
+list is invalid or a file cannot be opened, 3 if a read or a write failed, 4 if
+there is not enough memory, 5 if nothing differs, but no answer was compared.";
 
 /// The help of `l4 why`.
 pub const WHY: &str = "\

@@ -127,7 +127,7 @@ asks_in_range : (name : Text) (found : List Row) (o : Options) → Asks name fou
 asks_in_range name found (Run script strict explain number moves history_to) asks = frames_fit found script.frames asks.1.frames
 asks_in_range name found (History script strict answers) asks = frames_fit found script.frames asks.1.frames
 asks_in_range name found (Segments files answers) asks = tt
-asks_in_range name found (Judge list all) asks = frames_fit found list.frames asks.1.frames
+asks_in_range name found (Judge asked) asks = frames_fit found asked.list.frames asks.1.frames
 asks_in_range name found (Why script strict thread page) asks = frames_fit found script.frames asks.1.frames
 asks_in_range name found (WhySegments files thread page) asks = tt
 asks_in_range name found (Plan region size) asks = tt
@@ -142,7 +142,7 @@ text_in_range : (o : Options) → IsText o → IsInRange o
 text_in_range (Run script strict explain number moves history_to) text = absurd text
 text_in_range (History script strict answers) text = absurd text
 text_in_range (Segments files answers) text = absurd text
-text_in_range (Judge list all) text = absurd text
+text_in_range (Judge asked) text = absurd text
 text_in_range (Why script strict thread page) text = absurd text
 text_in_range (WhySegments files thread page) text = tt
 text_in_range (Plan region size) text = tt

@@ -59,7 +59,7 @@ history_command = command (codes "history") (
     script_rules (switch (codes "strict") ∷ switch (codes "answers") ∷ option_words (codes "from") ∷ []))
 
 abbrev pub judge_command : Shape
-judge_command = command (codes "judge") (script_rules (switch (codes "all") ∷ []))
+judge_command = command (codes "judge") (script_rules (option (codes "against") ∷ switch (codes "partial") ∷ switch (codes "all") ∷ []))
 
 abbrev pub why_command : Shape
 why_command = command (codes "why") (needed_word (codes "thread") ∷ needed_word (codes "page") ∷ script_rules (switch (codes "strict") ∷ option_words (codes "from") ∷ []))
@@ -120,7 +120,9 @@ Asks name found (History script strict answers) =
     × (all_of (codes "from") found ≡ None)
 Asks name found (Segments files answers) =
     (name ≡ codes "history") × (Some (map string_bytes files.items) ≡ all_of (codes "from") found) × (answers ≡ is_on found (codes "answers")) × HasNoScript found
-Asks name found (Judge list all) = (name ≡ codes "judge") × IsScriptIn found list × (all ≡ is_on found (codes "all"))
+Asks name found (Judge asked) =
+    (name ≡ codes "judge") × IsScriptIn found asked.list × (option_map string_bytes asked.against ≡ first_of (codes "against") found)
+    × (asked.partial ≡ is_on found (codes "partial")) × (asked.all ≡ is_on found (codes "all"))
 Asks name found (Why script strict thread page) =
     (name ≡ codes "why") × IsScriptIn found script × (strict ≡ is_on found (codes "strict"))
     × IsDecimalAt found (codes "thread") thread × IsDecimalAt found (codes "page") page

@@ -15,7 +15,7 @@ abbrev pub IsInRange : Options → Type 0
 IsInRange (Run script strict explain number moves history_to) = IsFrameCount script.frames
 IsInRange (History script strict answers) = IsFrameCount script.frames
 IsInRange (Segments files answers) = Unit {0}
-IsInRange (Judge list all) = IsFrameCount list.frames
+IsInRange (Judge asked) = IsFrameCount asked.list.frames
 IsInRange (Why script strict thread page) = IsFrameCount script.frames
 IsInRange (WhySegments files thread page) = Unit {0}
 IsInRange (Plan region size) = Unit {0}

@@ -10,13 +10,13 @@ ghost use Rattle.l4_options.specs.Ranges.{IsInRange};
 use crate::encoding::{encode_options, of_tokens};
 use crate::histories::{from_option, history_options, of_history, segment_files};
 use crate::ordering::{of_orders, orders_options};
-use crate::requests::{OptionFault, Options};
+use crate::requests::{JudgeOptions, OptionFault, Options};
 use crate::testing::{of_files, test_options};
 use crate::values::{
-    all_option, explain_option, file_argument, frames_option, help_text, history_option, is_on,
-    is_strict, is_word, moves_option, name_of, number_of, number_option, reading_of,
-    reading_option, region_of, script_of, size_of, size_option, strict_option, texts_of,
-    without_hyphens, words_argument, words_of,
+    against_option, all_option, explain_option, file_argument, frames_option, help_text,
+    history_option, is_on, is_strict, is_word, moves_option, name_of, number_of, number_option,
+    partial_option, reading_of, reading_option, region_of, script_of, size_of, size_option,
+    strict_option, texts_of, without_hyphens, words_argument, words_of,
 };
 use clap::error::ErrorKind;
 use clap::{Arg, ArgAction, ArgMatches, Command, Error};
@@ -94,6 +94,8 @@ fn of_list<'a>(alloc: Global) -> Result<Command<'a>, AllocError>
         ))?
         .arg(frames_option(alloc))?
         .arg(size_option(alloc))?
+        .arg(against_option(alloc))?
+        .arg(partial_option(alloc))?
         .arg(all_option(alloc))
 }
 
@@ -252,11 +254,14 @@ fn run_options(alloc: Global, matches: &ArgMatches<'_>) -> Result<Options, Optio
 fn judge_options(alloc: Global, matches: &ArgMatches<'_>) -> Result<Options, OptionFault>
     ensures { IfOk result (Asks (codes "judge") (found_in matches.now)) }
 {
-    match script_of(alloc, matches) {
-        Ok(list) => Ok(Options::Judge {
+    let list = script_of(alloc, matches)?;
+    match name_of(alloc, matches, "against") {
+        Ok(against) => Ok(Options::Judge(JudgeOptions {
             list,
+            against,
+            partial: is_on(matches, "partial"),
             all: is_on(matches, "all"),
-        }),
+        })),
         Err(fault) => Err(fault),
     }
 }
@@ -388,7 +393,7 @@ fn requested<'a, S: AsStr>(alloc: Global, words: &'a [S]) -> Result<Options, Opt
 
 /// Reads the words of the command line, the program's name first:
 /// `l4 run [FILE] [--frames N] [--strict] [--explain] [--number] [--moves] [--history-to SEGMENTS]`, `l4 history [FILE] [--frames N] [--strict] [--answers]`, `l4 history --from SEGMENTS.. [--answers]`,
-/// `l4 judge [FILE] [--frames N] [--all]`, `l4 why THREAD PAGE [FILE] [--frames N] [--strict]`, `l4 why THREAD PAGE --from SEGMENTS..`, `l4 plan SOURCE TARGET COUNT RIGHTS`, `l4 check` with the same words, `l4 decode [--as READING] WORD..`, `l4 encode [--as KIND] TOKEN..`, `l4 test FILE.. [--tap] [--write]`, `l4 orders [FILE] [--frames N] [--most N] [--witness K] [--outcomes] [--dot]`, each with
+/// `l4 judge [FILE] [--frames N] [--against LIST] [--partial] [--all]`, `l4 why THREAD PAGE [FILE] [--frames N] [--strict]`, `l4 why THREAD PAGE --from SEGMENTS..`, `l4 plan SOURCE TARGET COUNT RIGHTS`, `l4 check` with the same words, `l4 decode [--as READING] WORD..`, `l4 encode [--as KIND] TOKEN..`, `l4 test FILE.. [--tap] [--write]`, `l4 orders [FILE] [--frames N] [--most N] [--witness K] [--outcomes] [--dot]`, each with
 /// `--page-size BYTES` where that is wanted, `--help`, `help` or `--version`. N is 256 and BYTES 4096 where they are left out; READING is
 /// message, fpage, window or id.
 ///

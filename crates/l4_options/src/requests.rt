@@ -15,6 +15,16 @@ pub struct ScriptOptions {
     pub file: Option<String>,
 }
 
+/// A step list with another kernel's answers. It must have the steps and queries of the list in the file `against`, if one is named, and this
+/// kernel's answer to each; if `partial`, they may be without answers. If `all`, every difference is reported.
+#[derive(Debug, Drop)]
+pub struct JudgeOptions {
+    pub list: ScriptOptions,
+    pub against: Option<String>,
+    pub partial: bool,
+    pub all: bool,
+}
+
 /// What the command line of `l4` requests.
 #[derive(Debug, Drop)]
 pub enum Options {
@@ -40,11 +50,8 @@ pub enum Options {
         files: Vec<String>,
         answers: bool,
     },
-    /// Judges a step list with another kernel's answers: up to its first difference, or to its end if `all`.
-    Judge {
-        list: ScriptOptions,
-        all: bool,
-    },
+    /// Judges a step list with another kernel's answers.
+    Judge(JudgeOptions),
     /// Prints how a page got into the space of a thread, by a script. If `strict`, the script must have no refused line.
     Why {
         script: ScriptOptions,

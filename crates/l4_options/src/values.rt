@@ -118,6 +118,27 @@ pub(crate) fn answers_option<'a>(alloc: Global) -> Arg<'a>
         .action(ArgAction::SetTrue)
 }
 
+/// The option `--against`.
+pub(crate) fn against_option<'a>(alloc: Global) -> Arg<'a>
+    ensures { IsRule (option (codes "against")) result }
+{
+    Arg::new(alloc, "against")
+        .long("against")
+        .value_name("LIST")
+        .help("The steps and queries that the list must have, each with its answers")
+        .action(ArgAction::Set)
+}
+
+/// The option `--partial`.
+pub(crate) fn partial_option<'a>(alloc: Global) -> Arg<'a>
+    ensures { IsRule (switch (codes "partial")) result }
+{
+    Arg::new(alloc, "partial")
+        .long("partial")
+        .help("Accept steps and queries without answers")
+        .action(ArgAction::SetTrue)
+}
+
 /// The option `--all`.
 pub(crate) fn all_option<'a>(alloc: Global) -> Arg<'a>
     ensures { IsRule (switch (codes "all")) result }

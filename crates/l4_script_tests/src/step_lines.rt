@@ -1,6 +1,7 @@
 //! Step lists that end early, and lists that another kernel answered.
 use l4_fpage::PageSize;
-use l4_step_lines::{Fault, judge, run};
+use l4_judging::{Wanted, judge, read_requests};
+use l4_step_lines::{Fault, run};
 use l4_text::{Drip, RunFault};
 use std::test::Fail;
 
@@ -46,16 +47,35 @@ fn judges_to_the_first_difference_or_to_the_end(rt: HostRuntime) -> Result<(), F
     for (all, told) in [(false, DIFFERENCES[0]), (true, DIFFERENCES[1])] {
         let mut reader = JUDGED;
         let mut written = Vec::new(rt.alloc());
+        let wanted = Wanted {
+            requests: None,
+            partial: false,
+            all,
+        };
         let judged = judge(
             rt.alloc(),
             4,
             PageSize::Kib4,
-            all,
+            wanted,
             &mut reader,
             &mut written,
         );
         assert!(rt; matches!(judged, Ok(false)), "all: {all}");
         assert!(rt; written.as_slice() == told, "all: {all}");
+        assert!(rt; reader.is_empty(), "all: {all}");
     }
+    Ok(())
+}
+
+/// The list without its answers, with comments and an empty line.
+const REQUESTS: &[u8] = b"## four queries\nspace 1\n# space 7\nenabled\n\nspace 2\nspace 9\n";
+
+#[test]
+fn the_requests_of_a_list_are_its_lines_without_comments(rt: HostRuntime) -> Result<(), Fail> {
+    let mut reader = REQUESTS;
+    let Ok(requests) = read_requests(rt.alloc(), &mut reader) else {
+        return Err(Fail::new("the requests cannot be read"));
+    };
+    assert!(rt; requests.first() == b"space 1");
     Ok(())
 }

@@ -1,12 +1,12 @@
 -- The lines of a list, answered one by one.
 use Rattle.std.proofs.Common.{◌≡◌, ℕ, ◌+◌, ◌<◌, ◌≤◌, Bool, true, false, cond, nat_lt, List, [], ◌∷◌, ◌++◌, length, take, Option, Some, None, option_map, ok_or, Result, Ok, Err, sym, ap, subst, ◌∙◌, refl, arith}
-use Rattle.std.specs.Io.KnownBytes.{Consumes, Appends}
+use Rattle.std.specs.Io.KnownBytes.{Consumes, IsAtEnd, Appends}
 use Rattle.std.proofs.lemmas.List.{append-nil, take_all}
 use Rattle.std.proofs.lemmas.Bool.Decides.{nat_tests}
 use mathlib.Core.List.{append_assoc}
 use Rattle.l4_fpage.specs.declared.sizes.PageSize.{PageSize}
 use Rattle.l4_ipc.specs.Machine.{Machine, IsBoot}
-use Rattle.l4_text.specs.Grammar.{TextLine, lines_of, is_silent}
+use Rattle.l4_text.specs.Grammar.{TextLine, lines_of, ending_of, is_silent}
 use Rattle.l4_text.specs.Lines.{kept_of, TakesLine, GivesLine}
 use Rattle.l4_text.specs.Streams.{WentOut, HasTold, Tells}
 use Rattle.l4_text.specs.Tokens.{tokens_of}
@@ -16,7 +16,7 @@ use Rattle.l4_text.specs.declared.faults.RunFault.{RunFault}
 use Rattle.l4_text.specs.declared.faults.RunFault.TheVariants.{Read, Write, Memory}
 use Rattle.l4_text.proofs.Grammar.{cut_line, none_whole}
 use Rattle.l4_text.proofs.Telling.{nothing_told, tells_none, tells_more, tells_is}
-use Rattle.l4_answers.proofs.Taking.{Taken, taken_none, taken_more, taken_parts, taken_with, rest_is, line_of_more, nothing_kept, something_kept}
+use Rattle.l4_answers.proofs.Taking.{Taken, taken_none, taken_more, taken_parts, taken_with, rest_is, line_of_more, ending_whole, ending_long, nothing_kept, something_kept}
 use Rattle.l4_step_lines.specs.declared.requests.Request.{Request}
 use Rattle.l4_step_lines.specs.declared.running.Fault.{Fault}
 use Rattle.l4_step_lines.specs.declared.running.Fault.TheVariants.{Stopped, Cut, Long, Unread}
@@ -183,7 +183,7 @@ names_at number Whole bytes =
 
 -- a line ends the list
 ends_list : (fault : Fault) (m last : Machine) (old new written out : Option (List ℕ)) (before after : List ℕ × Bool) → Names (Err fault)
-    → (t : TellsFirst m last old new written out before after) → EndsWith (1 + length t.lines) t.later fault → TellsList m last old new written out before after (Err fault)
+    → (t : TellsFirst m last old new written out before after) → EndsWith (1 + length t.lines) t.later new fault → TellsList m last old new written out before after (Err fault)
 ends_list (Stopped r) m last old new written out before after named t ends = absurd named
 ends_list (Cut n) m last old new written out before after named t ends = (t, ends)
 ends_list (Long n) m last old new written out before after named t ends = (t, ends)
@@ -192,6 +192,15 @@ ends_list (Unread n reason) m last old new written out before after named t ends
 -- the line that is last in what was read ends the list, as it asks for this
 ended_at : (ending : Ending) (number : ℕ) (bytes : List ℕ) (fault : Fault) → asked_at number ending bytes ≡ Err fault → Names (Err fault)
 ended_at ending number bytes fault is = subst (λ (q : Result (Option Request) Fault). Names q) is (names_at number ending bytes)
+
+-- a line of another ending is not cut
+abbrev pub IsNoCut : Ending → Type 0
+IsNoCut Whole = Unit {0}
+IsNoCut TooLong = Unit {0}
+IsNoCut IsCut = ⊥
+
+pub not_cut : (A : Type 0) (ending other : Ending) → IsNoCut other → ending ≡ other → ending ≡ IsCut → A
+not_cut A ending other whole is cut = absurd (subst IsNoCut (sym is ∙ cut) whole)
 
 pub answered_stop : (ending : Ending) (m last next : Machine) (old mid new : Option (List ℕ)) (now after : List ℕ × ℕ) (kept : List ℕ × Bool) (number : ℕ) (written out out' : Option (List ℕ))
     (before s t : List ℕ × Bool) (r : Option Ending) (bytes : List ℕ) (fault : Fault) → Answered m old mid now number last written out before s → GivesLine mid new now after kept (Ok r) → r ≡ Some ending → bytes ≡ kept.0
@@ -206,7 +215,7 @@ answered_stop Whole m last next old mid new now after kept number written out ou
     subst (λ (x : Machine). TellsList m x old new written out' before t (Err fault)) (sym told.1)
     (ends_list fault m last old new written out' before t (ended_at Whole number bytes fault told.0)
     (first_with m last old mid new now after number written out' before t l.takes.read ((l.bytes ++ 10 ∷ []) ++ after.0) (line ∷ lines_of after.0) b l.takes.from l.takes.same (line_of_more mid new now after kept l))
-    (ap (λ n. asked_of n line) (sym a.taken.number_is) ∙ sym (asked_whole number l.bytes kept l.kept_is g.1) ∙ ap (asked_at number Whole) (sym same) ∙ told.0))
+    (ap (λ n. asked_of n line) (sym a.taken.number_is) ∙ sym (asked_whole number l.bytes kept l.kept_is g.1) ∙ ap (asked_at number Whole) (sym same) ∙ told.0, not_cut (IsAtEnd new) (ending_of line) Whole tt (ending_whole l.bytes kept l.kept_is g.1).0))
 answered_stop TooLong m last next old mid new now after kept number written out out' before s t r bytes fault a gives is same told =
     let g = subst (λ (o : Option Ending). GivesLine mid new now after kept (Ok o)) is gives in
     let l = g.0 in
@@ -215,7 +224,7 @@ answered_stop TooLong m last next old mid new now after kept number written out 
     subst (λ (x : Machine). TellsList m x old new written out' before t (Err fault)) (sym told.1)
     (ends_list fault m last old new written out' before t (ended_at TooLong number bytes fault told.0)
     (first_with m last old mid new now after number written out' before t l.takes.read ((l.bytes ++ 10 ∷ []) ++ after.0) (line ∷ lines_of after.0) b l.takes.from l.takes.same (line_of_more mid new now after kept l))
-    (ap (λ n. asked_of n line) (sym a.taken.number_is) ∙ sym (asked_long number l.bytes kept l.kept_is g.1) ∙ told.0))
+    (ap (λ n. asked_of n line) (sym a.taken.number_is) ∙ sym (asked_long number l.bytes kept l.kept_is g.1) ∙ told.0, not_cut (IsAtEnd new) (ending_of line) TooLong tt (ending_long l.bytes kept l.kept_is g.1)))
 answered_stop IsCut m last next old mid new now after kept number written out out' before s t r bytes fault a gives is same told =
     let g = subst (λ (o : Option Ending). GivesLine mid new now after kept (Ok o)) is gives in
     let l = g.0 in
@@ -225,7 +234,7 @@ answered_stop IsCut m last next old mid new now after kept number written out ou
     subst (λ (x : Machine). TellsList m x old new written out' before t (Err fault)) (sym told.1)
     (ends_list fault m last old new written out' before t (ended_at IsCut number bytes fault told.0)
     (first_with m last old mid new now after number written out' before t l.takes.read l.bytes (line ∷ []) b l.takes.from (rest_is mid new now after kept l) (cut_line l.bytes l.plain (something_kept l.bytes some)))
-    (ap (λ n. asked_of n line) (sym a.taken.number_is) ∙ told.0))
+    (ap (λ n. asked_of n line) (sym a.taken.number_is) ∙ told.0, λ _. g.1))
 
 -- THE RUN
 

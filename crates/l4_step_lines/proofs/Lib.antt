@@ -1,9 +1,7 @@
 mod Asking
-mod Going
-mod JudgedLines
+pub mod Going
 mod LineNumbers
 mod Listing
 mod Pieces
 mod ReadBack
 mod Stopping
-mod WatchedLines

@@ -1,9 +1,7 @@
 pub mod Answers
 pub mod Inside
-pub mod Judging
 pub mod Lists
 pub mod ReadBack
 pub mod Requests
 pub mod Steps
 pub mod Stops
-pub mod Watching

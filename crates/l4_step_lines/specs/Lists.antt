@@ -95,10 +95,10 @@ pub record Reads (frames : ℕ) (size : PageSize) (old new : Option (List ℕ)) 
   pub parts : lines_of read ≡ lines ++ later
   pub is_text : IsListText frames size lines text
 
--- the first of these lines, which has this number, ends the list with this fault
-abbrev pub EndsWith : ℕ → List TextLine → Fault → Type 0
-EndsWith number [] fault = ⊥
-EndsWith number (line ∷ lines) fault = asked_of number line ≡ Err fault
+-- the first of these lines, which has this number, ends the list with this fault; if it is cut, the input ends with it
+abbrev pub EndsWith : ℕ → List TextLine → Option (List ℕ) → Fault → Type 0
+EndsWith number [] new fault = ⊥
+EndsWith number (line ∷ lines) new fault = (asked_of number line ≡ Err fault) × (ending_of line ≡ IsCut → IsAtEnd new)
 
 -- What a run leaves unanswered of what it read, and what went out of the text of the answers: all of it, but where a write failed. Want of
 -- memory comes before all else.
@@ -110,4 +110,4 @@ Runs frames size old new written now (Err (Stopped Write)) =
     (later : List TextLine) × (text : List ℕ) × Reads frames size old new later text × WentOut written now text
 Runs frames size old new written now (Err (Stopped Memory)) = (new ≡ old) × (now ≡ written)
 Runs frames size old new written now (Err fault) =
-    (later : List TextLine) × (text : List ℕ) × (r : Reads frames size old new later text) × EndsWith (1 + length r.lines) later fault × Appends written now text
+    (later : List TextLine) × (text : List ℕ) × (r : Reads frames size old new later text) × EndsWith (1 + length r.lines) later new fault × Appends written now text

@@ -179,7 +179,7 @@ pub(crate) fn enabled_text(step: Option<&Step>) -> Text
 }
 
 /// ` (enabled transfer S R)`, ` (enabled expire N)` or ` (enabled none)`
-pub(crate) fn next_text(step: Option<&Step>) -> Text
+pub fn next_text(step: Option<&Step>) -> Text
     ensures { result ≡ codes " (enabled " ++ next_name (option_copied step.entry) ++ codes ")" }
 {
     let mut text = Text::new();

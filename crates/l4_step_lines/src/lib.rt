@@ -3,19 +3,17 @@
 
 mod answers;
 mod asked;
-mod expected;
-mod judging;
 mod laws;
 mod numbers;
 mod requests;
 mod running;
 mod session;
 mod stops;
-mod watching;
 
+pub use answers::next_text;
 pub use asked::put_step;
-pub use judging::{JudgeFault, judge};
 pub use laws::the_line_of_a_step_reads_back;
+pub use requests::{Request, read_request};
 pub use running::{Fault, run};
-pub use session::put_answer;
-pub use watching::{Difference, Judgement, Unjudged, judge_step};
+pub use session::{answer, is_silent, put_answer};
+pub use stops::unread_reason;

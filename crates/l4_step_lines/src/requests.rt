@@ -12,7 +12,7 @@ use l4_threads::ThreadId;
 
 /// A step of the kernel, or a query about its state.
 #[derive(Drop)]
-pub(crate) enum Request {
+pub enum Request {
     /// Executes this step.
     Do(Step),
     /// Which step is enabled.
@@ -225,7 +225,7 @@ fn named(name: &[u8], numbers: &[u32]) -> Option<Request>
 }
 
 /// What a line requests. None if it cannot be read.
-pub(crate) fn read_request(line: &[u8]) -> Option<Request>
+pub fn read_request(line: &[u8]) -> Option<Request>
     ensures { result ≡ request_of (tokens_of line.now) }
 {
     let (name, rest) = next_token(line)?;

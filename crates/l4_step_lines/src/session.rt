@@ -127,12 +127,7 @@ fn tell_reply<W: Write>(reply: Option<&Reply>, out: &mut Output, writer: &mut W)
 }
 
 /// Executes a request, and writes its answer.
-pub(crate) fn answer<W: Write>(
-    kernel: &mut Kernel,
-    request: Request,
-    out: &mut Output,
-    writer: &mut W,
-)
+pub fn answer<W: Write>(kernel: &mut Kernel, request: Request, out: &mut Output, writer: &mut W)
     ensures { (text : List ℕ) × Answers kernel.old request text kernel.new
         × Tells (W.contents writer.old) (W.contents writer.new) out.old out.new text }
 {
@@ -153,7 +148,7 @@ fn is_comment(line: &[u8]) -> bool
 }
 
 /// Whether a line is a comment, or has no token.
-pub(crate) fn is_silent(line: &[u8]) -> bool
+pub fn is_silent(line: &[u8]) -> bool
     ensures { result ≡ is_silent line.now }
 {
     is_comment(line) || next_token(line).is_none()

@@ -327,7 +327,7 @@ fn stop_reason(line: u64, stop: Stop<'_>) -> Reason
 #[tactic(auto, unfolding(crate::specs::Stops::unread_says))]
 #[cold]
 #[inline(never)]
-pub(crate) fn unread_reason(line: u64, text: &[u8]) -> Reason
+pub fn unread_reason(line: u64, text: &[u8]) -> Reason
     ensures { result ≡ unread_says line (tokens_of text.now) }
 {
     match stop_of(text) {

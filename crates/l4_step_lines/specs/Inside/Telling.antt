@@ -42,4 +42,4 @@ TellsList m last old new written now before after (Ok u) = (t : TellsFirst m las
 TellsList m last old new written now before after (Err (Stopped Read)) = (t : TellsFirst m last old new written now before after) × (filter (λ line. line.whole) t.later ≡ [])
 TellsList m last old new written now before after (Err (Stopped Write)) = TellsFirst m last old new written now before after
 TellsList m last old new written now before after (Err (Stopped Memory)) = ⊥
-TellsList m last old new written now before after (Err fault) = (t : TellsFirst m last old new written now before after) × EndsWith (1 + length t.lines) t.later fault
+TellsList m last old new written now before after (Err fault) = (t : TellsFirst m last old new written now before after) × EndsWith (1 + length t.lines) t.later new fault

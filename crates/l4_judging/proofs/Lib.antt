@@ -1,0 +1,5 @@
+mod Agreement
+mod JudgedLines
+mod RequestLines
+mod Skipping
+mod WatchedLines

@@ -1,0 +1,5 @@
+pub mod Agreeing
+pub mod Inside
+pub mod Judging
+pub mod Requests
+pub mod Watching

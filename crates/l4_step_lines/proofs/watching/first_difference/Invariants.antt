@@ -1,8 +1,0 @@
-use Rattle.std.proofs.Common.{◌≡◌, ◌+◌, ◌≤◌, length}
-use Rattle.l4_step_lines.specs.Watching.{said_lines, differs_from, difference_at}
-use Rattle.l4_step_lines.proofs.watching.first_difference.Given as goal
-
-abbrev pub invariant-loop-place : goal.invariant-loop-place
-invariant-loop-place l =
-    (l.place + length l.rest ≤ length l.answer)
-    × (difference_at l.initial.due (said_lines l.answer) ≡ differs_from l.place l.due (said_lines l.rest))
