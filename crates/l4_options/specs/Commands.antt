@@ -33,7 +33,7 @@ option id = record (word id) { long = Some id }
 
 -- an option with one or more words, --ID WORD..
 abbrev pub option_words : Text → Rule
-option_words id = record (new_rule id) { long = Some id; action = Some Append; value_names = 1; range = Some (record { start_inclusive = 1; end_inclusive = usize_max }) }
+option_words id = record (new_rule id) { long = Some id; action = Some Set; value_names = 1; range = Some (record { start_inclusive = 1; end_inclusive = usize_max }) }
 
 -- a switch, --ID
 abbrev pub switch : Text → Rule

@@ -22,7 +22,7 @@ fn kind_option<'a>(alloc: Global) -> Arg<'a>
     Arg::new(alloc, "as")
         .long("as")
         .value_name("KIND")
-        .help("What the tokens are: message, or words of their own: fpage, window or timeouts")
+        .help("What the tokens are: message, fpage, window or timeouts")
         .action(ArgAction::Set)
 }
 

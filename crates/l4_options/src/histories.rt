@@ -24,7 +24,7 @@ pub(crate) fn from_option<'a>(alloc: Global, help: &'a str) -> Arg<'a>
         .value_name("SEGMENTS")
         .help(help)
         .num_args(1..)
-        .action(ArgAction::Append)
+        .action(ArgAction::Set)
 }
 
 /// The command `history`.
