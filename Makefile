@@ -19,7 +19,7 @@
 #                       make install-library installs the C library alone (LIBDIR=FOLDER: in another folder than PREFIX/lib), and
 #                       make install-bed the bed alone
 #   make uninstall      removes what make install has installed under PREFIX
-#   make test-programs  proves and builds what only tests run: l4_judge, l4_resumed, l4_growths, and l4 and l4_steps as Rattle's own compiler
+#   make test-programs  proves and builds what only tests run: l4_checker, l4_resumed, l4_growths, and l4 and l4_steps as Rattle's own compiler
 #                       builds them
 #   make test           the merge gate: everything from nothing, and then all tests on the programs that this leaves
 #   make tidy           removes what the proofs left and keeps what is built; the next change is then proved from nothing
@@ -156,7 +156,7 @@ help:
 
 # `rt run --backend rattle` overwrites the build by LLVM, which is restored afterwards.
 test-programs: programs
-	cd crates/l4_judge && rt run < stdin
+	cd crates/l4_checker && rt run < stdin
 	cd crates/l4_resumed && rt run < stdin
 	cd crates/l4_growths && rt run < /dev/null > /dev/null
 	for name in l4 l4_steps; do \

@@ -20,7 +20,7 @@ TOP = pathlib.Path(__file__).resolve().parents[1]
 PROGRAMS = {
     "l4": ("L4", "make", "make try"),
     "l4_steps": ("L4_STEPS", "make", "make try"),
-    "l4_judge": ("L4_JUDGE", "make test-programs", None),
+    "l4_checker": ("L4_CHECKER", "make test-programs", None),
     "l4_growths": ("L4_GROWTHS", "make test-programs", None),
     "l4_resumed": ("L4_RESUMED", "make test-programs", None),
 }
@@ -32,7 +32,7 @@ FILES = {
     "l4_steps as Rattle's own compiler builds it": (("crates/l4_steps/out/l4_steps.by-rattle", "make test-programs"), None),
 }
 ENVIRONMENT = """environment: The proved programs are tested if they are there, and otherwise those of `make try`. UNPROVED=yes tests only what was built
-without proofs, and UNPROVED=no only what was proved. L4, L4_STEPS, L4_JUDGE, L4_GROWTHS and L4_RESUMED name other programs"""
+without proofs, and UNPROVED=no only what was proved. L4, L4_STEPS, L4_CHECKER, L4_GROWTHS and L4_RESUMED name other programs"""
 SECONDS = 600
 MOST_LINES, MOST_BYTES = 12, 2000
 

@@ -31,7 +31,7 @@ struct Ended<'a> {
     kernel: &'a Kernel,
 }
 
-/// The number of judged pages, the number of links, and the number of pages for which the checker disagrees with the finder.
+/// The number of checked pages, the number of links, and the number of pages for which the checker disagrees with the finder.
 #[derive(Clone, Copy)]
 struct Counts {
     pages: u64,
@@ -41,7 +41,7 @@ struct Counts {
 
 /// Returns the number of links that the finder returns for a page, if the checker agrees: they are the provenance of a present page, or no
 /// list is that of an absent page. Otherwise returns None.
-fn judged(alloc: Global, ended: &Ended<'_>, place: Place) -> Option<usize> {
+fn checked(alloc: Global, ended: &Ended<'_>, place: Place) -> Option<usize> {
     let is_there = ended.kernel.mapping(place.space, place.page).is_some();
     let found = provenance(alloc, ended.frames, ended.size, ended.history, place);
     let Ok(found) = found else {
@@ -60,44 +60,44 @@ fn judged(alloc: Global, ended: &Ended<'_>, place: Place) -> Option<usize> {
 }
 
 /// Judges a page.
-fn judge(alloc: Global, ended: &Ended<'_>, place: Place, counts: &mut Counts) {
+fn check(alloc: Global, ended: &Ended<'_>, place: Place, counts: &mut Counts) {
     counts.pages = counts.pages.saturating_add(1);
-    match judged(alloc, ended, place) {
+    match checked(alloc, ended, place) {
         Some(links) => counts.links = counts.links.saturating_add(links as u64),
         None => counts.wrong = counts.wrong.saturating_add(1),
     }
 }
 
 /// Judges the pages of a space.
-fn judge_space(alloc: Global, ended: &Ended<'_>, space: u64, counts: &mut Counts) {
+fn check_space(alloc: Global, ended: &Ended<'_>, space: u64, counts: &mut Counts) {
     let mut from = 0u32;
     for _turn in 0..MOST_PAGES {
         let Some(page) = ended.kernel.next_page(space, from) else {
             break;
         };
-        judge(alloc, ended, Place { space, page }, counts);
+        check(alloc, ended, Place { space, page }, counts);
         from = page.saturating_add(1);
         if ended.kernel.mapping(space, from).is_none() {
-            judge(alloc, ended, Place { space, page: from }, counts);
+            check(alloc, ended, Place { space, page: from }, counts);
         }
     }
 }
 
 /// Judges the pages of all spaces but sigma0's. A history makes no more spaces than it has entries.
-fn judge_all(alloc: Global, ended: &Ended<'_>) -> Counts {
+fn check_all(alloc: Global, ended: &Ended<'_>) -> Counts {
     let mut counts = Counts {
         pages: 0,
         links: 0,
         wrong: 0,
     };
     for space in 1..(ended.history.len() as u64).saturating_add(2) {
-        judge_space(alloc, ended, space, &mut counts);
+        check_space(alloc, ended, space, &mut counts);
     }
     counts
 }
 
 /// Judges the script on standard input.
-fn judge_script<R: AllocGlobal + Input + Print + Eprint>(rt: &R, frames: u32, size: PageSize) -> u8
+fn check_script<R: AllocGlobal + Input + Print + Eprint>(rt: &R, frames: u32, size: PageSize) -> u8
     requires some { 1 ≤ frames }
     requires fit { frames ≤ max_frames }
 {
@@ -116,7 +116,7 @@ fn judge_script<R: AllocGlobal + Input + Print + Eprint>(rt: &R, frames: u32, si
         history: &history,
         kernel: &kernel,
     };
-    let counts = judge_all(rt.alloc(), &ended);
+    let counts = check_all(rt.alloc(), &ended);
     let told = println!(rt;
         "{} pages, {} links, {} wrong",
         counts.pages, counts.links, counts.wrong
@@ -130,7 +130,7 @@ fn judge_script<R: AllocGlobal + Input + Print + Eprint>(rt: &R, frames: u32, si
 /// Executes the command that these words request.
 fn obey<R: AllocGlobal + Input + Print + Eprint>(rt: &R, words: &[String]) -> u8 {
     match step_options(rt.alloc(), words) {
-        Ok(StepOptions::Run { frames, size }) => judge_script(rt, frames, size),
+        Ok(StepOptions::Run { frames, size }) => check_script(rt, frames, size),
         Ok(StepOptions::Show(text)) => show(rt, text.as_str()),
         Err(fault) => misread(rt, &fault),
     }
