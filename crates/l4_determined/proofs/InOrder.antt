@@ -18,7 +18,7 @@ use Rattle.l4_threads.specs.declared.Thread.{Thread}
 use Rattle.l4_threads.specs.declared.ThreadId.{ThreadId}
 use Rattle.l4_threads.specs.Control.{created, with_pager, freed, without_partner, waits_for, Deletes}
 use Rattle.l4_threads.specs.Queue.{is_in}
-use Rattle.l4_threads.specs.Threads.{Threads, pair_cmp, thread_at, sends, senders, is_sending, is_running, Before, with_state, out_of_queue, start_send, start_receive, end_call, number_of, first_threads, named}
+use Rattle.l4_threads.specs.Threads.{Threads, IsConsistent, pair_cmp, thread_at, sends, senders, is_sending, is_running, Before, with_state, out_of_queue, start_send, start_receive, end_call, number_of, first_threads, named}
 use Rattle.l4_threads.proofs.QueuePairs.{pairs_total, exact_number_pairs}
 use Rattle.l4_threads.proofs.ViewLemmas.{is_in-senders, tied_pair}
 use Rattle.l4_ipc.proofs.Threads.{state_at, state_other}
@@ -403,3 +403,11 @@ step_in_order old (Transfer s r) (Ok answer) new x so =
 step_in_order old (Transfer s r) (Err e) new x so = subst (λ (m : Machine). IsInOrder m.threads) (sym x.2) so
 step_in_order old (Expire n) (Ok answer) new x so = subst (λ (m : Machine). IsInOrder m.threads) (sym x.3) (ends_in_order old.threads n (expiry x.0.state) so)
 step_in_order old (Expire n) (Err e) new x so = subst (λ (m : Machine). IsInOrder m.threads) (sym x.2) so
+
+-- the queue of a kernel's threads is in order
+pub consistent_in_order : (t : Threads) → IsConsistent t → IsInOrder t
+consistent_in_order t c = record {
+  only = c.senders_only;
+  apart = λ a b x y. c.irreflexive a (c.transitive a b a x y);
+  total = c.total;
+}

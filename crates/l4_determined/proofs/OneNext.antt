@@ -15,9 +15,9 @@ use Rattle.l4_ipc.specs.Following.{Done, AreNext}
 use Rattle.l4_ipc.specs.Machine.{Machine}
 use Rattle.l4_ipc.specs.Steps.{Steps, IsNext, IsIdle}
 use Rattle.l4_ipc.proofs.OneState.{one_step}
-use Rattle.l4_record.specs.Replays.{RanOut}
 use Rattle.l4_record.proofs.OneAnswer.{one_answer}
 use Rattle.l4_determined.specs.Inside.InOrder.{IsInOrder}
+use Rattle.l4_determined.specs.Memory.{NoneRanOut}
 use Rattle.l4_determined.proofs.InOrder.{step_in_order}
 
 same_or : (a b : ℕ) → (a ≡ b) ⊎ (a ≢ b)
@@ -80,11 +80,6 @@ pub idle_ends : (m : Machine) (s : Step) → IsIdle m → ¬ (IsNext m s)
 idle_ends m (Start n call) idle x = x
 idle_ends m (Transfer a b) idle x = idle.no_transfer a b x.first_sender
 idle_ends m (Expire n) idle x = idle.no_expiry n x.1.can_expire
-
--- memory did not run out in any of these steps
-abbrev pub NoneRanOut : List Done → Type 0
-NoneRanOut [] = Unit {0}
-NoneRanOut (done ∷ steps) = ¬ (RanOut (Ok done.answer)) × NoneRanOut steps
 
 same_ok : (a b : Answer) → ◌≡◌ {A = Result Answer Refused} (Ok a) (Ok b) → a ≡ b
 same_ok a b e = cc

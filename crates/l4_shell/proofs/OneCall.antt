@@ -20,7 +20,8 @@ use Rattle.l4_shell.specs.Refusals.{call_refusal}
 use Rattle.l4_shell.specs.Sessions.{Session, kept_in, done_reports, steps_in, Act, IsEntered, after_act, AreActs, most_acts, StopsActing, Follows}
 use Rattle.l4_determined.specs.Inside.InOrder.{IsInOrder}
 use Rattle.l4_determined.proofs.InOrder.{step_in_order}
-use Rattle.l4_determined.proofs.OneNext.{NoneRanOut, one_end, next_in_order}
+use Rattle.l4_determined.proofs.OneNext.{one_end, next_in_order}
+use Rattle.l4_determined.specs.Memory.{NoneRanOut}
 use Rattle.l4_determined.proofs.OneAct.{one_act}
 use Rattle.l4_shell.specs.Lacking.{lacks_by_code, LacksNothing}
 use Rattle.l4_shell.specs.Inside.Alike.{AreAlike}

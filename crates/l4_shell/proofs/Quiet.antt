@@ -21,7 +21,7 @@ use Rattle.l4_record.specs.declared.refusals.RecordRefusal.TheVariants.{HistoryF
 use Rattle.l4_record.proofs.OneAnswer.{one_answer}
 use Rattle.l4_shell.specs.Refusals.{call_refusal}
 use Rattle.l4_shell.specs.Sessions.{own_report, ended_reports, done_reports}
-use Rattle.l4_determined.proofs.OneNext.{NoneRanOut}
+use Rattle.l4_determined.specs.Memory.{NoneRanOut}
 use Rattle.l4_shell.specs.Lacking.{lacks, lacks_by_code, LacksNothing}
 
 -- LISTS
