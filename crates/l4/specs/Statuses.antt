@@ -1,7 +1,7 @@
 -- The exit statuses of the commands of l4, by how their work ended (this profile's own).
 use Rattle.std.specs.Prelude.{ℕ, Bool, true, false, Result, Ok, Err, is_some, if◌then◌else◌}
 use Rattle.l4_expectations.specs.declared.outcomes.Failure.{Failure}
-use Rattle.l4_expectations.specs.declared.outcomes.Failure.TheVariants.{Differs, Malformed, Stopped as StoppedTest}
+use Rattle.l4_expectations.specs.declared.outcomes.Failure.TheVariants.{Differs, Refused as RefusedTest, NoExpectations, Malformed, Stopped as StoppedTest}
 use Rattle.l4_expectations.specs.declared.outcomes.Passed.{Passed}
 use Rattle.l4_merges.specs.declared.exploring.GaveUp.{GaveUp}
 use Rattle.l4_merges.specs.declared.exploring.GaveUp.TheVariants.{Bound, Memory, Full}
@@ -34,10 +34,12 @@ history_status (Err Write) = 3
 history_status (Err (NotNext number)) = 2
 history_status (Err (OtherAnswer number)) = 2
 
--- test: 1 where an answer is not the expected one, 2 where a line cannot be part of a test
+-- test: 1 where an answer is not the expected one, or a refusal is not expected; 2 where nothing is expected, or a line cannot be part of a test
 abbrev pub test_status : Result Passed Failure → ℕ
 test_status (Ok passed) = 0
 test_status (Err (Differs difference)) = 1
+test_status (Err (RefusedTest refusal)) = 1
+test_status (Err NoExpectations) = 2
 test_status (Err (Malformed number fault)) = 2
 test_status (Err (StoppedTest fault)) = run_status fault
 

@@ -7,12 +7,14 @@
 #![tactic(auto)]
 
 mod judged;
+mod kinds;
 mod ordered;
 mod plan_tests;
 mod progress;
 mod recorded;
 mod reports;
 mod segments;
+mod tap;
 mod tested;
 mod whys;
 
@@ -402,7 +404,12 @@ fn execute<R: AllocGlobal + Files + Input + Print + Eprint + Clock>(
             reading,
             size,
         } => tell_words(rt, words.as_slice(), reading, size),
-        Options::Test { files, tap, write } => test(rt, files.as_slice(), tap, write),
+        Options::Test {
+            files,
+            tap,
+            write,
+            lenient,
+        } => test(rt, files.as_slice(), tap, write, lenient),
         Options::Orders {
             plan,
             most,

@@ -1,33 +1,33 @@
 //! `l4 test` over litmus tests.
 ghost use Rattle.std.specs.Prelude.{◌≡◌, ◌⊎◌, ◌≤◌};
 ghost use Rattle.l4_fpage.specs.Pages.{max_frames};
+ghost use Rattle.l4_text.specs.Tokens.{tokens_of};
 ghost use Rattle.l4_orders.specs.Rules.{breaks_any};
+ghost use Rattle.l4.specs.Files.{is_rule, has_rule};
 ghost use Rattle.l4.specs.Statuses.{ruled_status};
 
 use crate::ordered::{code_of, not_searched, ruled_status, words_of};
-use crate::tested::{Place, printed, report_untested};
+use crate::tap::Escaped;
+use crate::tested::{Place, print_empty, printed, report_untested};
 use l4_options::ScriptOptions;
 use l4_orders::{
-    Explored, LineFault, Plan, PlanFault, all_orders, read_plan, rules_text, summary_text,
+    Explored, LineFault, Plan, PlanFault, PlanLine, all_orders, read_plan, rules_text, summary_text,
 };
-use l4_programs::{NOT_UNDERSTOOD, WatchedReader, stopped};
-use l4_text::RunFault;
+use l4_programs::{NOT_UNDERSTOOD, stopped};
+use l4_text::{RunFault, next_token};
 use std::alloc::{AllocError, Global};
-use std::io::Read;
 use std::{io, str};
-
-/// The ends of the names of litmus tests.
-const LITMUS: &str = ".litmus";
-
-const PLAN: &str = ".plan";
 
 /// The number of states that are visited at most.
 const MOST: u64 = 1_000_000;
 
-/// Returns whether a file has a litmus test, by its name.
-pub(crate) fn is_plan(file: &str) -> bool {
-    file.ends_with(LITMUS) || file.ends_with(PLAN)
-}
+/// The first tokens of rules.
+const NEVER: &[u8] = b"never";
+
+const ALWAYS: &[u8] = b"always";
+
+/// Why a plan without a rule does not pass.
+const NO_RULE: &str = "the litmus test has no rule, so it tests nothing";
 
 /// Prints on standard error that a litmus test has no copy with actual answers.
 pub(crate) fn report_not_copied(rt: &impl Eprint, file: &str) -> u8
@@ -76,7 +76,7 @@ fn print_result<R: Print>(
     if place.tap {
         let number = place.number;
         let mark = if passed { "ok" } else { "not ok" };
-        println!(rt; "{mark} {number} - {file}: {summary}")?;
+        println!(rt; "{mark} {number} - {}: {summary}", Escaped(file))?;
     } else {
         let end = if passed { "passed" } else { "failed" };
         println!(rt; "{file}: {summary}, {end}")?;
@@ -113,19 +113,17 @@ fn report_code<R: Print + Eprint>(rt: &R, place: &Place<'_>, line: u64, code: &s
     let _ = eprintln!(rt; "error: {file}: line {line}: {code}: {words}");
     if place.tap {
         let number = place.number;
-        let written = println!(rt; "not ok {number} - {file}: line {line}: {code}: {words}");
+        let written = println!(rt;
+            "not ok {number} - {}: line {line}: {code}: {words}",
+            Escaped(file)
+        );
         return printed(rt, written, NOT_UNDERSTOOD);
     }
     NOT_UNDERSTOOD
 }
 
 /// Prints why a file is not a litmus test. Returns the exit status.
-fn report_no_plan<Q: Read, R: Print + Eprint>(
-    rt: &R,
-    place: &Place<'_>,
-    fault: PlanFault,
-    reader: &WatchedReader<Q>,
-) -> u8 {
+fn report_no_plan<R: Print + Eprint>(rt: &R, place: &Place<'_>, fault: PlanFault) -> u8 {
     match fault {
         PlanFault::Malformed(line, fault) => report_code(rt, place, line, code_of(fault)),
         PlanFault::NoUnordered => {
@@ -135,27 +133,49 @@ fn report_no_plan<Q: Read, R: Print + Eprint>(
             report_untested(rt, place, NOT_UNDERSTOOD)
         }
         PlanFault::Stopped(fault) => {
-            let status = stopped(rt, fault, Some(place.file), reader.error());
+            let status = stopped(rt, fault, Some(place.file), None);
             report_untested(rt, place, status)
         }
     }
 }
 
-/// Searches all orders of the plan that a reader gives behind these bytes, and prints the result. Returns the exit status.
-pub(crate) fn test_plan<Q: Read, R: AllocGlobal + Print + Eprint>(
+/// Returns whether a line states a rule.
+fn is_rule(line: &PlanLine) -> bool
+    ensures { result ≡ is_rule (tokens_of line.now.bytes.items) }
+{
+    match next_token(line.bytes.as_slice()) {
+        Some((token, _)) => token == NEVER || token == ALWAYS,
+        None => false,
+    }
+}
+
+/// Returns whether a plan has a rule.
+fn has_rule(plan: &Plan) -> bool
+    ensures { result ≡ has_rule plan.now }
+{
+    plan.queries.iter().any(|line| is_rule(line))
+}
+
+/// Searches all orders of the plan in this text, and prints the result. Returns the exit status. A plan without a rule passes only if the
+/// test is lenient.
+pub(crate) fn test_plan<R: AllocGlobal + Print + Eprint>(
     rt: &R,
     place: &Place<'_>,
     script: &ScriptOptions,
-    front: &[u8],
-    reader: &mut WatchedReader<Q>,
+    lenient: bool,
+    text: &[u8],
 ) -> u8
     requires { script.now.frames ≤ max_frames }
 {
-    let mut whole = front.chain(&mut *reader);
-    let plan = match read_plan(rt.alloc(), script.size, &mut whole) {
+    let mut reader = text;
+    let plan = match read_plan(rt.alloc(), script.size, &mut reader) {
         Ok(plan) => plan,
-        Err(fault) => return report_no_plan(rt, place, fault, reader),
+        Err(fault) => return report_no_plan(rt, place, fault),
     };
+    if !lenient && !has_rule(&plan) {
+        let written = print_empty(rt, place, NO_RULE);
+        return printed(rt, written, NOT_UNDERSTOOD);
+    }
     match all_orders(rt.alloc(), script.frames, script.size, &plan, MOST) {
         Ok(explored) => report_searched(rt, place, &plan, &explored),
         Err(failure) => report_untested(rt, place, not_searched(rt, failure)),

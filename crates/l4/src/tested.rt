@@ -1,11 +1,16 @@
 //! `l4 test`: scripts that state the answers that they expect.
-ghost use Rattle.std.specs.Prelude.{◌≡◌, ◌⊎◌, IfOk, IfSome};
+ghost use Rattle.std.specs.Prelude.{◌≡◌, ◌⊎◌, IfOk, IfSome, MatchResult};
+ghost use Rattle.l4.specs.Files.{IsWholeFile};
 ghost use Rattle.l4.specs.Statuses.{test_status};
 ghost use Rattle.l4_options.specs.Ranges.{IsFrameCount};
 
 use crate::DIFFERS;
-use crate::plan_tests::{is_plan, report_not_copied, test_plan};
-use l4_expectations::{Copied, Difference, Failure, Fault, Passed, copy_script, test_script};
+use crate::kinds::is_litmus;
+use crate::plan_tests::{report_not_copied, test_plan};
+use crate::tap::Escaped;
+use l4_expectations::{
+    Copied, Difference, Failure, Fault, Passed, UnexpectedRefusal, copy_script, test_script,
+};
 use l4_options::{OptionFault, Options, ScriptOptions, options};
 use l4_programs::{NOT_UNDERSTOOD, WatchedReader, not_created, not_opened, stopped};
 use l4_text::{Ending, LineReader, RunFault, next_token};
@@ -21,11 +26,14 @@ const MOST_WORDS: usize = 6;
 /// The first token of a first line with options.
 const MARK: &[u8] = b"#!";
 
-/// The number of bytes of the longest line, with its newline.
-const FRONT: u64 = 4_097;
-
 /// Why a first line has wrong options.
 const WRONG_OPTIONS: &str = "after '#!', only --frames N and --page-size BYTES are allowed";
+
+/// Why a script has no copy that passes.
+const NO_ANSWERS: &str = "no line has answers, so a copy would test nothing";
+
+/// Why a script that expects nothing does not pass.
+const NO_EXPECTATIONS: &str = "the script expects no answers, so it tests nothing";
 
 /// Where a result is printed: the name of its file, and its number in TAP.
 #[derive(Drop)]
@@ -37,7 +45,8 @@ pub(crate) struct Place<'a> {
 
 /// Returns the status, or that of a write that failed.
 pub(crate) fn printed(rt: &impl Eprint, written: io::Result<()>, status: u8) -> u8
-    ensures { (result ≡ status) ⊎ (result ≡ 3) }
+    ensures exact { MatchResult written (λ _. result ≡ status) (λ _. result ≡ 3) }
+    ensures either { (result ≡ status) ⊎ (result ≡ 3) }
 {
     match written {
         Ok(()) => status,
@@ -46,9 +55,7 @@ pub(crate) fn printed(rt: &impl Eprint, written: io::Result<()>, status: u8) -> 
 }
 
 /// Prints that a script passed.
-fn report_passed<R: Print + Eprint>(rt: &R, place: &Place<'_>, passed: Passed) -> u8
-    ensures { (result ≡ 0) ⊎ (result ≡ 3) }
-{
+fn print_passed(rt: &impl Print, place: &Place<'_>, passed: Passed) -> io::Result<()> {
     let Passed {
         lines,
         expectations,
@@ -56,13 +63,12 @@ fn report_passed<R: Print + Eprint>(rt: &R, place: &Place<'_>, passed: Passed) -
     let file = place.file;
     if place.tap {
         let number = place.number;
-        let written = println!(rt;
-            "ok {number} - {file}: {lines} lines, {expectations} expectations"
+        return println!(rt;
+            "ok {number} - {}: {lines} lines, {expectations} expectations",
+            Escaped(file)
         );
-        return printed(rt, written, 0);
     }
-    let written = println!(rt; "{file}: {lines} lines, {expectations} expectations, passed");
-    printed(rt, written, 0)
+    println!(rt; "{file}: {lines} lines, {expectations} expectations, passed")
 }
 
 /// Returns an answer, or the words for none.
@@ -73,23 +79,42 @@ fn named(answer: &[u8]) -> &str {
     str::from_utf8(answer).unwrap_or("an answer that is not valid UTF-8")
 }
 
-/// Prints the first difference.
-fn report_difference<R: Print + Eprint>(rt: &R, place: &Place<'_>, differs: &Difference) -> u8
-    ensures { (result ≡ 1) ⊎ (result ≡ 3) }
-{
+/// Prints that one answer was expected, and another one was found.
+fn print_other(
+    rt: &impl Print,
+    place: &Place<'_>,
+    line: u64,
+    expected: &str,
+    found: &str,
+) -> io::Result<()> {
     let file = place.file;
-    let line = differs.line;
-    let expected = named(differs.expected.as_slice());
-    let found = named(differs.found.as_slice());
     if place.tap {
         let number = place.number;
-        let written = println!(rt;
-            "not ok {number} - {file}: line {line}: expected {expected}, found {found}"
+        return println!(rt;
+            "not ok {number} - {}: line {line}: expected {}, found {}",
+            Escaped(file),
+            Escaped(expected),
+            Escaped(found)
         );
-        return printed(rt, written, DIFFERS);
     }
-    let written = println!(rt; "{file}: line {line}: expected {expected}, found {found}");
-    printed(rt, written, DIFFERS)
+    println!(rt; "{file}: line {line}: expected {expected}, found {found}")
+}
+
+/// Prints the first difference.
+fn print_difference(rt: &impl Print, place: &Place<'_>, differs: &Difference) -> io::Result<()> {
+    let expected = named(differs.expected.as_slice());
+    let found = named(differs.found.as_slice());
+    print_other(rt, place, differs.line, expected, found)
+}
+
+/// Prints the first refusal that is not expected.
+fn print_refusal(
+    rt: &impl Print,
+    place: &Place<'_>,
+    refused: &UnexpectedRefusal,
+) -> io::Result<()> {
+    let found = named(refused.answer.as_slice());
+    print_other(rt, place, refused.line, "no refusal", found)
 }
 
 /// Says why a line cannot be part of a test.
@@ -104,30 +129,57 @@ fn reason(fault: Fault) -> &'static str {
     }
 }
 
-/// Prints on standard error why a line cannot be part of a test.
-fn report_malformed<R: Print + Eprint>(rt: &R, place: &Place<'_>, line: u64, reason: &str) -> u8
-    ensures { (result ≡ 2) ⊎ (result ≡ 3) }
-{
+/// Prints on standard error why a line cannot be part of a test, and the result in TAP.
+pub(crate) fn print_malformed<R: Print + Eprint>(
+    rt: &R,
+    place: &Place<'_>,
+    line: u64,
+    reason: &str,
+) -> io::Result<()> {
     let file = place.file;
     let _ = eprintln!(rt; "error: {file}: line {line}: {reason}");
-    if place.tap {
-        let number = place.number;
-        let written = println!(rt; "not ok {number} - {file}: line {line}: {reason}");
-        return printed(rt, written, NOT_UNDERSTOOD);
+    if !place.tap {
+        return Ok(());
     }
-    NOT_UNDERSTOOD
+    let number = place.number;
+    println!(rt;
+        "not ok {number} - {}: line {line}: {reason}",
+        Escaped(file)
+    )
 }
 
-/// Prints in TAP that a script was not tested to its end, after the reason was reported. Returns the status, or that of a write that failed.
+/// Prints on standard error why a file tests nothing, and the result in TAP.
+pub(crate) fn print_empty<R: Print + Eprint>(
+    rt: &R,
+    place: &Place<'_>,
+    reason: &str,
+) -> io::Result<()> {
+    let file = place.file;
+    let _ = eprintln!(rt; "error: {file}: {reason}");
+    if !place.tap {
+        return Ok(());
+    }
+    let number = place.number;
+    println!(rt; "not ok {number} - {}: {reason}", Escaped(file))
+}
+
+/// Prints in TAP that a file was not tested to its end, after the reason was reported.
+fn print_untested(rt: &impl Print, place: &Place<'_>) -> io::Result<()> {
+    if !place.tap {
+        return Ok(());
+    }
+    let number = place.number;
+    println!(rt;
+        "not ok {number} - {}: the script was not tested to its end",
+        Escaped(place.file)
+    )
+}
+
+/// The same. Returns the status, or that of a write that failed.
 pub(crate) fn report_untested<R: Print + Eprint>(rt: &R, place: &Place<'_>, status: u8) -> u8
     ensures { (result ≡ status) ⊎ (result ≡ 3) }
 {
-    if !place.tap {
-        return status;
-    }
-    let file = place.file;
-    let number = place.number;
-    let written = println!(rt; "not ok {number} - {file}: the script was not tested to its end");
+    let written = print_untested(rt, place);
     printed(rt, written, status)
 }
 
@@ -196,11 +248,14 @@ fn options_of(alloc: Global, front: &[u8]) -> Result<Option<ScriptOptions>, RunF
     }
 }
 
-/// Reads the first bytes of a script: all of its first line, if it is not too long.
-fn front_of<Q: Read>(alloc: Global, reader: &mut Q) -> Result<Vec<u8>, RunFault> {
-    let mut front = Vec::new(alloc);
-    match (&mut *reader).take(FRONT).read_to_end(&mut front) {
-        Ok(_) => Ok(front),
+/// Reads all bytes of a file.
+fn whole_file<Q: Read>(alloc: Global, reader: &mut Q) -> Result<Vec<u8>, RunFault>
+    ensures { IfOk result
+        (λ bytes. IsWholeFile (Q.remaining reader.old) (Q.remaining reader.new) bytes.items) }
+{
+    let mut bytes = Vec::new(alloc);
+    match reader.read_to_end(&mut bytes) {
+        Ok(_) => Ok(bytes),
         Err(error) => match error.kind() {
             ErrorKind::OutOfMemory => Err(RunFault::Memory),
             _ => Err(RunFault::Read),
@@ -208,27 +263,67 @@ fn front_of<Q: Read>(alloc: Global, reader: &mut Q) -> Result<Vec<u8>, RunFault>
     }
 }
 
-/// Prints the result of a test. Returns the exit status, which is 3 if the result cannot be printed.
-fn report<Q: Read, R: Print + Eprint>(
+/// Prints the result of a test.
+fn print_result<R: Print + Eprint>(
     rt: &R,
     place: &Place<'_>,
-    tested: Result<Passed, Failure>,
-    reader: &WatchedReader<Q>,
-) -> u8
-    ensures { (result ≡ test_status tested) ⊎ (result ≡ 3) }
-{
+    tested: &Result<Passed, Failure>,
+) -> io::Result<()> {
     match tested {
-        Ok(passed) => report_passed(rt, place, passed),
-        Err(Failure::Differs(difference)) => report_difference(rt, place, &difference),
-        Err(Failure::Malformed(line, fault)) => report_malformed(rt, place, line, reason(fault)),
-        Err(Failure::Stopped(fault)) => {
-            let status = stopped(rt, fault, Some(place.file), reader.error());
-            report_untested(rt, place, status)
-        }
+        Ok(passed) => print_passed(rt, place, *passed),
+        Err(Failure::Differs(difference)) => print_difference(rt, place, difference),
+        Err(Failure::Refused(refused)) => print_refusal(rt, place, refused),
+        Err(Failure::NoExpectations) => print_empty(rt, place, NO_EXPECTATIONS),
+        Err(Failure::Malformed(line, fault)) => print_malformed(rt, place, *line, reason(*fault)),
+        Err(Failure::Stopped(_)) => print_untested(rt, place),
     }
 }
 
-/// Reads the first bytes of a script, and the options in its first line. Reports why they cannot be had, and returns the exit status.
+/// Returns the exit status of a test. If it stopped, reports why: `error` is what the system has reported.
+fn tested_status(
+    rt: &impl Eprint,
+    file: &str,
+    tested: Result<Passed, Failure>,
+    error: Option<io::Error>,
+) -> u8
+    ensures { result ≡ test_status tested }
+{
+    match tested {
+        Ok(_) => 0,
+        Err(Failure::Differs(_)) => DIFFERS,
+        Err(Failure::Refused(_)) => DIFFERS,
+        Err(Failure::NoExpectations) => NOT_UNDERSTOOD,
+        Err(Failure::Malformed(_, _)) => NOT_UNDERSTOOD,
+        Err(Failure::Stopped(fault)) => stopped(rt, fault, Some(file), error),
+    }
+}
+
+/// Returns the exit status of a test whose result was written: 3 if the write failed.
+fn report(
+    rt: &impl Eprint,
+    file: &str,
+    tested: Result<Passed, Failure>,
+    error: Option<io::Error>,
+    written: io::Result<()>,
+) -> u8
+    ensures { MatchResult written (λ _. result ≡ test_status tested) (λ _. result ≡ 3) }
+{
+    let status = tested_status(rt, file, tested, error);
+    printed(rt, written, status)
+}
+
+/// Prints the result of a test, and returns the exit status.
+fn tell<R: Print + Eprint>(
+    rt: &R,
+    place: &Place<'_>,
+    tested: Result<Passed, Failure>,
+    error: Option<io::Error>,
+) -> u8 {
+    let written = print_result(rt, place, &tested);
+    report(rt, place.file, tested, error, written)
+}
+
+/// Reads a script, and the options in its first line. Reports why they cannot be had, and returns the exit status.
 fn begun<Q: Read, R: AllocGlobal + Print + Eprint>(
     rt: &R,
     place: &Place<'_>,
@@ -236,46 +331,59 @@ fn begun<Q: Read, R: AllocGlobal + Print + Eprint>(
 ) -> Result<(Vec<u8>, ScriptOptions), u8>
     ensures { IfOk result (λ r. IsFrameCount r.1.frames) }
 {
-    let front = match front_of(rt.alloc(), reader) {
-        Ok(front) => front,
-        Err(fault) => return Err(report(rt, place, Err(Failure::Stopped(fault)), reader)),
+    let bytes = match whole_file(rt.alloc(), reader) {
+        Ok(bytes) => bytes,
+        Err(fault) => return Err(tell(rt, place, Err(Failure::Stopped(fault)), reader.error())),
     };
-    match options_of(rt.alloc(), front.as_slice()) {
-        Ok(Some(script)) => Ok((front, script)),
-        Ok(None) => Err(report_malformed(rt, place, 1, WRONG_OPTIONS)),
-        Err(fault) => Err(report(rt, place, Err(Failure::Stopped(fault)), reader)),
+    match options_of(rt.alloc(), bytes.as_slice()) {
+        Ok(Some(script)) => Ok((bytes, script)),
+        Ok(None) => {
+            let written = print_malformed(rt, place, 1, WRONG_OPTIONS);
+            Err(printed(rt, written, NOT_UNDERSTOOD))
+        }
+        Err(fault) => Err(tell(rt, place, Err(Failure::Stopped(fault)), None)),
     }
 }
 
-/// Tests the script that a reader gives, and prints the result. Returns the exit status.
+/// Tests the script or the litmus test that a reader gives, and prints the result. Returns the exit status.
 fn test_reader<Q: Read, R: AllocGlobal + Print + Eprint>(
     rt: &R,
     place: &Place<'_>,
+    lenient: bool,
     reader: &mut WatchedReader<Q>,
 ) -> u8 {
-    let (front, script) = match begun(rt, place, reader) {
+    let (bytes, script) = match begun(rt, place, reader) {
         Ok(parts) => parts,
         Err(status) => return status,
     };
-    if is_plan(place.file) {
-        return test_plan(rt, place, &script, front.as_slice(), reader);
+    if is_litmus(place.file, bytes.as_slice()) {
+        return test_plan(rt, place, &script, lenient, bytes.as_slice());
     }
-    let mut whole = front.as_slice().chain(&mut *reader);
-    let tested = test_script(rt.alloc(), script.frames, script.size, &mut whole);
-    report(rt, place, tested, reader)
+    let mut text = bytes.as_slice();
+    let tested = test_script(rt.alloc(), script.frames, script.size, lenient, &mut text);
+    tell(rt, place, tested, None)
 }
 
-/// Tests the script in a file, and prints the result. Returns the exit status.
-fn test_file<R: AllocGlobal + Files + Print + Eprint>(rt: &R, place: &Place<'_>) -> u8 {
+/// Tests the script or the litmus test in a file, and prints the result. Returns the exit status.
+fn test_file<R: AllocGlobal + Files + Print + Eprint>(
+    rt: &R,
+    place: &Place<'_>,
+    lenient: bool,
+) -> u8 {
     match fs::open(rt, place.file) {
-        Ok(file) => test_reader(rt, place, &mut WatchedReader::new(file)),
+        Ok(file) => test_reader(rt, place, lenient, &mut WatchedReader::new(file)),
         Err(error) => report_untested(rt, place, not_opened(rt, place.file, error)),
     }
 }
 
-/// Tests the scripts in these files. Returns the greatest of their exit statuses.
+/// Tests these files. Returns the greatest of their exit statuses.
 #[inline(never)]
-fn test_files<R: AllocGlobal + Files + Print + Eprint>(rt: &R, files: &[String], tap: bool) -> u8 {
+fn test_files<R: AllocGlobal + Files + Print + Eprint>(
+    rt: &R,
+    files: &[String],
+    tap: bool,
+    lenient: bool,
+) -> u8 {
     let mut greatest = 0;
     if tap {
         let count = files.len();
@@ -288,7 +396,7 @@ fn test_files<R: AllocGlobal + Files + Print + Eprint>(rt: &R, files: &[String],
             tap,
             number: index + 1,
         };
-        greatest = greatest.max(test_file(rt, &place));
+        greatest = greatest.max(test_file(rt, &place, lenient));
     }
     greatest
 }
@@ -352,22 +460,26 @@ fn copy_reader<Q: Read, R: AllocGlobal + Files + Print + Eprint>(
     place: &Place<'_>,
     reader: &mut WatchedReader<Q>,
 ) -> u8 {
-    let (front, script) = match begun(rt, place, reader) {
+    let (bytes, script) = match begun(rt, place, reader) {
         Ok(parts) => parts,
         Err(status) => return status,
     };
-    let mut whole = front.as_slice().chain(&mut *reader);
-    match copy_script(rt.alloc(), script.frames, script.size, &mut whole) {
+    if is_litmus(place.file, bytes.as_slice()) {
+        return report_not_copied(rt, place.file);
+    }
+    let mut text = bytes.as_slice();
+    match copy_script(rt.alloc(), script.frames, script.size, &mut text) {
         Ok(copy) => write_copy(rt, place.file, &copy),
-        Err(failure) => report(rt, place, Err(failure), reader),
+        Err(Failure::NoExpectations) => {
+            let written = print_empty(rt, place, NO_ANSWERS);
+            printed(rt, written, NOT_UNDERSTOOD)
+        }
+        Err(failure) => tell(rt, place, Err(failure), None),
     }
 }
 
 /// Writes a copy of the script in a file. Returns the exit status.
 fn copy_file<R: AllocGlobal + Files + Print + Eprint>(rt: &R, place: &Place<'_>) -> u8 {
-    if is_plan(place.file) {
-        return report_not_copied(rt, place.file);
-    }
     match fs::open(rt, place.file) {
         Ok(file) => copy_reader(rt, place, &mut WatchedReader::new(file)),
         Err(error) => not_opened(rt, place.file, error),
@@ -389,16 +501,17 @@ fn copy_files<R: AllocGlobal + Files + Print + Eprint>(rt: &R, files: &[String])
     greatest
 }
 
-/// Tests the scripts in these files, or writes a copy of each with the actual answers. Returns the greatest of the exit statuses.
+/// Tests these files, or writes a copy of each script with the actual answers. Returns the greatest of the exit statuses.
 pub(crate) fn test<R: AllocGlobal + Files + Print + Eprint>(
     rt: &R,
     files: &[String],
     tap: bool,
     write: bool,
+    lenient: bool,
 ) -> u8 {
     if write {
         copy_files(rt, files)
     } else {
-        test_files(rt, files, tap)
+        test_files(rt, files, tap, lenient)
     }
 }

@@ -1,5 +1,5 @@
 -- Lines that agree with what is expected of them, and one line more.
-use Rattle.std.proofs.Common.{◌≡◌, ℕ, ◌+◌, ◌==◌, ◌⊎◌, inl, inr, Bool, true, false, cond, not, ◌||◌, ◌&&◌, List, [], ◌∷◌, ◌++◌, length, length-append, drop, Option, Some, None, Result, Ok, refl, sym, ap, subst, ◌∙◌, arith}
+use Rattle.std.proofs.Common.{◌≡◌, ℕ, ◌+◌, ◌==◌, ◌⊎◌, inl, inr, Bool, true, false, cond, ◌||◌, ◌&&◌, List, [], ◌∷◌, ◌++◌, length, length-append, drop, Option, Some, None, Result, Ok, refl, sym, ap, subst, ◌∙◌, arith}
 use Rattle.std.specs.Prelude.{is_some}
 use Rattle.std.specs.List.{All}
 use Rattle.std.proofs.lemmas.Bool.{false≢true}
@@ -23,8 +23,8 @@ use Rattle.l4_text.specs.declared.lines.Ending.TheVariants.{Whole}
 use Rattle.l4_expectations.specs.declared.due.Due.{Due}
 use Rattle.l4_expectations.specs.declared.due.Stage.{Stage}
 use Rattle.l4_expectations.specs.declared.due.Stage.TheVariants.{Untouched, Begun, Rest}
-use Rattle.l4_expectations.specs.Expectations.{is_marked, answer_in, expected_in, rest, is_rest, one, expected_by, expected_below, lines_text, Agrees, IsAsExpected, AreAsExpected}
-use Rattle.l4_expectations.specs.Tests.{HasCompared, Compares, AgreesSoFar, is_ended, is_surplus, has_surplus}
+use Rattle.l4_expectations.specs.Expectations.{is_marked, answer_in, expected_in, rest, is_rest, one, expected_by, expected_below, lines_text, NeedNone, Agrees, IsAsExpected, AreAsExpected}
+use Rattle.l4_expectations.specs.Tests.{HasCompared, Compares, AgreesSoFar, is_ended, allows_more, IsClosedBy, IsClosed}
 use Rattle.l4_expectations.specs.Inside.Lines.{Takes}
 use Rattle.l4_answers.specs.Lines.{later_lines, is_next}
 use Rattle.l4_answers.proofs.FirstLine.{next_in_front}
@@ -64,26 +64,26 @@ below_one below line h is =
 
 -- LINES AS EXPECTED
 
-below_same : (old new : State) (number : ℕ) (line : TextLine) (below more : List TextLine) → expected_below below ≡ expected_below more → IsAsExpected old number line below new → IsAsExpected old number line more new
-below_same old new number line below more same a = record {
+below_same : (lenient : Bool) (old new : State) (number : ℕ) (line : TextLine) (below more : List TextLine) → expected_below below ≡ expected_below more → IsAsExpected lenient old number line below new → IsAsExpected lenient old number line more new
+below_same lenient old new number line below more same a = record {
   told = a.told;
   text = a.text;
   answers = a.answers;
   is_text = a.is_text;
-  agrees = λ asks. subst (λ (e : List (List ℕ)). Agrees e a.text) same (a.agrees asks);
+  agrees = λ asks. subst (λ (e : List (List ℕ)). Agrees lenient e a.text) same (a.agrees asks);
   readable = a.readable;
 }
 
 -- a line with answers, and those below it, behind other lines
-expected_more : (first between last : State) (number : ℕ) (before : List TextLine) (line : TextLine) (below : List TextLine) → is_silent line.bytes ≡ false
-    → AreAsExpected first number before between → AreAsExpected between (number + length before) (line ∷ below) last → AreAsExpected first number (before ++ line ∷ below) last
-expected_more first between last number [] line below asks are more =
-    subst (λ (m : State). AreAsExpected m number (line ∷ below) last) are (subst (λ (n : ℕ). AreAsExpected between n (line ∷ below) last) (omega arith) more)
-expected_more first between last number (head ∷ before) line below asks are more =
+expected_more : (lenient : Bool) (first between last : State) (number : ℕ) (before : List TextLine) (line : TextLine) (below : List TextLine) → is_silent line.bytes ≡ false
+    → AreAsExpected lenient first number before between → AreAsExpected lenient between (number + length before) (line ∷ below) last → AreAsExpected lenient first number (before ++ line ∷ below) last
+expected_more lenient first between last number [] line below asks are more =
+    subst (λ (m : State). AreAsExpected lenient m number (line ∷ below) last) are (subst (λ (n : ℕ). AreAsExpected lenient between n (line ∷ below) last) (omega arith) more)
+expected_more lenient first between last number (head ∷ before) line below asks are more =
     let n : number + length (head ∷ before) ≡ (number + 1) + length before = omega arith in (
       are.0,
-      below_same first are.0 number head before (before ++ line ∷ below) (sym (below_ends before line below asks)) are.1,
-      expected_more are.0 between last (number + 1) before line below asks are.2 (subst (λ (k : ℕ). AreAsExpected between k (line ∷ below) last) n more),
+      below_same lenient first are.0 number head before (before ++ line ∷ below) (sym (below_ends before line below asks)) are.1,
+      expected_more lenient are.0 between last (number + 1) before line below asks are.2 (subst (λ (k : ℕ). AreAsExpected lenient between k (line ∷ below) last) n more),
     )
 
 -- a silent line has no answer
@@ -95,9 +95,9 @@ silent_answers m number line whole is =
     let asked : asked_of m.session.machine.size m.names line ≡ Ok None = ap (λ e. asked_at m.session.machine.size m.names e line.bytes) whole ∙ asked_none m.session.machine.size m.names line.bytes is in
     subst (λ (q : Result _ _). AnswersLine m number q [] m) (sym asked) (refl, refl)
 
-silent_lines : (m : State) (number : ℕ) (lines : List TextLine) → All IsWhole lines → All Silent lines → All Readable lines → AreAsExpected m number lines m
-silent_lines m number [] whole silent readable = refl
-silent_lines m number (line ∷ lines) whole silent readable = (
+silent_lines : (lenient : Bool) (m : State) (number : ℕ) (lines : List TextLine) → All IsWhole lines → All Silent lines → All Readable lines → AreAsExpected lenient m number lines m
+silent_lines lenient m number [] whole silent readable = refl
+silent_lines lenient m number (line ∷ lines) whole silent readable = (
   m,
   record {
     told = [];
@@ -107,52 +107,47 @@ silent_lines m number (line ∷ lines) whole silent readable = (
     agrees = λ asks. absurd (false≢true (sym asks ∙ All-head Silent line lines silent));
     readable = All-head Readable line lines readable;
   },
-  silent_lines m (number + 1) lines (All-tail IsWhole line lines whole) (All-tail Silent line lines silent) (All-tail Readable line lines readable),
+  silent_lines lenient m (number + 1) lines (All-tail IsWhole line lines whole) (All-tail Silent line lines silent) (All-tail Readable line lines readable),
 )
 
 -- NOTHING IS LEFT
 
-not_false : (a : Bool) → not a ≡ false → a ≡ true
-not_false true h = refl
-not_false false h = absurd (false≢true (sym h))
+none_left : (left : List ℕ) → (length left == 0) ≡ true → left ≡ []
+none_left left h = let empty : length left ≡ 0 = grind (arith, nat_tests) in empty_list left empty
 
-none_left : (left : List ℕ) → not (length left == 0) ≡ false → left ≡ []
-none_left left h =
-    let zero : (length left == 0) ≡ true = not_false _ h in
-    let empty : length left ≡ 0 = grind (arith, nat_tests) in
-    empty_list left empty
-
-all_agree : (stage : Stage) (expected : List (List ℕ)) (text left : List ℕ) → HasCompared stage expected text left → is_surplus stage (length left == 0) ≡ false → Agrees expected text
-all_agree Untouched expected text left h closed = inl h.0
-all_agree Begun expected text left h closed = inr (inl (h.1 ∙ ap (λ x. lines_text expected ++ x) (none_left left closed) ∙ append-nil (lines_text expected)))
-all_agree Rest expected text left h closed = inr (inr h)
+all_agree : (lenient : Bool) (stage : Stage) (expected : List (List ℕ)) (text left : List ℕ) → HasCompared stage expected text left → IsClosedBy lenient (allows_more stage) left → Agrees lenient expected text
+all_agree lenient Untouched expected text left h closed = inl (h.0, subst (NeedNone lenient) h.1 closed)
+all_agree lenient Begun expected text left h closed = inr (inl (h.1 ∙ ap (λ x. lines_text expected ++ x) (none_left left closed) ∙ append-nil (lines_text expected)))
+all_agree lenient Rest expected text left h closed = inr (inr (h.0, left, h.1, h.2, closed))
 
 -- the lines so far are as expected, where no answer is left of the last one
-due_closed : (first : State) (lines : List TextLine) (due : Due) (last : State) → Compares first lines due last → is_surplus due.stage (length due.left == 0) ≡ false → AreAsExpected first 1 lines last
-due_closed first lines due last c closed =
-    let block : AreAsExpected c.between (1 + length c.before) (c.line ∷ c.below) last = (
+due_closed : (lenient : Bool) (first : State) (lines : List TextLine) (due : Due) (last : State) → Compares lenient first lines due last → IsClosedBy lenient (allows_more due.stage) due.left
+    → AreAsExpected lenient first 1 lines last
+due_closed lenient first lines due last c closed =
+    let block : AreAsExpected lenient c.between (1 + length c.before) (c.line ∷ c.below) last = (
       last,
       record {
         told = c.told;
         text = c.text;
         answers = subst (λ (n : ℕ). AnswersLine c.between n (asked_of c.between.session.machine.size c.between.names c.line) c.told last) c.number c.answers;
         is_text = c.is_text;
-        agrees = λ asks. all_agree due.stage (expected_below c.below) c.text due.left c.compared closed;
+        agrees = λ asks. all_agree lenient due.stage (expected_below c.below) c.text due.left c.compared closed;
         readable = c.readable;
       },
-      silent_lines last (1 + length c.before + 1) c.below c.whole c.silent c.all_readable,
+      silent_lines lenient last (1 + length c.before + 1) c.below c.whole c.silent c.all_readable,
     ) in
-    subst (λ (ls : List TextLine). AreAsExpected first 1 ls last) (sym c.parts) (expected_more first c.between last 1 c.before c.line c.below c.asks c.expected block)
+    subst (λ (ls : List TextLine). AreAsExpected lenient first 1 ls last) (sym c.parts) (expected_more lenient first c.between last 1 c.before c.line c.below c.asks c.expected block)
 
-pub lines_closed : (first : State) (lines : List TextLine) (due : Option Due) (last : State) → All IsWhole lines → AgreesSoFar first lines due last → has_surplus due ≡ false → AreAsExpected first 1 lines last
-lines_closed first lines None last whole a closed =
-    subst (λ (m : State). AreAsExpected first 1 lines m) (sym a.same) (silent_lines first 1 lines whole a.silent a.all_readable)
-lines_closed first lines (Some due) last whole a closed = due_closed first lines due last a closed
+pub lines_closed : (lenient : Bool) (first : State) (lines : List TextLine) (due : Option Due) (last : State) → All IsWhole lines → AgreesSoFar lenient first lines due last → IsClosed lenient due
+    → AreAsExpected lenient first 1 lines last
+lines_closed lenient first lines None last whole a closed =
+    subst (λ (m : State). AreAsExpected lenient first 1 lines m) (sym a.same) (silent_lines lenient first 1 lines whole a.silent a.all_readable)
+lines_closed lenient first lines (Some due) last whole a closed = due_closed lenient first lines due last a closed
 
 -- what is expected above the first line with answers: nothing
-pub none_above : (first : State) (lines : List TextLine) (due : Option Due) (last : State) → AgreesSoFar first lines due last → expected_below lines ≡ []
-none_above first lines None last a = a.none_expected
-none_above first lines (Some due) last a = ap expected_below a.parts ∙ below_ends a.before a.line a.below a.asks ∙ a.above
+pub none_above : (lenient : Bool) (first : State) (lines : List TextLine) (due : Option Due) (last : State) → AgreesSoFar lenient first lines due last → expected_below lines ≡ []
+none_above lenient first lines None last a = a.none_expected
+none_above lenient first lines (Some due) last a = ap expected_below a.parts ∙ below_ends a.before a.line a.below a.asks ∙ a.above
 
 -- ONE LINE MORE
 
@@ -176,18 +171,18 @@ some_readable : (line : TextLine) (answer : List ℕ) → is_marked line.bytes �
 some_readable line answer h is = h ∙ sym (ap is_some is)
 
 -- a line with answers
-pub answered_more : (first : State) (lines : List TextLine) (due : Option Due) (last next : State) (line : TextLine) (number : ℕ) (text : List ℕ) → All IsWhole lines → AgreesSoFar first lines due last
-    → has_surplus due ≡ false → IsWhole line → is_silent line.bytes ≡ false → number ≡ 1 + length lines
+pub answered_more : (lenient : Bool) (first : State) (lines : List TextLine) (due : Option Due) (last next : State) (line : TextLine) (number : ℕ) (text : List ℕ) → All IsWhole lines → AgreesSoFar lenient first lines due last
+    → IsClosed lenient due → IsWhole line → is_silent line.bytes ≡ false → number ≡ 1 + length lines
     → (told : List Report) × AnswersLine last number (asked_of last.session.machine.size last.names line) told next × AreAnswerTexts None told text
-    → Compares first (lines ++ line ∷ []) (record { number = number; left = text; stage = Untouched }) next
-answered_more first lines due last next line number text whole a closed whole_line asks number_is is = record {
+    → Compares lenient first (lines ++ line ∷ []) (record { number = number; left = text; stage = Untouched }) next
+answered_more lenient first lines due last next line number text whole a closed whole_line asks number_is is = record {
   before = lines;
   between = last;
   line = line;
   below = [];
   parts = refl;
-  expected = lines_closed first lines due last whole a closed;
-  above = none_above first lines due last a;
+  expected = lines_closed lenient first lines due last whole a closed;
+  above = none_above lenient first lines due last a;
   number = number_is;
   told = is.0;
   text = text;
@@ -202,9 +197,9 @@ answered_more first lines due last next line number text whole a closed whole_li
 }
 
 -- a silent line below the last one with answers
-below_push : (first : State) (lines : List TextLine) (due after : Due) (last : State) (line : TextLine) → (c : Compares first lines due last) → IsWhole line → Silent line → Readable line → after.number ≡ due.number
-    → HasCompared after.stage (expected_below c.below ++ one (expected_in line.bytes)) c.text after.left → Compares first (lines ++ line ∷ []) after last
-below_push first lines due after last line c whole silent readable same compared = record {
+below_push : (lenient : Bool) (first : State) (lines : List TextLine) (due after : Due) (last : State) (line : TextLine) → (c : Compares lenient first lines due last) → IsWhole line → Silent line → Readable line → after.number ≡ due.number
+    → HasCompared after.stage (expected_below c.below ++ one (expected_in line.bytes)) c.text after.left → Compares lenient first (lines ++ line ∷ []) after last
+below_push lenient first lines due after last line c whole silent readable same compared = record {
   before = c.before;
   between = c.between;
   line = c.line;
@@ -226,16 +221,16 @@ below_push first lines due after last line c whole silent readable same compared
 }
 
 -- a silent line without an expectation
-pub silent_more : (first : State) (lines : List TextLine) (due : Option Due) (last : State) (line : TextLine) → AgreesSoFar first lines due last → IsWhole line → Silent line → is_marked line.bytes ≡ false
-    → AgreesSoFar first (lines ++ line ∷ []) due last
-silent_more first lines None last line a whole silent unmarked = record {
+pub silent_more : (lenient : Bool) (first : State) (lines : List TextLine) (due : Option Due) (last : State) (line : TextLine) → AgreesSoFar lenient first lines due last → IsWhole line → Silent line → is_marked line.bytes ≡ false
+    → AgreesSoFar lenient first (lines ++ line ∷ []) due last
+silent_more lenient first lines None last line a whole silent unmarked = record {
   silent = All-push Silent lines line a.silent silent;
   all_readable = All-push Readable lines line a.all_readable (unmarked_readable line unmarked);
   none_expected = below_one lines line a.silent silent ∙ ap (λ x. expected_below lines ++ one x) (unmarked_none line.bytes unmarked) ∙ append-nil (expected_below lines) ∙ a.none_expected;
   same = a.same;
 }
-silent_more first lines (Some due) last line a whole silent unmarked =
-    below_push first lines due due last line a whole silent (unmarked_readable line unmarked) refl
+silent_more lenient first lines (Some due) last line a whole silent unmarked =
+    below_push lenient first lines due due last line a whole silent (unmarked_readable line unmarked) refl
     (subst (λ (e : List (List ℕ)). HasCompared due.stage e a.text due.left)
     (sym (ap (λ x. expected_below a.below ++ one x) (unmarked_none line.bytes unmarked) ∙ append-nil (expected_below a.below))) a.compared)
 
@@ -255,21 +250,21 @@ answer_more expected answer text left later is next =
 
 -- an expectation that agrees
 takes_by : (before after : Due) (expected : List (List ℕ)) (answer text : List ℕ) → is_ended before.stage ≡ false → HasCompared before.stage expected text before.left
-    → ((is_rest answer ≡ true) × (after.stage ≡ Rest)) ⊎ ((is_next answer before.left ≡ true) × (after.left ≡ later_lines before.left) × (after.stage ≡ Begun))
+    → ((is_rest answer ≡ true) × (after.left ≡ before.left) × (after.stage ≡ Rest)) ⊎ ((is_next answer before.left ≡ true) × (after.left ≡ later_lines before.left) × (after.stage ≡ Begun))
     → HasCompared after.stage (expected ++ answer ∷ []) text after.left
 takes_by before after expected answer text not_ended h (inl all) =
     let is : answer ≡ rest = (bytes_eq-Decides answer rest).0 all.0 in
-    subst (λ (s : Stage). HasCompared s (expected ++ answer ∷ []) text after.left) (sym all.1)
-    (expected, before.left, ap (λ a. expected ++ a ∷ []) is, so_far before.stage expected text before.left not_ended h)
+    subst (λ (s : Stage). HasCompared s (expected ++ answer ∷ []) text after.left) (sym all.2)
+    (expected, ap (λ a. expected ++ a ∷ []) is, so_far before.stage expected text before.left not_ended h ∙ ap (λ x. lines_text expected ++ x) (sym all.1))
 takes_by before after expected answer text not_ended h (inr next) =
     let left : before.left ≡ (answer ++ 10 ∷ []) ++ after.left = next_in_front answer before.left next.0 ∙ ap (λ x. (answer ++ 10 ∷ []) ++ x) (sym next.1) in
     subst (λ (s : Stage). HasCompared s (expected ++ answer ∷ []) text after.left) (sym next.2)
     (omega (arith, length-append expected (answer ∷ [])), answer_more expected answer text before.left after.left (so_far before.stage expected text before.left not_ended h) left)
 
-pub expected_one : (first : State) (lines : List TextLine) (before after : Due) (last : State) (line : TextLine) (answer : List ℕ) → Compares first lines before last → IsWhole line → Silent line → is_marked line.bytes ≡ true
-    → expected_in line.bytes ≡ Some answer → is_ended before.stage ≡ false → Takes before answer after true → Compares first (lines ++ line ∷ []) after last
-expected_one first lines before after last line answer c whole silent marked is not_ended takes =
-    below_push first lines before after last line c whole silent (some_readable line answer marked is) takes.0
+pub expected_one : (lenient : Bool) (first : State) (lines : List TextLine) (before after : Due) (last : State) (line : TextLine) (answer : List ℕ) → Compares lenient first lines before last → IsWhole line → Silent line → is_marked line.bytes ≡ true
+    → expected_in line.bytes ≡ Some answer → is_ended before.stage ≡ false → Takes before answer after true → Compares lenient first (lines ++ line ∷ []) after last
+expected_one lenient first lines before after last line answer c whole silent marked is not_ended takes =
+    below_push lenient first lines before after last line c whole silent (some_readable line answer marked is) takes.0
     (subst (λ (o : Option (List ℕ)). HasCompared after.stage (expected_below c.below ++ one o) c.text after.left) (sym is)
     (takes_by before after (expected_below c.below) answer c.text not_ended c.compared takes.1))
 

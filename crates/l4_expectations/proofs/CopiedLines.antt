@@ -4,7 +4,7 @@ use Rattle.std.proofs.lemmas.Bool.{false≢true}
 use Rattle.std.proofs.lemmas.List.{append-nil, nil_from_length}
 use Rattle.std.proofs.lemmas.List.Elements.{All-push}
 use Rattle.std.specs.Prelude.{codes, MatchResult}
-use Rattle.std.specs.Io.KnownBytes.{Consumes}
+use Rattle.std.specs.Io.KnownBytes.{Consumes, IsAtEnd}
 use Rattle.std.specs.List.{All, position_or_len, flat_map}
 use mathlib.Core.List.{append_assoc}
 use Rattle.l4_text.specs.Grammar.{TextLine, lines_of, is_silent, ending_of}
@@ -19,10 +19,10 @@ use Rattle.l4_shell.specs.ByLines.{state_of, IsFirst as IsFirstRun}
 use Rattle.l4_shell.specs.Sessions.{State}
 use Rattle.l4_shell.specs.declared.by_lines.ScriptRun.{ScriptRun}
 use Rattle.l4_answers.proofs.AnswerTexts.{begins}
-use Rattle.l4_expectations.specs.Copies.{expecting, expecting_all, CopiesBy, CopiesLine, CopiesLines, NoneAnswered, RestExpected, IsMalformed, FailsAtFirst, CopiesFirst, IsCopy, CopiesScript}
+use Rattle.l4_expectations.specs.Copies.{expecting, expecting_all, CopiesBy, CopiesLine, CopiesLines, NoneAnswered, RestExpected, IsMalformed, FailsAtFirst, CopiesFirst, IsCopy, HasNoAnswers, CopiesScript}
 use Rattle.l4_expectations.specs.Expectations.{is_marked, expected_in, is_rest}
-use Rattle.l4_expectations.specs.Tests.{FailsAt, Passes}
-use Rattle.l4_expectations.specs.Inside.Copying.{IsFew, IsMemory, Added, Adds, IsLeftOut, NotLeftOut, above_after, GoesAbove, CopiesNext, FailsToCopy, IsNothing, CopiesSome, CopiesAll}
+use Rattle.l4_expectations.specs.Tests.{EndsInput, FailsAt, Passes, ExpectsNothing, Tests}
+use Rattle.l4_expectations.specs.Inside.Copying.{IsFew, IsMemory, Added, Adds, IsLeftOut, NotLeftOut, above_after, GoesAbove, CopiesNext, FailsToCopy, FailsCopy, IsNothing, CopiesSome, CopiesAll}
 use Rattle.l4_expectations.specs.Inside.Lines.{EndsWhole}
 use Rattle.l4_expectations.specs.declared.copying.Above.{Above}
 use Rattle.l4_expectations.specs.declared.copying.Above.TheVariants.{Nothing, Answers, Rest}
@@ -31,7 +31,7 @@ use Rattle.l4_expectations.specs.declared.copying.Copying.{Copying}
 use Rattle.l4_expectations.specs.declared.due.Due.{Due}
 use Rattle.l4_expectations.specs.declared.due.Stage.TheVariants.{Untouched}
 use Rattle.l4_expectations.specs.declared.outcomes.Failure.{Failure}
-use Rattle.l4_expectations.specs.declared.outcomes.Failure.TheVariants.{Differs, Malformed, Stopped}
+use Rattle.l4_expectations.specs.declared.outcomes.Failure.TheVariants.{Differs, Refused, NoExpectations, Malformed, Stopped}
 use Rattle.l4_expectations.specs.declared.outcomes.Fault.{Fault}
 use Rattle.l4_expectations.specs.declared.outcomes.Fault.TheVariants.{Cut, Long, NoAnswer, NoLine, AfterRest}
 use Rattle.l4_answers.proofs.Taking.{Taken, taken_none, taken_more, taken_with, rest_is, line_of_more, ending_whole, ending_long, something_kept, nothing_kept}
@@ -114,6 +114,8 @@ left_out (Ok done) m old new number line few silent marked h = record {
   few = subst IsFew (sym h.same) few;
 }
 left_out (Err (Differs difference)) m old new number line few silent marked h = absurd h
+left_out (Err (Refused refusal)) m old new number line few silent marked h = absurd h
+left_out (Err NoExpectations) m old new number line few silent marked h = absurd h
 left_out (Err (Malformed n fault)) m old new number line few silent marked h = (marked, h)
 left_out (Err (Stopped fault)) m old new number line few silent marked h = absurd h
 
@@ -269,23 +271,36 @@ ends_all first old mid new now after kept number last copying r a gives is =
     (some_with first old mid new now number last copying l.takes.read l.bytes [] a l.takes.from (rest_is mid new now after kept l) (ap lines_of none), sym all, g.1, refl)
 
 -- why an ending ends the copy
-malformed_ending : (failure : Failure) (lines : List TextLine) (number : ℕ) (ending : Ending) (bytes : List ℕ) → ((due : Option Due) → FailsAt due number ending bytes failure) → IsMalformed lines number ending bytes failure
-malformed_ending (Differs difference) lines number ending bytes h = elim (h None).1 [ inl no' ↦ no' | inr surplus ↦ surplus.1 ]
-malformed_ending (Malformed n Cut) lines number ending bytes h = h None
-malformed_ending (Malformed n Long) lines number ending bytes h = h None
-malformed_ending (Malformed n NoAnswer) lines number ending bytes h = h None
+malformed_ending : (failure : Failure) (lines : List TextLine) (number : ℕ) (ending : Ending) (bytes : List ℕ) → ((lenient : Bool) (due : Option Due) → FailsAt lenient due number ending bytes failure)
+    → IsMalformed lines number ending bytes failure
+malformed_ending (Differs difference) lines number ending bytes h = elim (h true None).1 [ inl no' ↦ no' | inr surplus ↦ surplus.1 ]
+malformed_ending (Refused refusal) lines number ending bytes h = (h true None).2
+malformed_ending NoExpectations lines number ending bytes h = h true None
+malformed_ending (Malformed n Cut) lines number ending bytes h = h true None
+malformed_ending (Malformed n Long) lines number ending bytes h = h true None
+malformed_ending (Malformed n NoAnswer) lines number ending bytes h = h true None
 malformed_ending (Malformed n NoLine) lines number ending bytes h =
     let due : Due = record { number = 0; left = []; stage = Untouched } in
-    let k : Some due ≡ None = (h (Some due)).3 in absurd (let no' : ⊥ = cc in no')
-malformed_ending (Malformed n AfterRest) lines number ending bytes h = absurd (h None).3
-malformed_ending (Stopped fault) lines number ending bytes h = absurd (h None)
+    let k : Some due ≡ None = (h true (Some due)).3 in absurd (let no' : ⊥ = cc in no')
+malformed_ending (Malformed n AfterRest) lines number ending bytes h = absurd (h true None).3
+malformed_ending (Stopped fault) lines number ending bytes h = absurd (h true None)
 
 -- the copy ends at this line
 ends_here : (failure : Failure) (first : State) (old new : Option (List ℕ)) (copying : Copying) (s : CopiesSome first old new) (line : TextLine) (later : List TextLine) → s.later ≡ line ∷ later
-    → IsMalformed s.lines (1 + length s.lines) (ending_of line) line.bytes failure → CopiesAll first old new copying (Err failure)
-ends_here (Differs difference) first old new copying s line later is h = h
-ends_here (Malformed n fault) first old new copying s line later is h = (s, subst (λ (ls : List TextLine). FailsAtFirst s.lines (1 + length s.lines) ls (Malformed n fault)) (sym is) h)
-ends_here (Stopped fault) first old new copying s line later is h = absurd h
+    → (ending_of line ≡ IsCut → IsAtEnd new) → IsMalformed s.lines (1 + length s.lines) (ending_of line) line.bytes failure → CopiesAll first old new copying (Err failure)
+ends_here (Differs difference) first old new copying s line later is end h = h
+ends_here (Refused refusal) first old new copying s line later is end h = h
+ends_here NoExpectations first old new copying s line later is end h = h
+ends_here (Malformed n fault) first old new copying s line later is end h =
+    (s, subst (λ (ls : List TextLine). FailsAtFirst s.lines (1 + length s.lines) ls (Malformed n fault)) (sym is) h, subst (λ (ls : List TextLine). EndsInput ls new) (sym is) end)
+ends_here (Stopped fault) first old new copying s line later is end h = absurd h
+
+-- a whole line is not cut
+whole_not_cut : (ending : Ending) (new : Option (List ℕ)) → ending ≡ Whole → ending ≡ IsCut → IsAtEnd new
+whole_not_cut ending new whole cut = let wrong : Whole ≡ IsCut = sym whole ∙ cut in absurd (let no' : ⊥ = cc in no')
+
+long_not_cut : (ending : Ending) (new : Option (List ℕ)) → ending ≡ TooLong → ending ≡ IsCut → IsAtEnd new
+long_not_cut ending new long cut = let wrong : TooLong ≡ IsCut = sym long ∙ cut in absurd (let no' : ⊥ = cc in no')
 
 pub ends_by : (ending : Ending) (first : State) (old mid new : Option (List ℕ)) (now after : List ℕ × ℕ) (kept : List ℕ × Bool) (number : ℕ) (last : State) (copying then' : Copying) (r : Option Ending) (failure : Failure)
     → SoFar first old mid now number last copying → GivesLine mid new now after kept (Ok r) → r ≡ Some ending → ((bytes : List ℕ) → EndsWhole number ending bytes (Err failure)) → CopiesAll first old new then' (Err failure)
@@ -296,7 +311,7 @@ ends_by Whole first old mid new now after kept number last copying then' r failu
     let line : TextLine = record { bytes = l.bytes; whole = true } in
     let e = ending_whole l.bytes kept l.kept_is g.1 in
     ends_here failure first old new then'
-    (some_with first old mid new now number last copying l.takes.read ((l.bytes ++ 10 ∷ []) ++ after.0) (line ∷ lines_of after.0) a l.takes.from l.takes.same (line_of_more mid new now after kept l)) line (lines_of after.0) refl
+    (some_with first old mid new now number last copying l.takes.read ((l.bytes ++ 10 ∷ []) ++ after.0) (line ∷ lines_of after.0) a l.takes.from l.takes.same (line_of_more mid new now after kept l)) line (lines_of after.0) refl (whole_not_cut (ending_of line) new e.0)
     (subst (λ (k : ℕ). IsMalformed a.lines k (ending_of line) l.bytes failure) a.taken.number_is (subst (λ (x : Ending). IsMalformed a.lines number x l.bytes failure) (sym e.0) (malformed_ending failure a.lines number Whole l.bytes (by l.bytes))))
 ends_by TooLong first old mid new now after kept number last copying then' r failure a gives is by =
     let g = subst (λ (o : Option Ending). GivesLine mid new now after kept (Ok o)) is gives in
@@ -304,7 +319,7 @@ ends_by TooLong first old mid new now after kept number last copying then' r fai
     let line : TextLine = record { bytes = l.bytes; whole = true } in
     let e = ending_long l.bytes kept l.kept_is g.1 in
     ends_here failure first old new then'
-    (some_with first old mid new now number last copying l.takes.read ((l.bytes ++ 10 ∷ []) ++ after.0) (line ∷ lines_of after.0) a l.takes.from l.takes.same (line_of_more mid new now after kept l)) line (lines_of after.0) refl
+    (some_with first old mid new now number last copying l.takes.read ((l.bytes ++ 10 ∷ []) ++ after.0) (line ∷ lines_of after.0) a l.takes.from l.takes.same (line_of_more mid new now after kept l)) line (lines_of after.0) refl (long_not_cut (ending_of line) new e)
     (subst (λ (k : ℕ). IsMalformed a.lines k (ending_of line) l.bytes failure) a.taken.number_is (subst (λ (x : Ending). IsMalformed a.lines number x l.bytes failure) (sym e) (malformed_ending failure a.lines number TooLong l.bytes (by l.bytes))))
 ends_by IsCut first old mid new now after kept number last copying then' r failure a gives is by =
     let g = subst (λ (o : Option Ending). GivesLine mid new now after kept (Ok o)) is gives in
@@ -312,7 +327,7 @@ ends_by IsCut first old mid new now after kept number last copying then' r failu
     let some : 0 < length (take 4096 l.bytes) = omega (arith, g.2, ap (λ k. length k.0) l.kept_is) in
     let line : TextLine = record { bytes = l.bytes; whole = false } in
     ends_here failure first old new then'
-    (some_with first old mid new now number last copying l.takes.read l.bytes (line ∷ []) a l.takes.from (rest_is mid new now after kept l) (cut_line l.bytes l.plain (something_kept l.bytes some))) line [] refl
+    (some_with first old mid new now number last copying l.takes.read l.bytes (line ∷ []) a l.takes.from (rest_is mid new now after kept l) (cut_line l.bytes l.plain (something_kept l.bytes some))) line [] refl (λ cut. g.1)
     (subst (λ (k : ℕ). IsMalformed a.lines k IsCut l.bytes failure) a.taken.number_is (malformed_ending failure a.lines number IsCut l.bytes (by l.bytes)))
 
 -- why a line is malformed
@@ -329,13 +344,15 @@ pub ends_at : (first : State) (old mid new : Option (List ℕ)) (now after : Lis
     → CopiesAll first old new then' (Err failure)
 unfolding some_with
 ends_at first old mid new now after kept number last copying then' r ending bytes (Differs difference) a gives is whole same told = absurd told
+ends_at first old mid new now after kept number last copying then' r ending bytes (Refused refusal) a gives is whole same told = absurd told
+ends_at first old mid new now after kept number last copying then' r ending bytes NoExpectations a gives is whole same told = absurd told
 ends_at first old mid new now after kept number last copying then' r ending bytes (Malformed n fault) a gives is whole same told =
     let g = subst (λ (o : Option Ending). GivesLine mid new now after kept (Ok o)) (is ∙ ap Some whole) gives in
     let l = g.0 in
     let line : TextLine = record { bytes = l.bytes; whole = true } in
     let e = ending_whole l.bytes kept l.kept_is g.1 in
     ends_here (Malformed n fault) first old new then'
-    (some_with first old mid new now number last copying l.takes.read ((l.bytes ++ 10 ∷ []) ++ after.0) (line ∷ lines_of after.0) a l.takes.from l.takes.same (line_of_more mid new now after kept l)) line (lines_of after.0) refl
+    (some_with first old mid new now number last copying l.takes.read ((l.bytes ++ 10 ∷ []) ++ after.0) (line ∷ lines_of after.0) a l.takes.from l.takes.same (line_of_more mid new now after kept l)) line (lines_of after.0) refl (whole_not_cut (ending_of line) new e.0)
     (subst (λ (k : ℕ). IsMalformed a.lines k (ending_of line) l.bytes (Malformed n fault)) a.taken.number_is
     (subst (λ (x : Ending). IsMalformed a.lines number x l.bytes (Malformed n fault)) (sym e.0)
     (malformed_line fault n a.lines copying.above number l.bytes a.above (subst (λ (b : List ℕ). FailsToCopy copying.above number b (Malformed n fault)) (same ∙ e.1) told))))
@@ -369,13 +386,15 @@ pub copies_err : (failure : Failure) (frames : ℕ) (size : PageSize) (run : Scr
     → CopiesAll (state_of run) old new copying (Err failure) → CopiesScript frames size old new (Err failure)
 unfolding first_of
 copies_err (Differs difference) frames size run old new copying b h = absurd h
-copies_err (Malformed n fault) frames size run old new copying b h = (first_of frames size run old new b h.0, h.1)
+copies_err (Refused refusal) frames size run old new copying b h = absurd h
+copies_err NoExpectations frames size run old new copying b h = absurd h
+copies_err (Malformed n fault) frames size run old new copying b h = (first_of frames size run old new b h.0, h.1, h.2)
 copies_err (Stopped Read) frames size run old new copying b h = (first_of frames size run old new b h.0, h.1)
 copies_err (Stopped Write) frames size run old new copying b h = absurd h
 copies_err (Stopped Memory) frames size run old new copying b h = inr (first_of frames size run old new b h)
 
 pub copies_ok : (frames : ℕ) (size : PageSize) (run : ScriptRun) (old new left : Option (List ℕ)) (copying : Copying) (copied : Copied) → IsFirstRun frames size run → CopiesAll (state_of run) old new copying (Ok tt)
-    → copied.text.items ≡ copying.text.items → Passes frames size (Some copied.text.items) left copied.size → IsCopy frames size old new copied
+    → copied.text.items ≡ copying.text.items → Passes false frames size (Some copied.text.items) left copied.size → IsCopy frames size old new copied
 unfolding first_of
 copies_ok frames size run old new left copying copied b h same passes = record {
   first = first_of frames size run old new b h.0;
@@ -386,10 +405,34 @@ copies_ok frames size run old new left copying copied b h same passes = record {
   passes = passes;
 }
 
+-- no line has answers
+copies_none : (frames : ℕ) (size : PageSize) (run : ScriptRun) (old new left : Option (List ℕ)) (copying : Copying) → IsFirstRun frames size run → CopiesAll (state_of run) old new copying (Ok tt)
+    → ExpectsNothing false frames size (Some copying.text.items) left → HasNoAnswers frames size old new
+unfolding first_of
+copies_none frames size run old new left copying b h none = record {
+  first = first_of frames size run old new b h.0;
+  all = h.1;
+  ended = h.2;
+  left = left;
+  none = subst (λ (t : List ℕ). ExpectsNothing false frames size (Some t) left) h.3 none;
+}
+
 -- the copy was not tested to its end
-pub copies_not : (failure : Failure) (frames : ℕ) (size : PageSize) (run : ScriptRun) (old new : Option (List ℕ)) (copying : Copying) → IsFirstRun frames size run → CopiesAll (state_of run) old new copying (Ok tt)
+copies_not : (failure : Failure) (frames : ℕ) (size : PageSize) (run : ScriptRun) (old new : Option (List ℕ)) (copying : Copying) → IsFirstRun frames size run → CopiesAll (state_of run) old new copying (Ok tt)
     → IsMemory failure → CopiesScript frames size old new (Err failure)
 copies_not (Differs difference) frames size run old new copying b h m = absurd m
+copies_not (Refused refusal) frames size run old new copying b h m = absurd m
+copies_not NoExpectations frames size run old new copying b h m = absurd m
 copies_not (Malformed n fault) frames size run old new copying b h m = absurd m
 copies_not (Stopped fault) frames size run old new copying b h m =
     subst (λ (f : RunFault). CopiesScript frames size old new (Err (Stopped f))) (sym m) (inr (first_of frames size run old new b h.0))
+
+-- the copy was tested, and does not pass
+pub copies_failed : (tested failure : Failure) (frames : ℕ) (size : PageSize) (run : ScriptRun) (old new left : Option (List ℕ)) (copying : Copying) → IsFirstRun frames size run → CopiesAll (state_of run) old new copying (Ok tt)
+    → Tests false frames size (Some copying.text.items) left (Err tested) → FailsCopy tested failure → CopiesScript frames size old new (Err failure)
+copies_failed NoExpectations failure frames size run old new left copying b h fails f =
+    subst (λ (x : Failure). CopiesScript frames size old new (Err x)) (sym f) (copies_none frames size run old new left copying b h fails)
+copies_failed (Differs difference) failure frames size run old new left copying b h fails f = copies_not failure frames size run old new copying b h f
+copies_failed (Refused refusal) failure frames size run old new left copying b h fails f = copies_not failure frames size run old new copying b h f
+copies_failed (Malformed n fault) failure frames size run old new left copying b h fails f = copies_not failure frames size run old new copying b h f
+copies_failed (Stopped fault) failure frames size run old new left copying b h fails f = copies_not failure frames size run old new copying b h f

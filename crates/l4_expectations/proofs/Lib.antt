@@ -1,3 +1,4 @@
+mod Refusing
 mod Agreeing
 mod Answering
 mod TestedLines

@@ -11,10 +11,10 @@ use Rattle.l4_text.specs.declared.faults.RunFault.TheVariants.{Read, Write, Memo
 use Rattle.l4_shell.specs.Sessions.{State, first_state}
 use Rattle.l4_expectations.specs.declared.copying.Copied.{Copied}
 use Rattle.l4_expectations.specs.declared.outcomes.Failure.{Failure}
-use Rattle.l4_expectations.specs.declared.outcomes.Failure.TheVariants.{Malformed, Stopped}
+use Rattle.l4_expectations.specs.declared.outcomes.Failure.TheVariants.{NoExpectations, Malformed, Stopped}
 use Rattle.l4_expectations.specs.declared.outcomes.Fault.TheVariants.{Cut, Long, NoAnswer, NoLine, AfterRest}
 use Rattle.l4_expectations.specs.Expectations.{is_marked, expected_in, is_rest, HasAnswers}
-use Rattle.l4_expectations.specs.Tests.{Passes}
+use Rattle.l4_expectations.specs.Tests.{EndsInput, Passes, ExpectsNothing}
 
 -- THE LINES OF A COPY
 
@@ -101,13 +101,23 @@ pub record IsCopy (frames : ℕ) (size : PageSize) (old new : Option (List ℕ))
   pub ended : IsAtEnd new
   pub copy_is : copied.text.items ≡ first.copy
   pub left : Option (List ℕ)
-  pub passes : Passes frames size (Some copied.text.items) left copied.size
+  pub passes : Passes false frames size (Some copied.text.items) left copied.size
 
--- A COPY OF A SCRIPT, or why there is none: the first line that cannot be part of a test, or because a read failed, or because memory ran out, which
--- can happen at the start, at any line, and in the test of the copy.
+-- all lines of what was read, to the end of the input, were copied, and the copy expects nothing
+pub record HasNoAnswers (frames : ℕ) (size : PageSize) (old new : Option (List ℕ)) : Type 0 where
+  pub first : CopiesFirst frames size old new
+  pub all : first.lines ≡ lines_of first.read
+  pub ended : IsAtEnd new
+  pub left : Option (List ℕ)
+  pub none : ExpectsNothing false frames size (Some first.copy) left
+
+-- A COPY OF A SCRIPT, or why there is none: the first line that cannot be part of a test, or because no line has answers, or because a read failed,
+-- or because memory ran out, which can happen at the start, at any line, and in the test of the copy.
 abbrev pub CopiesScript : ℕ → PageSize → Option (List ℕ) → Option (List ℕ) → Result Copied Failure → Type 0
 CopiesScript frames size old new (Ok copied) = IsCopy frames size old new copied
+CopiesScript frames size old new (Err NoExpectations) = HasNoAnswers frames size old new
 CopiesScript frames size old new (Err (Stopped Read)) = (a : CopiesFirst frames size old new) × (filter (λ line. line.whole) a.later ≡ [])
 CopiesScript frames size old new (Err (Stopped Write)) = ⊥
 CopiesScript frames size old new (Err (Stopped Memory)) = (new ≡ old) ⊎ CopiesFirst frames size old new
-CopiesScript frames size old new (Err failure) = (a : CopiesFirst frames size old new) × FailsAtFirst a.lines (1 + length a.lines) a.later failure
+CopiesScript frames size old new (Err failure) =
+    (a : CopiesFirst frames size old new) × FailsAtFirst a.lines (1 + length a.lines) a.later failure × EndsInput a.later new

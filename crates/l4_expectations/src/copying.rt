@@ -4,7 +4,7 @@ ghost use Rattle.l4_fpage.specs.Pages.{max_frames};
 ghost use Rattle.l4_shell.specs.ByLines.{state_of};
 ghost use Rattle.l4_text.specs.Grammar.{lines_of};
 ghost use Rattle.l4_expectations.specs.Copies.{expecting_all, CopiesScript};
-ghost use Rattle.l4_expectations.specs.Inside.Copying.{Adds, AddsAnswered, IsLeftOut, NotLeftOut, CopiesNext, FailsToCopy, CopiesAll, IsNothing, IsFew, IsMemory};
+ghost use Rattle.l4_expectations.specs.Inside.Copying.{Adds, AddsAnswered, IsLeftOut, NotLeftOut, CopiesNext, FailsToCopy, CopiesAll, FailsCopy, IsNothing, IsFew, IsMemory};
 ghost use Rattle.l4_expectations.specs.declared.copying.Above.TheVariants.{Answers};
 
 use crate::due::is_rest;
@@ -50,6 +50,16 @@ fn no_memory() -> Failure
     ensures { IsMemory result }
 {
     Failure::Stopped(RunFault::Memory)
+}
+
+/// Why there is no copy, where the test of the copy fails with this failure: it expects nothing, or there was not enough memory.
+fn copy_failure(failure: Failure) -> Failure
+    ensures { FailsCopy failure result }
+{
+    match failure {
+        Failure::NoExpectations => Failure::NoExpectations,
+        _ => no_memory(),
+    }
 }
 
 impl Copying {
@@ -179,10 +189,12 @@ impl Copying {
 /// that has answers, the copy expects all of them. The expectations of the script are left out. All other lines are as they were, in the same
 /// order.
 ///
-/// A line's refusal has the number of the line in the copy. The copy passes the test: before it is returned, `test_script` has tested it.
+/// A line's refusal has the number of the line in the copy. The copy passes the test, which is not lenient: before it is returned,
+/// `test_script` has tested it.
 ///
-/// Returns these failures, whichever comes first: `Malformed` with the first line that cannot be part of a test; `Stopped` if a read failed
-/// or there was not enough memory, which is possible at the start and at any line, and also when the copy is tested.
+/// Returns these failures, whichever comes first: `Malformed` with the first line that cannot be part of a test; `NoExpectations` if no line
+/// has answers; `Stopped` if a read failed or there was not enough memory, which is possible at the start and at any line, and also when the
+/// copy is tested.
 pub fn copy_script<R: Read>(
     alloc: Global,
     frames: u32,
@@ -206,11 +218,11 @@ pub fn copy_script<R: Read>(
         Err(failure) => return Err(failure),
     }
     let mut rest = copying.text.as_slice();
-    match test_script(alloc, frames, size, &mut rest) {
+    match test_script(alloc, frames, size, false, &mut rest) {
         Ok(passed) => Ok(Copied {
             text: copying.text,
             size: passed,
         }),
-        Err(_) => Err(no_memory()),
+        Err(failure) => Err(copy_failure(failure)),
     }
 }

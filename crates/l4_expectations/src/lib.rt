@@ -5,8 +5,9 @@ mod copying;
 mod due;
 mod marks;
 mod outcomes;
+mod refusals;
 mod testing;
 
 pub use copying::{Copied, copy_script};
-pub use outcomes::{Difference, Failure, Fault, Passed};
+pub use outcomes::{Difference, Failure, Fault, Passed, UnexpectedRefusal};
 pub use testing::{answered, test_script};

@@ -21,6 +21,15 @@ pub struct Difference {
     pub found: Vec<u8>,
 }
 
+/// The first refusal that no expectation states.
+#[derive(Drop)]
+pub struct UnexpectedRefusal {
+    /// The number of the line.
+    pub line: u64,
+    /// The answer that refuses the line, or a call of a served thread.
+    pub answer: Vec<u8>,
+}
+
 /// Why a line cannot be part of a test.
 #[derive(Clone, Copy)]
 pub enum Fault {
@@ -41,6 +50,10 @@ pub enum Fault {
 pub enum Failure {
     /// An answer is not the expected one.
     Differs(Difference),
+    /// A line, or a call of a served thread, is refused, and no expectation says so. A lenient test allows this.
+    Refused(UnexpectedRefusal),
+    /// The script expects no answers. A lenient test allows this.
+    NoExpectations,
     /// The line of this number cannot be part of a test.
     Malformed(u64, Fault),
     /// A read failed, or there was not enough memory.

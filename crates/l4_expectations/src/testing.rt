@@ -4,12 +4,13 @@ ghost use Rattle.std.specs.Option.{option_copied};
 ghost use Rattle.l4_fpage.specs.Pages.{max_frames};
 ghost use Rattle.l4_shell.specs.ByLines.{state_of};
 ghost use Rattle.l4_expectations.specs.Expectations.{HasAnswers};
-ghost use Rattle.l4_expectations.specs.Tests.{is_ended, has_surplus, Tests};
-ghost use Rattle.l4_expectations.specs.Inside.Lines.{Reports, EndsWhole, Closes, ComparesAnswer, AnswersNext, TestsLine, TestsEnd, TestsLines, IsFirst};
+ghost use Rattle.l4_expectations.specs.Tests.{is_ended, is_test, allows_more, Tests};
+ghost use Rattle.l4_expectations.specs.Inside.Lines.{Reports, ReportsRefusal, EndsWhole, Closes, ComparesAnswer, AnswersNext, TestsLine, TestsEnd, TestsLines, IsFirst};
 
 use crate::due::{Due, Stage};
 use crate::marks::{expected_in, is_marked, is_silent};
-use crate::outcomes::{Difference, Failure, Fault, Passed};
+use crate::outcomes::{Difference, Failure, Fault, Passed, UnexpectedRefusal};
+use crate::refusals::find_refusal;
 use l4_answers::{AnswerLines, Sink};
 use l4_fpage::PageSize;
 use l4_shell::ScriptRun;
@@ -22,6 +23,8 @@ use std::io::Read;
 #[derive(Drop)]
 pub(crate) struct Tested {
     alloc: Global,
+    /// Whether refusals need no expectation, and the script need not expect anything.
+    lenient: bool,
     due: Option<Due>,
     expectations: u64,
 }
@@ -61,28 +64,48 @@ fn is_ended(due: &Due) -> bool
     }
 }
 
-/// Whether answers are left of a line with expectations.
-fn has_surplus(due: &Due) -> bool
-    ensures { result ≡ has_surplus (Some due.now) }
+/// Whether the answers that are left need not be expected one by one.
+fn allows_more(due: &Due) -> bool
+    ensures { result ≡ allows_more due.now.stage }
 {
     match due.stage {
-        Stage::Untouched => false,
-        Stage::Begun => !due.left.is_empty(),
-        Stage::Rest => false,
+        Stage::Untouched => true,
+        Stage::Begun => false,
+        Stage::Rest => true,
     }
 }
 
-/// Tests at the next line with answers, or at the end, that no answers are left of a line with expectations.
-fn close(alloc: Global, due: Option<&Due>) -> Result<(), Failure>
-    ensures { Closes (option_copied due.entry) result }
+/// The failure of a refusal, among the answers to the line of this number, that no expectation states.
+fn unexpected(alloc: Global, line: u64, answer: &[u8]) -> Failure
+    ensures { ReportsRefusal line answer.now result }
 {
-    let Some(due) = due else {
+    match copied(alloc, answer) {
+        Some(answer) => Failure::Refused(UnexpectedRefusal { line, answer }),
+        None => Failure::Stopped(RunFault::Memory),
+    }
+}
+
+/// Tests at the next line with answers, or at the end, that the answers that are left agree with what is expected: none is left of a line
+/// whose answers are expected one by one. Otherwise none of them is a refusal, unless the test is lenient.
+fn close(alloc: Global, lenient: bool, due: Option<Due>) -> Result<(), Failure>
+    ensures { Closes lenient due result }
+{
+    let Some(mut due) = due else {
         return Ok(());
     };
-    if !has_surplus(due) {
+    if !allows_more(&due) {
+        if due.left.is_empty() {
+            return Ok(());
+        }
+        return Err(differing(alloc, due.number, b"", due.left.first()));
+    }
+    if lenient {
         return Ok(());
     }
-    Err(differing(alloc, due.number, b"", due.left.first()))
+    if find_refusal(&mut due.left) {
+        return Err(unexpected(alloc, due.number, due.left.first()));
+    }
+    Ok(())
 }
 
 /// The text of the answers to a line. None if there is not enough memory.
@@ -124,7 +147,7 @@ fn answer(run: &mut ScriptRun, tested: &mut Tested, number: u64, line: &[u8]) ->
     ensures { AnswersNext (state_of run.old) tested.old number line.now (state_of run.new)
         tested.new result }
 {
-    match close(tested.alloc, tested.due.as_ref()) {
+    match close(tested.alloc, tested.lenient, tested.due.take()) {
         Ok(()) => {}
         Err(failure) => return Err(failure),
     }
@@ -173,17 +196,28 @@ pub(crate) fn check_ending(number: u64, ending: Ending) -> Result<(), Failure>
     }
 }
 
-/// Tests the end of a script with this number of lines.
-fn test_end(tested: &Tested, lines: u64) -> Result<Passed, Failure>
-    ensures { TestsEnd tested.now lines result }
+/// Whether a script with this number of expectations is a test.
+fn is_test(lenient: bool, expectations: u64) -> bool
+    ensures { result ≡ is_test lenient expectations }
 {
-    match close(tested.alloc, tested.due.as_ref()) {
-        Ok(()) => Ok(Passed {
-            lines,
-            expectations: tested.expectations,
-        }),
-        Err(failure) => Err(failure),
+    lenient || expectations != 0
+}
+
+/// Tests the end of a script with this number of lines.
+fn test_end(tested: &mut Tested, lines: u64) -> Result<Passed, Failure>
+    ensures { TestsEnd tested.old lines result }
+{
+    match close(tested.alloc, tested.lenient, tested.due.take()) {
+        Ok(()) => {}
+        Err(failure) => return Err(failure),
     }
+    if !is_test(tested.lenient, tested.expectations) {
+        return Err(Failure::NoExpectations);
+    }
+    Ok(Passed {
+        lines,
+        expectations: tested.expectations,
+    })
 }
 
 /// Tests line after line, to the end of the script or to the first failure.
@@ -193,7 +227,7 @@ fn test_lines<R: Read>(
     reader: &mut R,
 ) -> Result<Passed, Failure>
     requires { IsFirst tested.old }
-    ensures { TestsLines (state_of run.old) (R.remaining reader.old) (R.remaining reader.new)
+    ensures { TestsLines tested.old.lenient (state_of run.old) (R.remaining reader.old) (R.remaining reader.new)
         result }
 {
     let mut lines = LineReader::new();
@@ -222,25 +256,28 @@ fn test_lines<R: Read>(
 ///
 /// An expectation is a line of `#= ` and an answer. It belongs to the nearest line above it that is neither empty nor a comment. The
 /// expectations of a line are all of its answers, in order. If the last one is `..`, further answers may follow. A line without
-/// expectations may have any answers. A line's refusal is an answer.
+/// expectations may have any answers. A refusal is an answer that has to be expected: neither `..` nor a line without expectations allows
+/// one, and a script that expects nothing does not pass. A lenient test allows both.
 ///
 /// Returns the number of lines and of expectations if all agree. Returns these failures, whichever comes first: `Differs` with the first
-/// difference; `Malformed` with the first line that cannot be part of a test; `Stopped` if a read failed or there was not enough memory,
-/// which is possible at the start and at any line.
+/// difference; `Refused` with the first refusal that is not expected; `Malformed` with the first line that cannot be part of a test;
+/// `NoExpectations` at the end; `Stopped` if a read failed or there was not enough memory, which is possible at the start and at any line.
 pub fn test_script<R: Read>(
     alloc: Global,
     frames: u32,
     size: PageSize,
+    lenient: bool,
     reader: &mut R,
 ) -> Result<Passed, Failure>
     requires { frames ≤ max_frames }
-    ensures { Tests frames size (R.remaining reader.old) (R.remaining reader.new) result }
+    ensures { Tests lenient frames size (R.remaining reader.old) (R.remaining reader.new) result }
 {
     let Some(mut run) = ScriptRun::new(alloc, frames, size) else {
         return Err(Failure::Stopped(RunFault::Memory));
     };
     let mut tested = Tested {
         alloc,
+        lenient,
         due: None,
         expectations: 0,
     };

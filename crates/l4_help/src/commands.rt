@@ -207,20 +207,27 @@ ignores the '#!' line too: give it these options on its command line.
   #! --frames N --page-size BYTES
                              as the first line, sets options of 'l4 run'
 
-A line without expectations may have any answers, so it passes even if it is
-refused. The refusal of a line is an answer. Prints one line per file:
+A line without expectations may have any answers but a refusal. The refusal of a
+line, or of a call of a served thread, has to be expected by its text: '#= ..' does
+not allow it. A script without an expectation tests nothing, and does not pass. With
+--lenient, both pass. Prints one line per file:
 
   FILE: N lines, M expectations, passed
   FILE: line L: expected ANSWER, found ANSWER
 
 The second form is the first difference. 'no further answer' stands for an answer
-that is not there. If there are more answers than expected, L is the line that they
-answer. Expectations are answers without the additions of --explain, --number and
---moves.
+that is not there. If there are more answers than expected, or a refusal is not
+expected ('no refusal'), L is the line that they answer. Expectations are answers
+without the additions of --explain, --number and --moves.
 
-A file whose name ends in .litmus or .plan is a litmus test (see l4 orders). At most
-1,000,000 states are visited. It passes if every order was followed and no rule is
-broken. Prints its summary, and below it the rules that are broken, as 'l4 orders' does:
+In TAP, '\\#' stands for '#' in names and answers, '\\\\' for a backslash and '\\n' for a
+newline, so that no part of them is a directive.
+
+A file with an 'unordered' line, or whose name ends in .litmus or .plan, is a litmus
+test (see l4 orders). At most 1,000,000 states are visited. It passes if it has a
+rule, every order was followed and no rule is broken. Without a rule, it passes only
+with --lenient. Prints its summary, and below it the rules that are broken, as
+'l4 orders' does:
 
   FILE: N outcomes, M orders, S states, passed
   FILE: N outcomes, M orders, S states, failed
@@ -228,16 +235,17 @@ broken. Prints its summary, and below it the rules that are broken, as 'l4 order
 With --write, no script is compared. A copy of each script is written to FILE.new.
 It expects all answers, directly below their lines. It has no other expectations, so
 '#= ..' is replaced too. All other lines are as in FILE, in the same order. The copy
-passes the test. FILE itself is not changed, and a FILE.new that exists is not
-overwritten. A litmus test has no expectations, so it is refused. Prints one line
-per file:
+passes the test: it expects refusals too. If no line has answers, there is no copy.
+FILE itself is not changed, and a FILE.new that exists is not overwritten. A
+litmus test has no expectations, so it is refused. Prints one line per file:
 
   FILE: N lines, M expectations, written to FILE.new
 
 Exit status: 0 if all files pass, or all copies are written, 1 if an answer differs,
-a rule is broken or not every order was followed, 2 if the command line or a file is
-invalid or FILE cannot be opened, 3 if a read or a write failed, 4 if there was not
-enough memory. With several files, the greatest of their statuses.";
+a refusal is not expected, a rule is broken or not every order was followed, 2 if the
+command line or a file is invalid, a file tests nothing or FILE cannot be opened, 3 if
+a read or a write failed, 4 if there was not enough memory. With several files, the
+greatest of their statuses.";
 
 /// The help of `l4 orders`.
 pub const ORDERS: &str = "\

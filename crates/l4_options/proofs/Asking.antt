@@ -134,7 +134,7 @@ asks_in_range name found (Plan region size) asks = tt
 asks_in_range name found (Check region size) asks = tt
 asks_in_range name found (Decode words reading size) asks = tt
 asks_in_range name found (Encode words) asks = tt
-asks_in_range name found (Test files tap write) asks = tt
+asks_in_range name found (Test files tap write lenient) asks = tt
 asks_in_range name found (Orders plan most witness brief dot) asks = frames_fit found plan.frames asks.1.frames
 asks_in_range name found (Show text) asks = tt
 
@@ -149,7 +149,7 @@ text_in_range (Plan region size) text = tt
 text_in_range (Check region size) text = tt
 text_in_range (Decode words reading size) text = tt
 text_in_range (Encode words) text = tt
-text_in_range (Test files tap write) text = tt
+text_in_range (Test files tap write lenient) text = tt
 text_in_range (Orders plan most witness brief dot) text = absurd text
 text_in_range (Show text) is = tt
 

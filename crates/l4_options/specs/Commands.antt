@@ -77,7 +77,7 @@ abbrev pub encode_command : Shape
 encode_command = command (codes "encode") (needed_words (codes "tokens") ∷ option (codes "as") ∷ option (codes "page-size") ∷ [])
 
 abbrev pub test_command : Shape
-test_command = command (codes "test") (needed_words (codes "files") ∷ switch (codes "tap") ∷ switch (codes "write") ∷ [])
+test_command = command (codes "test") (needed_words (codes "files") ∷ switch (codes "tap") ∷ switch (codes "write") ∷ switch (codes "lenient") ∷ [])
 
 abbrev pub orders_command : Shape
 orders_command = command (codes "orders") (
@@ -135,9 +135,9 @@ Asks name found (Check region size) = (name ≡ codes "check") × IsRegionIn fou
 Asks name found (Decode words reading size) =
     (name ≡ codes "decode") × AreNumbersIn found words.items × IsReadingIn found (length words.items) reading × IsSizeIn found size
 Asks name found (Encode words) = (name ≡ codes "encode") × AreEncodedIn found words.items
-Asks name found (Test files tap write) =
+Asks name found (Test files tap write lenient) =
     (name ≡ codes "test") × AreFilesIn found (map string_bytes files.items) × (tap ≡ is_on found (codes "tap")) × (write ≡ is_on found (codes "write"))
-    × (tap && write ≡ false)
+    × (lenient ≡ is_on found (codes "lenient")) × (tap && write ≡ false) × (lenient && write ≡ false)
 Asks name found (Orders plan most witness brief dot) =
     (name ≡ codes "orders") × IsScriptIn found plan × IsCountAt found (codes "most") most × IsChosenAt found (codes "witness") witness
     × (brief ≡ is_on found (codes "outcomes")) × (dot ≡ is_on found (codes "dot")) × (dot && is_some witness ≡ false) × (dot && brief ≡ false)

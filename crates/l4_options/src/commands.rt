@@ -393,7 +393,7 @@ fn requested<'a, S: AsStr>(alloc: Global, words: &'a [S]) -> Result<Options, Opt
 
 /// Reads the words of the command line, the program's name first:
 /// `l4 run [FILE] [--frames N] [--strict] [--explain] [--number] [--moves] [--history-to SEGMENTS]`, `l4 history [FILE] [--frames N] [--strict] [--answers]`, `l4 history --from SEGMENTS.. [--answers]`,
-/// `l4 judge [FILE] [--frames N] [--against LIST] [--partial] [--all]`, `l4 why THREAD PAGE [FILE] [--frames N] [--strict]`, `l4 why THREAD PAGE --from SEGMENTS..`, `l4 plan SOURCE TARGET COUNT RIGHTS`, `l4 check` with the same words, `l4 decode [--as READING] WORD..`, `l4 encode [--as KIND] TOKEN..`, `l4 test FILE.. [--tap] [--write]`, `l4 orders [FILE] [--frames N] [--most N] [--witness K] [--outcomes] [--dot]`, each with
+/// `l4 judge [FILE] [--frames N] [--against LIST] [--partial] [--all]`, `l4 why THREAD PAGE [FILE] [--frames N] [--strict]`, `l4 why THREAD PAGE --from SEGMENTS..`, `l4 plan SOURCE TARGET COUNT RIGHTS`, `l4 check` with the same words, `l4 decode [--as READING] WORD..`, `l4 encode [--as KIND] TOKEN..`, `l4 test FILE.. [--tap] [--write] [--lenient]`, `l4 orders [FILE] [--frames N] [--most N] [--witness K] [--outcomes] [--dot]`, each with
 /// `--page-size BYTES` where that is wanted, `--help`, `help` or `--version`. N is 256 and BYTES 4096 where they are left out; READING is
 /// message, fpage, window or id.
 ///

@@ -81,12 +81,14 @@ pub enum Options {
         reading: Reading,
         size: PageSize,
     },
-    /// Compares the answers to the scripts in these files with those that they expect. Prints the results in TAP if `tap`. If `write`, writes
-    /// copies that expect the actual answers instead. Not both are set.
+    /// Compares the answers to the scripts in these files with those that they expect. If `lenient`, refusals need not be expected, and
+    /// neither need anything else. Prints the results in TAP if `tap`. If `write`, writes copies that expect the actual answers instead; then
+    /// neither `tap` nor `lenient` is set.
     Test {
         files: Vec<String>,
         tap: bool,
         write: bool,
+        lenient: bool,
     },
     /// Prints every outcome that some order of the calls of a plan's threads can have, after visiting at most this many states. Prints only
     /// the script that produces outcome `witness`, if there is one, leaves out the orders if `brief`, and prints the graph of the states

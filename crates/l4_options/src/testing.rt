@@ -30,6 +30,16 @@ fn write_option<'a>(alloc: Global) -> Arg<'a>
         .action(ArgAction::SetTrue)
 }
 
+/// The option `--lenient`.
+fn lenient_option<'a>(alloc: Global) -> Arg<'a>
+    ensures { IsRule (switch (codes "lenient")) result }
+{
+    Arg::new(alloc, "lenient")
+        .long("lenient")
+        .help("Pass files that expect nothing, and refusals that are not expected")
+        .action(ArgAction::SetTrue)
+}
+
 /// The command `test`.
 pub(crate) fn of_files<'a>(alloc: Global) -> Result<Command<'a>, AllocError>
     ensures { IfOk result (IsCommand test_command) }
@@ -44,7 +54,8 @@ pub(crate) fn of_files<'a>(alloc: Global) -> Result<Command<'a>, AllocError>
             "The scripts with the answers that they expect",
         ))?
         .arg(tap_option(alloc))?
-        .arg(write_option(alloc))
+        .arg(write_option(alloc))?
+        .arg(lenient_option(alloc))
 }
 
 /// A copy of these names. None if there is not enough memory.
@@ -80,5 +91,14 @@ pub(crate) fn test_options(alloc: Global, matches: &ArgMatches<'_>) -> Result<Op
     if tap && write {
         return Err(OptionFault::Exclude("--tap", "--write"));
     }
-    Ok(Options::Test { files, tap, write })
+    let lenient = is_on(matches, "lenient");
+    if lenient && write {
+        return Err(OptionFault::Exclude("--lenient", "--write"));
+    }
+    Ok(Options::Test {
+        files,
+        tap,
+        write,
+        lenient,
+    })
 }

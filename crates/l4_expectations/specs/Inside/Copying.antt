@@ -8,11 +8,12 @@ use Rattle.l4_text.specs.declared.faults.RunFault.TheVariants.{Read, Write, Memo
 use Rattle.l4_shell.specs.Sessions.{State}
 use Rattle.l4_expectations.specs.Copies.{expecting_all, CopiesLine, CopiesLines, FailsAtFirst}
 use Rattle.l4_expectations.specs.Expectations.{is_marked, expected_in, is_rest, HasAnswers}
+use Rattle.l4_expectations.specs.Tests.{EndsInput}
 use Rattle.l4_expectations.specs.declared.copying.Above.{Above}
 use Rattle.l4_expectations.specs.declared.copying.Above.TheVariants.{Nothing, Answers, Rest}
 use Rattle.l4_expectations.specs.declared.copying.Copying.{Copying}
 use Rattle.l4_expectations.specs.declared.outcomes.Failure.{Failure}
-use Rattle.l4_expectations.specs.declared.outcomes.Failure.TheVariants.{Differs, Malformed, Stopped}
+use Rattle.l4_expectations.specs.declared.outcomes.Failure.TheVariants.{Differs, Refused, NoExpectations, Malformed, Stopped}
 use Rattle.l4_expectations.specs.declared.outcomes.Fault.TheVariants.{NoAnswer, NoLine, AfterRest}
 
 -- no line is counted without a byte of it
@@ -21,6 +22,8 @@ IsFew copying = copying.lines ≤ length copying.text.items
 
 abbrev pub IsMemory : Failure → Type 0
 IsMemory (Differs difference) = ⊥
+IsMemory (Refused refusal) = ⊥
+IsMemory NoExpectations = ⊥
 IsMemory (Malformed n fault) = ⊥
 IsMemory (Stopped fault) = fault ≡ Memory
 
@@ -87,6 +90,8 @@ pub record CopiesNext (m : State) (old : Copying) (line : List ℕ) (n : State) 
 -- why a line was not copied
 abbrev pub FailsToCopy : Above → ℕ → List ℕ → Failure → Type 0
 FailsToCopy above number line (Differs difference) = ⊥
+FailsToCopy above number line (Refused refusal) = ⊥
+FailsToCopy above number line NoExpectations = ⊥
 FailsToCopy above number line (Malformed n fault) = (is_marked line ≡ true) × NotLeftOut above number line (Malformed n fault)
 FailsToCopy above number line (Stopped fault) = fault ≡ Memory
 
@@ -116,4 +121,12 @@ CopiesAll first old new copying (Err (Stopped Read)) = (s : CopiesSome first old
 CopiesAll first old new copying (Err (Stopped Write)) = ⊥
 CopiesAll first old new copying (Err (Stopped Memory)) = CopiesSome first old new
 CopiesAll first old new copying (Err (Differs difference)) = ⊥
-CopiesAll first old new copying (Err (Malformed n fault)) = (s : CopiesSome first old new) × FailsAtFirst s.lines (1 + length s.lines) s.later (Malformed n fault)
+CopiesAll first old new copying (Err (Refused refusal)) = ⊥
+CopiesAll first old new copying (Err NoExpectations) = ⊥
+CopiesAll first old new copying (Err (Malformed n fault)) =
+    (s : CopiesSome first old new) × FailsAtFirst s.lines (1 + length s.lines) s.later (Malformed n fault) × EndsInput s.later new
+
+-- what a failure of the test of a copy becomes: the copy expects nothing, or there was no memory
+abbrev pub FailsCopy : Failure → Failure → Type 0
+FailsCopy NoExpectations result = result ≡ NoExpectations
+FailsCopy failure result = IsMemory result

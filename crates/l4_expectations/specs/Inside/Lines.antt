@@ -1,5 +1,5 @@
 -- What parts of a test do with one line.
-use Rattle.std.specs.Prelude.{ℕ, ◌≡◌, ◌+◌, ◌==◌, ◌⊎◌, Bool, true, false, List, [], ◌++◌, length, filter, Option, Some, None, Result, Ok, Err}
+use Rattle.std.specs.Prelude.{ℕ, ◌≡◌, ◌+◌, ◌⊎◌, Bool, true, false, List, [], ◌++◌, length, filter, Option, Some, None, Result, Ok, Err}
 use Rattle.std.specs.List.{All}
 use Rattle.std.specs.Io.KnownBytes.{Consumes, IsAtEnd}
 use Rattle.l4_answers.specs.Lines.{first_line, later_lines, is_next}
@@ -11,40 +11,49 @@ use Rattle.l4_text.specs.declared.faults.RunFault.TheVariants.{Read, Write, Memo
 use Rattle.l4_expectations.specs.declared.due.Due.{Due}
 use Rattle.l4_expectations.specs.declared.due.Stage.TheVariants.{Untouched, Begun, Rest}
 use Rattle.l4_expectations.specs.declared.outcomes.Failure.{Failure}
-use Rattle.l4_expectations.specs.declared.outcomes.Failure.TheVariants.{Differs, Malformed, Stopped}
+use Rattle.l4_expectations.specs.declared.outcomes.Failure.TheVariants.{Differs, Refused, NoExpectations, Malformed, Stopped}
 use Rattle.l4_expectations.specs.declared.outcomes.Passed.{Passed}
 use Rattle.l4_expectations.specs.declared.testing.Tested.{Tested}
-use Rattle.l4_expectations.specs.Expectations.{is_marked, expected_in, is_rest, expected_by, expected_below, HasAnswers, AreAsExpected}
+use Rattle.l4_expectations.specs.Expectations.{is_marked, expected_in, is_rest, expected_by, expected_below, refusal_in, HasAnswers, AreAsExpected}
 use Rattle.l4_expectations.specs.declared.outcomes.Fault.TheVariants.{NoLine, AfterRest}
-use Rattle.l4_expectations.specs.Tests.{AgreesSoFar, Differ, FailsAt, FailsNext, IsWrong, is_ended, is_surplus, has_surplus}
+use Rattle.l4_expectations.specs.Tests.{AgreesSoFar, Differ, EndsInput, FailsAt, FailsNext, IsClosed, IsWrong, is_ended, is_test}
 
 -- an answer was the next one, or stood for all, and was taken
 abbrev pub Takes : Due → List ℕ → Due → Bool → Type 0
 Takes old answer new true =
     (new.number ≡ old.number)
-    × (((is_rest answer ≡ true) × (new.stage ≡ Rest)) ⊎ ((is_next answer old.left ≡ true) × (new.left ≡ later_lines old.left) × (new.stage ≡ Begun)))
+    × (((is_rest answer ≡ true) × (new.left ≡ old.left) × (new.stage ≡ Rest)) ⊎ ((is_next answer old.left ≡ true) × (new.left ≡ later_lines old.left) × (new.stage ≡ Begun)))
 Takes old answer new false = (new ≡ old) × (is_rest answer ≡ false) × (is_next answer old.left ≡ false)
 
 -- this difference, or there was no memory to keep it
 abbrev pub Reports : ℕ → List ℕ → List ℕ → Failure → Type 0
 Reports number expected found (Differs difference) = Differ number expected found difference
-Reports number expected found (Malformed n fault) = ⊥
 Reports number expected found (Stopped fault) = fault ≡ Memory
+Reports number expected found failure = ⊥
+
+-- this refusal, or there was no memory to keep it
+abbrev pub ReportsRefusal : ℕ → List ℕ → Failure → Type 0
+ReportsRefusal number answer (Refused refusal) = (refusal.line ≡ number) × (refusal.answer.items ≡ answer)
+ReportsRefusal number answer (Stopped fault) = fault ≡ Memory
+ReportsRefusal number answer failure = ⊥
+
+-- the first refusal among these lines is the first one of those that are left, or there is none
+abbrev pub FindsRefusal : List ℕ → List ℕ → Bool → Type 0
+FindsRefusal old new true = refusal_in old ≡ Some (first_line new)
+FindsRefusal old new false = refusal_in old ≡ None
 
 -- why something fails, unless there was no memory
 abbrev pub Fails : (Failure → Type 0) → Failure → Type 0
 Fails why (Differs difference) = why (Differs difference)
+Fails why (Refused refusal) = why (Refused refusal)
+Fails why NoExpectations = why NoExpectations
 Fails why (Malformed n fault) = why (Malformed n fault)
 Fails why (Stopped fault) = fault ≡ Memory
 
--- no answer is left of a line with expectations, or the first one is reported
-abbrev pub SurplusReported : Option Due → Failure → Type 0
-SurplusReported None failure = ⊥
-SurplusReported (Some due) failure = (is_surplus due.stage (length due.left == 0) ≡ true) × Reports due.number [] (first_line due.left) failure
-
-abbrev pub Closes : Option Due → Result (Unit {0}) Failure → Type 0
-Closes due (Ok u) = has_surplus due ≡ false
-Closes due (Err failure) = SurplusReported due failure
+-- the answers that are left agree with what is expected, or the first one that does not is reported
+abbrev pub Closes : Bool → Option Due → Result (Unit {0}) Failure → Type 0
+Closes lenient due (Ok u) = IsClosed lenient due
+Closes lenient due (Err failure) = Fails (FailsNext lenient due 0 []) failure
 
 -- an expected answer was compared, and agrees
 pub record Compared (old : Tested) (answer : List ℕ) (new : Tested) : Type 0 where
@@ -55,6 +64,7 @@ pub record Compared (old : Tested) (answer : List ℕ) (new : Tested) : Type 0 w
   pub not_ended : is_ended before.stage ≡ false
   pub takes : Takes before answer after true
   pub one_more : new.expectations ≡ old.expectations + 1
+  pub lenient : new.lenient ≡ old.lenient
 
 -- why an expected answer fails
 abbrev pub ExpectationFails : Option Due → ℕ → List ℕ → Failure → Type 0
@@ -69,15 +79,16 @@ ComparesAnswer old number answer new (Err failure) = Fails (ExpectationFails old
 
 -- a line was answered, after the answers of the line above it were compared
 pub record Goes (m : State) (old : Tested) (number : ℕ) (line : List ℕ) (n : State) (new : Tested) : Type 0 where
-  pub closed : has_surplus old.due ≡ false
+  pub closed : IsClosed old.lenient old.due
   pub text : List ℕ
   pub answered : HasAnswers m number line text n
   pub due_is : new.due ≡ Some (record { number = number; left = text; stage = Untouched })
   pub same : new.expectations ≡ old.expectations
+  pub lenient : new.lenient ≡ old.lenient
 
 abbrev pub AnswersNext : State → Tested → ℕ → List ℕ → State → Tested → Result (Unit {0}) Failure → Type 0
 AnswersNext m old number line n new (Ok u) = Goes m old number line n new
-AnswersNext m old number line n new (Err failure) = Fails (FailsNext old.due number []) failure
+AnswersNext m old number line n new (Err failure) = Fails (FailsNext old.lenient old.due 0 []) failure
 
 -- a line was tested: it was answered, or it is silent and expects an answer or doesn't
 abbrev pub GoesBy : State → Tested → ℕ → List ℕ → Bool → Bool → Option (List ℕ) → State → Tested → Type 0
@@ -88,16 +99,22 @@ GoesBy m old number line true true None n new = ⊥
 
 abbrev pub TestsLine : State → Tested → ℕ → List ℕ → State → Tested → Result (Unit {0}) Failure → Type 0
 TestsLine m old number line n new (Ok u) = GoesBy m old number line (is_silent line) (is_marked line) (expected_in line) n new
-TestsLine m old number line n new (Err failure) = Fails (FailsAt old.due number Whole line) failure
+TestsLine m old number line n new (Err failure) = Fails (FailsAt old.lenient old.due number Whole line) failure
 
 -- the ending of a line is that of a line of a test, or not
 abbrev pub EndsWhole : ℕ → Ending → List ℕ → Result (Unit {0}) Failure → Type 0
 EndsWhole number ending bytes (Ok u) = ending ≡ Whole
-EndsWhole number ending bytes (Err failure) = (due : Option Due) → FailsAt due number ending bytes failure
+EndsWhole number ending bytes (Err failure) = (lenient : Bool) (due : Option Due) → FailsAt lenient due number ending bytes failure
+
+-- why the end of a script fails
+abbrev pub EndFails : Tested → Failure → Type 0
+EndFails tested NoExpectations = IsClosed tested.lenient tested.due × (is_test tested.lenient tested.expectations ≡ false)
+EndFails tested failure = FailsNext tested.lenient tested.due 0 [] failure
 
 abbrev pub TestsEnd : Tested → ℕ → Result Passed Failure → Type 0
-TestsEnd tested lines (Ok passed) = (has_surplus tested.due ≡ false) × (passed.lines ≡ lines) × (passed.expectations ≡ tested.expectations)
-TestsEnd tested lines (Err failure) = Fails (FailsNext tested.due lines []) failure
+TestsEnd tested lines (Ok passed) =
+    IsClosed tested.lenient tested.due × (passed.lines ≡ lines) × (passed.expectations ≡ tested.expectations) × (is_test tested.lenient tested.expectations ≡ true)
+TestsEnd tested lines (Err failure) = Fails (EndFails tested) failure
 
 -- nothing was tested
 pub record IsFirst (tested : Tested) : Type 0 where
@@ -105,7 +122,7 @@ pub record IsFirst (tested : Tested) : Type 0 where
   pub expectations : tested.expectations ≡ 0
 
 -- of the lines that were read the first agree as far as they go
-pub record AgreesSome (first : State) (old new : Option (List ℕ)) : Type 0 where
+pub record AgreesSome (lenient : Bool) (first : State) (old new : Option (List ℕ)) : Type 0 where
   pub read : List ℕ
   pub from : Consumes old new read
   pub lines : List TextLine
@@ -114,26 +131,43 @@ pub record AgreesSome (first : State) (old new : Option (List ℕ)) : Type 0 whe
   pub whole : All (λ line. ending_of line ≡ Whole) lines
   pub last : State
   pub due : Option Due
-  pub agrees : AgreesSoFar first lines due last
+  pub agrees : AgreesSoFar lenient first lines due last
 
 -- all lines were answered as expected
-pub record PassesAll (first : State) (old new : Option (List ℕ)) (passed : Passed) : Type 0 where
+pub record AllAsExpected (lenient : Bool) (first : State) (old new : Option (List ℕ)) : Type 0 where
   pub read : List ℕ
   pub from : Consumes old new read
   pub ended : IsAtEnd new
   pub whole : All (λ line. ending_of line ≡ Whole) (lines_of read)
   pub last : State
-  pub expected : AreAsExpected first 1 (lines_of read) last
+  pub expected : AreAsExpected lenient first 1 (lines_of read) last
   pub top : expected_below (lines_of read) ≡ []
-  pub lines : passed.lines ≡ length (lines_of read)
-  pub expectations : passed.expectations ≡ length (expected_by (lines_of read))
 
-abbrev pub TestsLines : State → Option (List ℕ) → Option (List ℕ) → Result Passed Failure → Type 0
-TestsLines first old new (Ok passed) = PassesAll first old new passed
-TestsLines first old new (Err (Stopped Read)) = (a : AgreesSome first old new) × (filter (λ line. line.whole) a.later ≡ [])
-TestsLines first old new (Err (Stopped Write)) = ⊥
-TestsLines first old new (Err (Stopped Memory)) = AgreesSome first old new
-TestsLines first old new (Err (Differs difference)) =
-    (a : AgreesSome first old new) × FailsNext a.due (1 + length a.lines) a.later (Differs difference) × (a.later ≡ [] → IsAtEnd new)
-TestsLines first old new (Err (Malformed n fault)) =
-    (a : AgreesSome first old new) × FailsNext a.due (1 + length a.lines) a.later (Malformed n fault) × (a.later ≡ [] → IsAtEnd new)
+-- and their numbers
+pub record PassesAll (lenient : Bool) (first : State) (old new : Option (List ℕ)) (passed : Passed) : Type 0 where
+  pub all : AllAsExpected lenient first old new
+  pub lines : passed.lines ≡ length (lines_of all.read)
+  pub expectations : passed.expectations ≡ length (expected_by (lines_of all.read))
+  pub some : is_test lenient passed.expectations ≡ true
+
+-- but none expects anything
+pub record NothingExpected (lenient : Bool) (first : State) (old new : Option (List ℕ)) : Type 0 where
+  pub all : AllAsExpected lenient first old new
+  pub strict : lenient ≡ false
+  pub none : length (expected_by (lines_of all.read)) ≡ 0
+
+-- why the first line that does not agree, or the end, fails
+pub record FailsSome (lenient : Bool) (first : State) (old new : Option (List ℕ)) (failure : Failure) : Type 0 where
+  pub some : AgreesSome lenient first old new
+  pub fails : FailsNext lenient some.due (1 + length some.lines) some.later failure
+  pub ended : EndsInput some.later new
+
+abbrev pub TestsLines : Bool → State → Option (List ℕ) → Option (List ℕ) → Result Passed Failure → Type 0
+TestsLines lenient first old new (Ok passed) = PassesAll lenient first old new passed
+TestsLines lenient first old new (Err NoExpectations) = NothingExpected lenient first old new
+TestsLines lenient first old new (Err (Stopped Read)) = (a : AgreesSome lenient first old new) × (filter (λ line. line.whole) a.later ≡ [])
+TestsLines lenient first old new (Err (Stopped Write)) = ⊥
+TestsLines lenient first old new (Err (Stopped Memory)) = AgreesSome lenient first old new
+TestsLines lenient first old new (Err (Differs difference)) = FailsSome lenient first old new (Differs difference)
+TestsLines lenient first old new (Err (Refused refusal)) = FailsSome lenient first old new (Refused refusal)
+TestsLines lenient first old new (Err (Malformed n fault)) = FailsSome lenient first old new (Malformed n fault)
