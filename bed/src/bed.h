@@ -90,7 +90,7 @@ struct bed {
     struct entered sigma0_entered;
     struct memory memory;
     uint32_t frames; /* the kernel's frames. The bed's own follow: the kernel interface page, and pages of UTCBs */
-    uint32_t next_free_frame;
+    uint32_t first_loaded_frame, next_free_frame;
     unsigned char is_own_frame_used[L4_MAX_THREADS];
     struct space spaces[L4_MAX_THREADS];
     struct thread threads[L4_MAX_THREADS];
@@ -192,7 +192,8 @@ enum system_call {
 #define KIP_API_FLAGS 0u
 #define KIP_KERNEL_ID UINT32_C(0xfe000000)
 void kip_write(struct bed *bed);
-void kip_set_boot_info(struct bed *bed, uint32_t address);
+/* The loaded programs begin at the first address, and end with the page of the boot info. */
+void kip_set_boot_info(struct bed *bed, uint32_t first, uint32_t address);
 
 /* space.c */
 struct space *space_new(struct bed *bed, uint64_t number);

@@ -200,6 +200,21 @@ static int is_area(uint32_t fpage, uint32_t least, uint32_t most) {
     return log >= least && log <= most && (fpage & ((1u << log) - 1) & ~UINT32_C(0x3ff)) == 0;
 }
 
+static uint32_t utcb_area_log(const struct space *space) {
+    uint32_t log = L4_PAGE_LOG;
+    while (1u << (log - L4_PAGE_LOG) < space->utcb_pages)
+        log++;
+    return log;
+}
+
+/* The areas of a space are set once. Later, they can be given again, or as nil. */
+static uint32_t changed_area(const struct space *space, uint32_t kip, uint32_t utcbs) {
+    uint32_t utcbs_now = space->utcb_page * PAGE_BYTES | utcb_area_log(space) << 4;
+    if (kip != 0 && (kip & ~UINT32_C(0xf)) != (space->kip_page * PAGE_BYTES | L4_PAGE_LOG << 4))
+        return INVALID_KIP_AREA;
+    return utcbs != 0 && (utcbs & ~UINT32_C(0xf)) != utcbs_now ? INVALID_UTCB_AREA : 0;
+}
+
 static uint32_t set_areas(struct bed *bed, struct thread *caller, uint32_t specifier, uint32_t kip, uint32_t utcbs) {
     struct thread *mate = thread_find(bed, specifier);
     uint32_t utcbs_log = utcbs >> 4 & 0x3f, kip_base = kip & ~UINT32_C(0x3ff), base = utcbs & ~UINT32_C(0x3ff);
@@ -208,7 +223,7 @@ static uint32_t set_areas(struct bed *bed, struct thread *caller, uint32_t speci
     if (mate == NULL)
         return INVALID_SPACE;
     if (mate->space->engine_space != NULL)
-        return 0;
+        return changed_area(mate->space, kip, utcbs);
     if (!is_area(kip, 12, 12))
         return INVALID_KIP_AREA;
     if (!is_area(utcbs, 12, 15) || kip_base - base < 1u << utcbs_log)

@@ -113,15 +113,18 @@ static void put(struct bed *bed, const struct file *file, const Elf32_Phdr *part
 
 uint32_t elf_load_root(struct bed *bed, const char *name) {
     struct file file = open_program(name);
-    uint32_t k, end = 0;
+    uint32_t k, first = L4_SPACE_PAGES, end = 0;
     for (k = 0; k < file.header.e_phnum; k++) {
         Elf32_Phdr part = part_of(&file, k);
         if (!is_loaded(&part))
             continue;
         put(bed, &file, &part, part.p_vaddr);
+        if (first_page(&part) < first)
+            first = (uint32_t)first_page(&part);
         if (end_page(&part) > end)
             end = (uint32_t)end_page(&part);
     }
+    bed->first_loaded_frame = first;
     bed->next_free_frame = end;
     free(file.bytes);
     return file.header.e_entry;
@@ -182,6 +185,6 @@ void elf_load_others(struct bed *bed, char **names, int count) {
     if (bed->next_free_frame >= bed->frames)
         fail(STATUS_INPUT, "no frame is left for the boot info (--frames sets their number, up to %u)", L4_MAX_FRAMES);
     memcpy(bed_frame(bed, bed->next_free_frame), words, sizeof words);
-    kip_set_boot_info(bed, bed->next_free_frame * PAGE_BYTES);
+    kip_set_boot_info(bed, bed->first_loaded_frame * PAGE_BYTES, bed->next_free_frame * PAGE_BYTES);
     bed->next_free_frame++;
 }

@@ -53,6 +53,8 @@ struct engine_kind {
      * at a time. */
     struct engine *(*open)(const struct memory *memory, uint32_t turn);
     void (*close)(struct engine *engine);
+    /* No program runs any more: spaces are only freed from now on. NULL if that changes nothing. */
+    void (*end)(struct engine *engine);
     /* Makes an empty space, in which gs:[0] is the word at gs_base. */
     struct engine_space *(*new_space)(struct engine *engine, uint32_t gs_base);
     void (*free_space)(struct engine *engine, struct engine_space *space);

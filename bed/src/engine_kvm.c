@@ -48,6 +48,7 @@ struct engine {
     uint32_t change_count;
     uint32_t changed_root;          /* all changes are for the space with this root, so the shim makes them there */
     struct registers *float_owner; /* the registers whose floats are in the processor, or NULL */
+    int has_ended;
 };
 
 /* The code of the shim: makes rcx changes from rsi on, and leaves to the port of the last vector, which no exception has. */
@@ -227,6 +228,10 @@ static void close_engine(struct engine *engine) {
     free(engine);
 }
 
+static void end_engine(struct engine *engine) {
+    engine->has_ended = 1;
+}
+
 static struct engine_space *new_space(struct engine *engine, uint32_t gs_base) {
     struct engine_space *space = malloc(sizeof *space);
     check_holds(space != NULL, "there is not enough memory for a space");
@@ -322,12 +327,13 @@ static void unmap(struct engine *engine, struct engine_space *space, uint32_t pa
 
 /* The tree serves the next space: KVM may still have shadows of its tables, which agree with them once the shim has removed all pages. */
 static void free_space(struct engine *engine, struct engine_space *space) {
-    uint32_t page = tables_next_page(&engine->tables, space->root, 0);
+    uint32_t page = engine->has_ended ? LAST_PAGE + 1 : tables_next_page(&engine->tables, space->root, 0);
     while (page <= LAST_PAGE) {
         unmap(engine, space, page);
         page = tables_next_page(&engine->tables, space->root, page + 1);
     }
-    run_changes(engine);
+    if (!engine->has_ended)
+        run_changes(engine);
     tables_free_tree(&engine->tables, space->root);
     free(space);
 }
@@ -436,4 +442,4 @@ static void forget(struct engine *engine, struct engine_space *space, const stru
         engine->float_owner = NULL;
 }
 
-const struct engine_kind engine_kvm = {"kvm", 0, 50, open_engine, close_engine, new_space, free_space, map, unmap, run, forget, NULL};
+const struct engine_kind engine_kvm = {"kvm", 0, 50, open_engine, close_engine, end_engine, new_space, free_space, map, unmap, run, forget, NULL};

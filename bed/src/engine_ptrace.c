@@ -46,7 +46,7 @@ enum { CODE_32 = 0x23, DATA = 0x2b, CODE_64 = 0x33, GS_ENTRY = 12, GS = GS_ENTRY
 #define INVALID_OPCODE 6
 #define GENERAL_PROTECTION 13
 #define PAGE_FAULT 14
-enum { FAULT_WRITE = 2, FAULT_FETCH = 16 };
+enum { FAULT_WRITE = 2, FAULT_FETCH = 16, FAULT_KEY = 32 };
 
 #define INT_BYTES 2
 #define UNKNOWN UINT32_C(0xffffffff)
@@ -552,6 +552,10 @@ static void explain(struct engine_space *space, struct registers *registers, str
     if (words[REG_TRAPNO] != PAGE_FAULT)
         return;
     check_holds(signal == SIGSEGV, "the host has no memory for a frame");
+    if (words[REG_ERR] & FAULT_KEY) { /* the program has forbidden itself the access, by wrpkru */
+        set_exception(stop, GENERAL_PROTECTION);
+        return;
+    }
     stop->kind = STOP_BY_FAULT;
     stop->address = (uint32_t)words[REG_CR2];
     stop->access = words[REG_ERR] & FAULT_WRITE ? L4_WRITE : words[REG_ERR] & FAULT_FETCH ? L4_EXECUTE : L4_READ;
@@ -607,4 +611,4 @@ static void forget(struct engine *engine, struct engine_space *space, const stru
         space->float_owner = NULL;
 }
 
-const struct engine_kind engine_ptrace = {"ptrace", 0, 50, open_engine, close_engine, new_space, free_space, map, unmap, run, forget, NULL};
+const struct engine_kind engine_ptrace = {"ptrace", 0, 50, open_engine, close_engine, NULL, new_space, free_space, map, unmap, run, forget, NULL};

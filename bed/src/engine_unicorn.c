@@ -64,7 +64,7 @@ struct engine_space {
     int has_accessed; /* the block has accessed memory, last with the right `access` */
     uint32_t access;
     int has_raised;  /* the processor has raised an exception */
-    int is_behind;   /* and eip is behind the instruction, which is `int n` */
+    int is_behind;   /* eip is behind the instruction, which has two bytes: `int n`, sysenter or syscall */
     uint32_t run_on; /* the address of a page that the block continues into and may not execute, or 0 */
 };
 
@@ -239,6 +239,29 @@ static void on_block(uc_engine *unicorn, uint64_t address, uint32_t size, void *
     }
 }
 
+/* Programs have neither sysenter nor syscall. Unicorn continues behind them, at the end of the block. */
+static void stop_at_call(struct engine_space *space, enum stop_kind kind, uint32_t number) {
+    space->stop->kind = kind;
+    space->stop->number = number;
+    space->is_behind = 1;
+    check_unicorn(uc_emu_stop(space->unicorn), "uc_emu_stop");
+}
+
+static void on_sysenter(uc_engine *unicorn, void *user) {
+    (void)unicorn;
+    stop_at_call(user, STOP_BY_EXCEPTION, GENERAL_PROTECTION);
+}
+
+static void on_syscall(uc_engine *unicorn, void *user) {
+    (void)unicorn;
+    stop_at_call(user, STOP_BY_TRAP, INVALID_OPCODE);
+}
+
+static void hook_instruction(struct engine_space *space, int instruction, uintptr_t function) {
+    uc_hook handle;
+    check_unicorn(uc_hook_add(space->unicorn, &handle, UC_HOOK_INSN, (void *)function, space, 1, 0, instruction), "uc_hook_add");
+}
+
 static void hook(struct engine_space *space, int types, uintptr_t function) {
     uc_hook handle;
     check_unicorn(uc_hook_add(space->unicorn, &handle, types, (void *)function, space, 1, 0), "uc_hook_add");
@@ -335,6 +358,8 @@ static void add_hooks(struct engine_space *space) {
     hook(space, UC_HOOK_INSN_INVALID, (uintptr_t)on_invalid);
     hook(space, UC_HOOK_MEM_READ | UC_HOOK_MEM_WRITE, (uintptr_t)on_access);
     hook(space, UC_HOOK_BLOCK, (uintptr_t)on_block);
+    hook_instruction(space, UC_X86_INS_SYSENTER, (uintptr_t)on_sysenter);
+    hook_instruction(space, UC_X86_INS_SYSCALL, (uintptr_t)on_syscall);
 }
 
 static struct engine_space *new_space(struct engine *engine, uint32_t gs_base) {
@@ -646,4 +671,4 @@ static void set_break(struct engine *engine, struct engine_space *space, uint32_
         check_unicorn(uc_ctl_remove_cache(space->unicorn, address, address + 1), "uc_ctl_remove_cache");
 }
 
-const struct engine_kind engine_unicorn = {"unicorn", 1, 10, open_engine, close_engine, new_space, free_space, map, unmap, run, forget, set_break};
+const struct engine_kind engine_unicorn = {"unicorn", 1, 10, open_engine, close_engine, NULL, new_space, free_space, map, unmap, run, forget, set_break};

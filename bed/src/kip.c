@@ -19,9 +19,13 @@ enum {
     PROCESSOR_INFO = 0xcc
 };
 
-/* The kernel's description, its id with a version string, and the one memory descriptor: all frames are conventional memory. */
+/* The kernel's description, its id with a version string, and two memory descriptors: all frames are conventional memory, but those from root's
+ * program to the boot info belong to what the bed has loaded. */
 enum { DESCRIPTION = 0x100, MEMORY = 0x140, PROCESSORS = 0x150 };
+enum { MEMORY_BYTES = 8, MEMORY_COUNT = 2 };
 #define CONVENTIONAL 1u
+#define BOOT_LOADER_SPECIFIC 14u
+#define LAST_BYTES 0x400u
 #define ID_BITS 18u
 
 static const unsigned char magic[4] = {'L', '4', 0xe6, 'K'};
@@ -44,9 +48,9 @@ static void write_descriptions(const struct bed *bed, unsigned char *page) {
     set_word(page, KERNEL_DESCRIPTION, DESCRIPTION);
     set_word(page, DESCRIPTION, KIP_KERNEL_ID);
     memcpy(page + DESCRIPTION + 16, version, sizeof version);
-    set_word(page, MEMORY_INFO, MEMORY << 16 | 1u);
+    set_word(page, MEMORY_INFO, MEMORY << 16 | MEMORY_COUNT);
     set_word(page, MEMORY, CONVENTIONAL);
-    set_word(page, MEMORY + 4, bed->frames * PAGE_BYTES - 0x400u);
+    set_word(page, MEMORY + 4, bed->frames * PAGE_BYTES - LAST_BYTES);
     set_word(page, PROCESSOR_DESCRIPTION, PROCESSORS);
     set_word(page, PROCESSOR_INFO, 0);
 }
@@ -70,6 +74,9 @@ void kip_write(struct bed *bed) {
     }
 }
 
-void kip_set_boot_info(struct bed *bed, uint32_t address) {
-    set_word(bed_frame(bed, bed->frames), BOOT_INFO, address);
+void kip_set_boot_info(struct bed *bed, uint32_t first, uint32_t address) {
+    unsigned char *page = bed_frame(bed, bed->frames);
+    set_word(page, BOOT_INFO, address);
+    set_word(page, MEMORY + MEMORY_BYTES, first | BOOT_LOADER_SPECIFIC);
+    set_word(page, MEMORY + MEMORY_BYTES + 4, address + PAGE_BYTES - LAST_BYTES);
 }

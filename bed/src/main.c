@@ -59,6 +59,8 @@ static void make_kernel(struct bed *bed, uint32_t frames) {
 
 static void free_bed(struct bed *bed) {
     size_t k;
+    if (bed->kind->end != NULL)
+        bed->kind->end(bed->engine);
     for (k = 0; k < L4_MAX_THREADS; k++) {
         if (bed->threads[k].state != ABSENT)
             bed->threads[k].state = STOPPED;

@@ -191,8 +191,9 @@ L4_Bool_t L4_WaseXecuted(L4_Fpage_t f);
 
 /* SPACES */
 
-/* Sets where a space has its kernel interface page and its UTCBs. It must be called once, before a thread of the space gets a pager. Only
- * threads of root's space may call it. Returns 1, or 0 with an ErrorCode. The control word and the redirector are ignored. */
+/* Sets where a space has its kernel interface page and its UTCBs. It must be called before a thread of the space gets a pager. Later calls may only
+ * give the same areas, or L4_Nilpage. Only threads of root's space may call it. Returns 1, or 0 with an ErrorCode. The control word and the
+ * redirector are ignored. */
 L4_INLINE L4_Word_t L4_SpaceControl(L4_ThreadId_t SpaceSpecifier, L4_Word_t control, L4_Fpage_t KernelInterfacePageArea, L4_Fpage_t UtcbArea,
                                     L4_ThreadId_t Redirector, L4_Word_t *old_Control) {
     L4_Word_t result = SpaceSpecifier.raw, old = control, kip = KernelInterfacePageArea.raw, area = UtcbArea.raw, redirector = Redirector.raw;
