@@ -165,7 +165,7 @@ void trace_thread_exists(struct bed *bed, uint32_t thread);
 int trace_is_on(const struct bed *bed, uint32_t thread);
 /* Ends the bed with STATUS_INPUT if a traced thread has never existed. */
 void trace_check(const struct bed *bed);
-void trace_call(const struct bed *bed, uint32_t thread, const l4_call *call, const uint32_t *words);
+void trace_call(struct bed *bed, uint32_t thread, const l4_call *call, const uint32_t *words);
 void trace_refusal(const struct bed *bed, uint32_t thread, uint32_t refusal);
 void trace_reply(const struct bed *bed, uint32_t thread, const l4_reply *reply);
 
@@ -249,6 +249,14 @@ int call_take(struct bed *bed, struct thread *thread, enum system_call call);
 uint32_t elf_load_root(struct bed *bed, const char *name);
 /* Loads the other programs into the frames behind root, and describes them in the boot info. */
 void elf_load_others(struct bed *bed, char **names, int count);
+
+/* symbols.c: names of addresses. First a program is added, and then the parts of it that are loaded. */
+void symbols_add_program(const char *file, const unsigned char *bytes, size_t length);
+void symbols_add_part(uint32_t place, uint32_t start, uint32_t bytes);
+void symbols_free(void);
+/* Writes ` (FUNCTION+OFFSET in FILE)`, or nothing if the code at the address has no name. */
+#define SYMBOL_ROOM 140
+void symbols_write(struct bed *bed, const struct thread *thread, uint32_t address, char *text, size_t room);
 
 /* probe.c: prints which engines work on this machine, and why others do not. */
 void probe_engines(void);

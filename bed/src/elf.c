@@ -114,11 +114,13 @@ static void put(struct bed *bed, const struct file *file, const Elf32_Phdr *part
 uint32_t elf_load_root(struct bed *bed, const char *name) {
     struct file file = open_program(name);
     uint32_t k, first = L4_SPACE_PAGES, end = 0;
+    symbols_add_program(name, file.bytes, file.length);
     for (k = 0; k < file.header.e_phnum; k++) {
         Elf32_Phdr part = part_of(&file, k);
         if (!is_loaded(&part))
             continue;
         put(bed, &file, &part, part.p_vaddr);
+        symbols_add_part(part.p_vaddr, part.p_vaddr, part.p_memsz);
         if (first_page(&part) < first)
             first = (uint32_t)first_page(&part);
         if (end_page(&part) > end)
@@ -146,6 +148,7 @@ static void describe(const struct file *file, uint32_t *words, uint32_t address,
 static void load_other(struct bed *bed, const char *name, uint32_t *words) {
     struct file file = open_program(name);
     uint32_t k;
+    symbols_add_program(name, file.bytes, file.length);
     words[0] = SIMPLE_EXEC;
     words[1] = 1;
     words[2] = RECORD_WORDS * sizeof *words;
@@ -156,6 +159,7 @@ static void load_other(struct bed *bed, const char *name, uint32_t *words) {
         if (!is_loaded(&part))
             continue;
         put(bed, &file, &part, address);
+        symbols_add_part((uint32_t)address, part.p_vaddr, part.p_memsz);
         if (part.p_flags & PF_W) {
             describe(&file, words + DATA, (uint32_t)address, part.p_vaddr, part.p_filesz);
             describe(&file, words + BSS, (uint32_t)address + part.p_filesz, part.p_vaddr + part.p_filesz, part.p_memsz - part.p_filesz);

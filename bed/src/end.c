@@ -126,10 +126,13 @@ static void print_wait(struct bed *bed, const struct thread *thread, const l4_st
 
 static void print_thread(struct bed *bed, const struct thread *thread) {
     l4_state state;
+    char name[SYMBOL_ROOM];
     if (thread->state == INACTIVE)
         print("%u has no pager yet\n", thread->number);
-    if (thread->state == READY)
-        print("%u can continue at %08x\n", thread->number, thread->registers.eip);
+    if (thread->state == READY) {
+        symbols_write(bed, thread, thread->registers.eip, name, sizeof name);
+        print("%u can continue at %08x%s\n", thread->number, thread->registers.eip, name);
+    }
     if (thread->state != CALLING)
         return;
     state = state_of(bed, thread);

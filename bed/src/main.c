@@ -68,6 +68,7 @@ static void free_bed(struct bed *bed) {
             space_free(bed, &bed->spaces[k]);
     }
     free(bed->changes.list);
+    symbols_free();
     bed->kind->close(bed->engine);
     munmap(bed->memory.bytes, (size_t)bed->memory.frames * PAGE_BYTES);
     close(bed->memory.file);

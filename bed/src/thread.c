@@ -159,7 +159,7 @@ static void point_to_words(struct registers *registers, uint32_t **words) {
 #define SHOWN_BYTES 4u
 
 static void stop_by_exception(struct bed *bed, struct thread *thread, uint32_t number) {
-    char why[120], bytes[3 * SHOWN_BYTES + 1] = "";
+    char why[300], bytes[3 * SHOWN_BYTES + 1] = "", name[SYMBOL_ROOM];
     uint32_t eip = thread->registers.eip, k;
     for (k = 0; k < SHOWN_BYTES; k++) {
         const unsigned char *byte = space_byte(bed, thread->space, eip + k);
@@ -167,7 +167,8 @@ static void stop_by_exception(struct bed *bed, struct thread *thread, uint32_t n
             break;
         snprintf(bytes + 3 * k, sizeof bytes - 3 * k, " %02x", *byte);
     }
-    snprintf(why, sizeof why, "exception %u (%s) at %08x%s%s, and it has no exception handler", number, exception_text(number), eip,
+    symbols_write(bed, thread, eip, name, sizeof name);
+    snprintf(why, sizeof why, "exception %u (%s) at %08x%s%s%s, and it has no exception handler", number, exception_text(number), eip, name,
              k > 0 ? ":" : "", bytes);
     stop(bed, thread, why);
 }

@@ -153,12 +153,18 @@ void trace_check(const struct bed *bed) {
     }
 }
 
-void trace_call(const struct bed *bed, uint32_t thread, const l4_call *call, const uint32_t *words) {
+static void trace_fault(struct bed *bed, uint32_t thread, const l4_call *call) {
+    char name[SYMBOL_ROOM];
+    symbols_write(bed, thread_numbered(bed, thread), call->ip, name, sizeof name);
+    print("%u page fault: address %08x, instruction %08x%s, needs %s\n", thread, call->address, call->ip, name, rights_text(call->access));
+}
+
+void trace_call(struct bed *bed, uint32_t thread, const l4_call *call, const uint32_t *words) {
     if (!trace_is_on(bed, thread))
         return;
     switch (call->kind) {
     case L4_IPC: trace_ipc(thread, call, words); break;
-    case L4_FAULT: print("%u page fault: address %08x, instruction %08x, needs %s\n", thread, call->address, call->ip, rights_text(call->access)); break;
+    case L4_FAULT: trace_fault(bed, thread, call); break;
     case L4_UNMAP: trace_unmap(thread, call, words); break;
     default: trace_control(thread, call);
     }
