@@ -1,6 +1,6 @@
--- Files that are tested, and files of segments (this profile's own).
-use Rattle.std.specs.Prelude.{ℕ, ◌-◌, ◌==◌, ◌||◌, nat_lt, Bool, false, List, [], ◌∷◌, Option, unwrap_or, slice_get, if◌then◌else◌, bytes_eq, codes}
-use Rattle.std.specs.List.{list_any, position_or_len}
+-- Files that are tested (this profile's own).
+use Rattle.std.specs.Prelude.{ℕ, ◌||◌, Bool, false, List, [], ◌∷◌, Option, bytes_eq, codes}
+use Rattle.std.specs.List.{list_any}
 use Rattle.std.specs.Io.KnownBytes.{Consumes, IsAtEnd}
 use Rattle.l4_text.specs.Grammar.{lines_of}
 use Rattle.l4_text.specs.Tokens.{tokens_of}
@@ -27,17 +27,3 @@ is_rule (token ∷ tokens) = bytes_eq token (codes "never") || bytes_eq token (c
 -- the litmus test states a rule
 abbrev pub has_rule : Plan → Bool
 has_rule plan = list_any (λ line. is_rule (tokens_of line.bytes.items)) plan.queries.items
-
--- THE FILE OF A SEGMENT, where `ends` has for each file the number of segments in it and in the files before it
-
--- the number of segments in the files before this one
-abbrev pub segments_before : List ℕ → ℕ → ℕ
-segments_before ends index = if index == 0 then 0 else unwrap_or (slice_get ends (index - 1)) 0
-
--- the index of the first file that ends behind this place
-abbrev pub file_at : List ℕ → ℕ → ℕ
-file_at ends place = position_or_len (λ end. nat_lt place end) ends
-
--- the same, and the place in that file
-abbrev pub file_of : List ℕ → ℕ → ℕ × ℕ
-file_of ends place = (file_at ends place, place - segments_before ends (file_at ends place))

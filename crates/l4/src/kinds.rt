@@ -1,5 +1,5 @@
 //! The kinds of tested files: scripts and litmus tests.
-ghost use Rattle.std.specs.Prelude.{◌≡◌};
+ghost use Rattle.std.specs.Prelude.{◌≡◌, true};
 ghost use Rattle.l4_text.specs.Tokens.{tokens_of};
 ghost use Rattle.l4.specs.Files.{is_unordered, has_unordered};
 

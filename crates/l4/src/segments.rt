@@ -1,7 +1,5 @@
 //! `l4 history --from`: the history in files of segments.
-ghost use Rattle.std.specs.Prelude.{◌≡◌, Err, nat_lt};
-ghost use Rattle.std.specs.List.{position};
-ghost use Rattle.l4.specs.Files.{segments_before, file_of};
+ghost use Rattle.std.specs.Prelude.{◌≡◌, Err};
 ghost use Rattle.l4.specs.Statuses.{history_status};
 
 use crate::reports::{report_file, report_history, report_misfit};
@@ -76,32 +74,17 @@ pub(crate) fn found_in<R: AllocGlobal + Files + Eprint>(
     Ok(Found { segments, ends })
 }
 
-/// Returns the index of the first file that ends behind this place.
-fn end_behind(ends: &[usize], place: usize) -> Option<usize>
-    ensures { result ≡ position (λ end. nat_lt place end) ends.now }
-{
-    ends.iter().position(|end| place < *end)
-}
-
-/// Returns the number of segments in the files before the one at this index.
-fn segments_before(ends: &[usize], index: usize) -> usize
-    ensures { result ≡ segments_before ends.now index }
-{
-    if index == 0 {
-        return 0;
-    }
-    match ends.get(index - 1) {
-        Some(end) => *end,
-        None => 0,
-    }
-}
-
 /// Returns the index of the file that the segment at this place is in, and its place in the file.
-fn file_of(ends: &[usize], place: usize) -> (usize, usize)
-    ensures { result ≡ file_of ends.now place }
-{
-    let index = end_behind(ends, place).unwrap_or(ends.len());
-    (index, place.saturating_sub(segments_before(ends, index)))
+fn file_of(ends: &[usize], place: usize) -> (usize, usize) {
+    let mut start = 0;
+    for index in 0..ends.len() {
+        let end = ends[index];
+        if place < end && start <= place {
+            return (index, place - start);
+        }
+        start = end;
+    }
+    (ends.len(), 0)
 }
 
 /// Reports the segment that does not fit those before it.
