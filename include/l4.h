@@ -1044,9 +1044,9 @@ void l4_orders_free(l4_orders *orders);
  * NoMemory. Nothing is written then. */
 l4_count l4_checkpoint_write(l4_kernel *kernel, uint32_t frames, size_t entries, uint8_t *out, size_t room);
 
-/* What is wrong with bytes that are not a checkpoint: they do not begin with "LCP4"; their version is unknown; no kernel has this number of
- * frames; no kernel has this page size; the number of entries exceeds 2^63; they end too early; the checksum is wrong; bytes follow the
- * checksum; or the words are not those of a kernel. */
+/* What is wrong with bytes that cannot be read as a checkpoint: they do not begin with "LCP4"; their version is unknown; no kernel has this
+ * number of frames; no kernel has this page size; the number of entries exceeds 2^63; they end too early; the checksum is wrong; bytes
+ * follow the checksum; or no kernel could be built from the words. */
 #define L4_CHECKPOINT_MAGIC UINT32_C(1)
 #define L4_CHECKPOINT_VERSION UINT32_C(2)
 #define L4_CHECKPOINT_FRAMES UINT32_C(3)
@@ -1069,8 +1069,9 @@ typedef struct l4_checkpoint {
 } l4_checkpoint;
 
 /* Reads a checkpoint of `length` bytes into an empty handle, which then owns exactly the kernel that was written. You free it with l4_free.
- * The bytes are not needed afterwards. After a refusal the handle is unchanged. Refusals in this order: B2; B6 for bytes that are not a
- * checkpoint, or NoMemory. */
+ * The bytes are not needed afterwards. After a refusal the handle is unchanged. Refusals in this order: B2; B6 or NoMemory. B6 means that the
+ * bytes are not a checkpoint. If its fault is L4_CHECKPOINT_STATE, the heading, the length and the checksum are right, but the library could
+ * not build a kernel from the words. Tests show that it reads each checkpoint that it wrote. */
 l4_checkpoint l4_checkpoint_read(l4_kernel *kernel, const uint8_t *bytes, size_t length);
 
 /* CONSTRUCTORS AND READERS. These functions are inline, and do not call the library unless they take a handle.

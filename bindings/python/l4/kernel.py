@@ -199,7 +199,7 @@ class Kernel(Handle, Queries):
     @classmethod
     def from_checkpoint(cls, data: bytes) -> Tuple[Kernel, int]:
         """Returns exactly the kernel that `checkpoint` wrote, and the number of entries that was passed. Raises BadCheckpoint (B6) with the
-        position if the bytes are not a checkpoint, and Refused with NoMemory if an allocation fails."""
+        position if the bytes cannot be read as a checkpoint, and Refused with NoMemory if an allocation fails."""
         given, told = of_type(data, bytes, "a checkpoint"), _library.l4_checkpoint()
 
         def read(handle: Any) -> int:

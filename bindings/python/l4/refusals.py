@@ -71,7 +71,7 @@ class BadPlan(Refused):
 
 
 class CheckpointFault(enum.Enum):
-    """What is wrong with bytes that are not a checkpoint."""
+    """What is wrong with bytes that cannot be read as a checkpoint."""
 
     #: They do not begin with `LCP4`.
     MAGIC = _library.L4_CHECKPOINT_MAGIC
@@ -89,7 +89,7 @@ class CheckpointFault(enum.Enum):
     CHECKSUM = _library.L4_CHECKPOINT_CHECKSUM
     #: Bytes follow the checksum.
     EXTRA = _library.L4_CHECKPOINT_EXTRA
-    #: The words are not those of a kernel.
+    #: No kernel could be built from the words.
     STATE = _library.L4_CHECKPOINT_STATE
 
 
@@ -102,12 +102,12 @@ _FAULTS = {
     CheckpointFault.CUT: "the checkpoint is cut off",
     CheckpointFault.CHECKSUM: "the checksum is not that of the checkpoint",
     CheckpointFault.EXTRA: "bytes follow the checkpoint",
-    CheckpointFault.STATE: "the words are not those of a kernel",
+    CheckpointFault.STATE: "no kernel could be built from the words",
 }
 
 
 class BadCheckpoint(Refused):
-    """Bytes that are not a checkpoint (B6). `fault` is what is wrong with them, and `position` where, in bytes from 0."""
+    """Bytes that cannot be read as a checkpoint (B6). `fault` is what is wrong with them, and `position` where, in bytes from 0."""
 
     fault: CheckpointFault
     position: int

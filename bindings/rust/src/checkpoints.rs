@@ -1,10 +1,10 @@
-//! Why bytes are not a checkpoint.
+//! Why bytes cannot be read as a checkpoint.
 use crate::ffi;
 use crate::refusals::{unknown, Refusal};
 use std::error::Error;
 use std::fmt;
 
-/// What is wrong with bytes that are not a checkpoint.
+/// What is wrong with bytes that cannot be read as a checkpoint.
 #[derive(Clone, Copy, PartialEq, Eq, Hash, Debug)]
 #[non_exhaustive]
 pub enum CheckpointFault {
@@ -24,7 +24,7 @@ pub enum CheckpointFault {
     Checksum,
     /// Bytes follow the checksum.
     Extra,
-    /// The words are not those of a kernel.
+    /// No kernel could be built from the words.
     State,
 }
 
@@ -55,7 +55,7 @@ impl CheckpointFault {
             CheckpointFault::Cut => "the checkpoint is cut off",
             CheckpointFault::Checksum => "the checksum is not that of the checkpoint",
             CheckpointFault::Extra => "bytes follow the checkpoint",
-            CheckpointFault::State => "the words are not those of a kernel",
+            CheckpointFault::State => "no kernel could be built from the words",
         }
     }
 }
@@ -65,7 +65,7 @@ impl CheckpointFault {
 pub struct BadCheckpoint {
     /// Why: [`Refusal::NotACheckpoint`] or [`Refusal::NoMemory`].
     pub refusal: Refusal,
-    /// What is wrong with the bytes, if they are not a checkpoint.
+    /// What is wrong with the bytes, if they cannot be read as a checkpoint.
     pub fault: Option<CheckpointFault>,
     /// The position, in bytes from 0, at which it is wrong, and otherwise 0.
     pub position: u64,

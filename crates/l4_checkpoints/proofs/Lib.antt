@@ -1,3 +1,4 @@
 pub mod Written
 pub mod Same
 pub mod Refusing
+pub mod Forming

@@ -1,5 +1,5 @@
 -- What a checkpoint is: the words of a kernel after a heading, and a checksum (this profile's own).
-use Rattle.std.specs.Prelude.{◌≡◌, ◌<◌, ◌≤◌, ◌^◌, ℕ, List, ◌∷◌, ◌++◌, length}
+use Rattle.std.specs.Prelude.{◌≡◌, ◌<◌, ◌≤◌, ◌*◌, ◌^◌, ℕ, List, ◌∷◌, ◌++◌, length}
 use Rattle.sha2.specs.Sha256.{sha256}
 use Rattle.l4_fpage.specs.Pages.{page_bytes, max_frames}
 use Rattle.l4_fpage.specs.declared.sizes.PageSize.{PageSize}
@@ -37,6 +37,20 @@ pub record IsCheckpoint (frames entries : ℕ) (m : Machine) (bytes : List ℕ) 
   pub some : 1 ≤ frames
   pub few : frames ≤ max_frames
   pub numbers : entries ≤ max_handed_out
+
+-- The bytes have the heading of a checkpoint, the bytes of as many words as it says, and the checksum of all these. The words may be those of
+-- no machine.
+pub record HasForm (bytes : List ℕ) : Type 0 where
+  pub frames : ℕ
+  pub size : PageSize
+  pub entries : ℕ
+  pub count : ℕ
+  pub words : List ℕ
+  pub some : 1 ≤ frames
+  pub few : frames ≤ max_frames
+  pub numbers : entries ≤ max_handed_out
+  pub so_many : length words ≡ 4 * count
+  pub bytes_are : bytes ≡ (bytes_of (heading_words frames size entries count) ++ words) ++ sha256 (bytes_of (heading_words frames size entries count) ++ words)
 
 -- they are a checkpoint of no machine
 abbrev pub IsNoCheckpoint : List ℕ → Type 0

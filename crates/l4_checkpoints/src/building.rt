@@ -14,7 +14,7 @@ use std::alloc::Global;
 pub(crate) enum Stop {
     /// An allocation failed.
     NoMemory,
-    /// The words at the place where this number of words is left are not those of a machine.
+    /// The words at the place where this number of words is left could not be used.
     Words(usize),
 }
 

@@ -1,4 +1,4 @@
-//! Why bytes are not a checkpoint.
+//! Why bytes are not read as a checkpoint.
 ghost use Rattle.std.specs.Prelude.{◌≡◌};
 
 /// What is wrong with the bytes at a position.
@@ -22,11 +22,11 @@ pub enum CheckpointFaultKind {
     Checksum,
     /// Bytes follow the checksum.
     Extra,
-    /// The words are not those of a machine that can be built.
+    /// Heading, length and checksum are right, but no kernel was built from the words.
     Machine,
 }
 
-/// Why bytes are not a checkpoint.
+/// Why bytes are not read as a checkpoint.
 #[derive(Clone, Copy, Debug, PartialEq, Eq)]
 pub struct CheckpointFault {
     /// The position in bytes, from 0.

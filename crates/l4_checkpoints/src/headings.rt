@@ -1,7 +1,8 @@
 //! Reads the heading and the end of a checkpoint.
-ghost use Rattle.std.specs.Prelude.{◌≡◌, ◌+◌, ◌*◌, ◌≤◌, length, IfOk, IfErr, MatchOption};
+ghost use Rattle.std.specs.Prelude.{◌≡◌, ◌≢◌, ◌≤◌, length, IfOk, IfErr, IfSome, MatchOption};
 ghost use Rattle.l4_checkpoints.specs.Checkpoints.{IsNoCheckpoint};
-ghost use Rattle.l4_checkpoints.specs.Inside.Reading.{AreHeading, AreNoHeading, BeginsWith, EndsWrong};
+ghost use Rattle.l4_checkpoints.specs.Inside.Reading.{AreHeading, AreNoHeading, BeginsWith, EndsRight, EndsWrong};
+ghost use Rattle.l4_checkpoints.specs.declared.faults.CheckpointFaultKind.TheVariants.{Machine as IsOfWords};
 
 use crate::faults::{CheckpointFault, CheckpointFaultKind, fault};
 use crate::files::{MAGIC, VERSION};
@@ -34,6 +35,7 @@ fn heading_of(words: &[u32]) -> Result<Heading, CheckpointFault>
     requires { length words.now ≡ 8 }
     ensures ok { IfOk result (λ h. AreHeading h.frames h.size h.entries h.count words.now) }
     ensures err { IfErr result (λ _. AreNoHeading words.now) }
+    ensures kind { IfErr result (λ f. f.kind ≢ IsOfWords) }
 {
     if words[0] != MAGIC {
         return Err(fault(0, CheckpointFaultKind::Magic));
@@ -65,6 +67,7 @@ fn heading_of(words: &[u32]) -> Result<Heading, CheckpointFault>
 pub(crate) fn read_heading(bytes: &[u8]) -> Result<Heading, CheckpointFault>
     ensures ok { IfOk result (λ h. BeginsWith bytes.now h.frames h.size h.entries h.count) }
     ensures err { IfErr result (λ _. IsNoCheckpoint bytes.now) }
+    ensures kind { IfErr result (λ f. f.kind ≢ IsOfWords) }
 {
     if bytes.len() < HEADING_BYTES {
         return Err(fault(0, CheckpointFaultKind::Cut));
@@ -77,8 +80,8 @@ pub(crate) fn read_heading(bytes: &[u8]) -> Result<Heading, CheckpointFault>
 /// Returns what is wrong with the length or the checksum of a file with this number of words.
 pub(crate) fn check_end(bytes: &[u8], count: usize) -> Option<CheckpointFault>
     requires { 32 ≤ length bytes.now }
-    ensures { MatchOption result (32 + 4 * count + 32 ≡ length bytes.now)
-        (λ _. EndsWrong bytes.now count) }
+    ensures end { MatchOption result (EndsRight bytes.now count) (λ _. EndsWrong bytes.now count) }
+    ensures kind { IfSome result (λ f. f.kind ≢ IsOfWords) }
 {
     let whole = (bytes.len() - HEADING_BYTES) / 4;
     if count > whole {

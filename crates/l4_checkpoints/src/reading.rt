@@ -2,7 +2,7 @@
 ghost use Rattle.std.specs.Prelude.{◌≡◌, ◌+◌, ◌*◌, ◌≤◌, ◌⊎◌, ◌↔◌, length, IsTrue, IfOk, IfErr};
 ghost use Rattle.l4_fpage.specs.Pages.{max_frames};
 ghost use Rattle.l4_record.specs.Sizes.{max_handed_out};
-ghost use Rattle.l4_checkpoints.specs.Checkpoints.{IsCheckpoint, IsNoCheckpoint};
+ghost use Rattle.l4_checkpoints.specs.Checkpoints.{IsCheckpoint, IsNoCheckpoint, HasForm};
 ghost use Rattle.l4_checkpoints.specs.declared.faults.CheckpointFaultKind.TheVariants.{NoMemory as LacksMemory, Machine as IsOfWords};
 
 use crate::building::{Stop, build};
@@ -79,7 +79,7 @@ fn compared(
     })
 }
 
-/// Returns the fault of words that are not those of a machine, or for which memory ran out.
+/// Returns the fault of words from which no kernel was built, or for which memory ran out.
 fn stopped(bytes: &[u8], stop: Stop) -> CheckpointFault
     ensures { (result.kind ≡ LacksMemory) ⊎ (result.kind ≡ IsOfWords) }
 {
@@ -95,12 +95,14 @@ fn stopped(bytes: &[u8], stop: Stop) -> CheckpointFault
 
 /// Reads a checkpoint. The bytes are exactly the checkpoint of the kernel that is returned.
 ///
-/// If an allocation fails, the fault is `NoMemory`. A fault of the kind `Machine` means that no kernel could be built whose words are those of
-/// the file. Any other fault means that the bytes are no checkpoint.
+/// If an allocation fails, the fault is `NoMemory`. A fault of the kind `Machine` means that heading, length and checksum are right, but this
+/// function built no kernel whose words are those of the file. It is tested, and not proved, that there is no such kernel. Any other fault
+/// means that the bytes are no checkpoint.
 pub fn read_checkpoint(alloc: Global, bytes: &[u8]) -> Result<Checkpoint, CheckpointFault>
     ensures ok { IfOk result (λ c. IsCheckpoint c.frames c.entries c.kernel bytes.now) }
     ensures none { IfErr result
         (λ f. (f.kind ≡ LacksMemory) ⊎ (f.kind ≡ IsOfWords) ⊎ IsNoCheckpoint bytes.now) }
+    ensures form { IfErr result (λ f. f.kind ≡ IsOfWords → HasForm bytes.now) }
 {
     let heading = match read_heading(bytes) {
         Ok(heading) => heading,

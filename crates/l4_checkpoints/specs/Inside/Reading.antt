@@ -1,5 +1,5 @@
 -- How bytes begin and end, as the reader of a checkpoint finds it (this profile's own).
-use Rattle.std.specs.Prelude.{◌≡◌, ◌≢◌, ◌<◌, ◌≤◌, ◌+◌, ◌*◌, ◌^◌, ◌⊎◌, ℕ, List, ◌++◌, length, drop, slice_index}
+use Rattle.std.specs.Prelude.{◌≡◌, ◌≢◌, ◌<◌, ◌≤◌, ◌+◌, ◌*◌, ◌^◌, ◌⊎◌, ℕ, List, ◌++◌, length, take, drop, slice_index}
 use Rattle.sha2.specs.Sha256.{sha256}
 use Rattle.l4_fpage.specs.Pages.{page_bytes, max_frames}
 use Rattle.l4_fpage.specs.declared.sizes.PageSize.{PageSize}
@@ -28,6 +28,10 @@ pub record BeginsWith (bytes : List ℕ) (frames : ℕ) (size : PageSize) (entri
   pub are_words : AreWords words
   pub bytes_are : bytes ≡ bytes_of words ++ drop 32 bytes
   pub within : 32 ≤ length bytes
+
+-- after a heading, the bytes are those of this number of words, and the checksum of all bytes before it
+abbrev pub EndsRight : List ℕ → ℕ → Type 0
+EndsRight bytes count = (32 + 4 * count + 32 ≡ length bytes) × (drop (32 + 4 * count) bytes ≡ sha256 (take (32 + 4 * count) bytes))
 
 -- the bytes are not a heading, this number of words, and the checksum of both
 abbrev pub EndsWrong : List ℕ → ℕ → Type 0
