@@ -236,7 +236,7 @@ void thread_fault(struct bed *bed, struct thread *thread, uint32_t address, uint
 void thread_cancel(struct bed *bed, struct thread *thread);
 
 /* Words of a UTCB, counted from message register 0. */
-enum { TCR_ERROR_CODE = -9, TCR_EXCEPTION_HANDLER = -11, TCR_PAGER = -12, TCR_MY_GLOBAL_ID = -15, TCR_BUFFER_0 = -16 };
+enum { TCR_ERROR_CODE = -9, TCR_EXCEPTION_HANDLER = -11, TCR_PAGER = -12, TCR_USER_DEFINED_HANDLE = -13, TCR_MY_GLOBAL_ID = -15, TCR_BUFFER_0 = -16 };
 
 /* The tag of a failed Ipc. */
 #define FAILED_TAG UINT32_C(0x8000)

@@ -7,8 +7,11 @@
 #define NO_CHANGE UINT32_C(0xffffffff)
 #define LAST_NUMBER UINT32_C(262143)
 
-/* ErrorCodes of ThreadControl and SpaceControl. */
-enum { NO_PRIVILEGE = 1, INVALID_THREAD = 2, INVALID_SPACE = 3, INVALID_UTCB_AREA = 6, INVALID_KIP_AREA = 7, OUT_OF_MEMORY = 8 };
+/* These bits are 0 in local ids, and not all 0 in global ones. */
+#define LOCAL_BITS UINT32_C(0x3f)
+
+/* ErrorCodes of ThreadControl, SpaceControl and ExchangeRegisters. */
+enum { NO_PRIVILEGE = 1, INVALID_THREAD = 2, INVALID_SPACE = 3, INVALID_PARAMETER = 5, INVALID_UTCB_AREA = 6, INVALID_KIP_AREA = 7, OUT_OF_MEMORY = 8 };
 
 /* If the kernel refuses the message of an Ipc, the program gets the ErrorCode of a message that is too long, in the send phase. */
 #define REFUSED_MESSAGE 8u
@@ -20,14 +23,28 @@ static void print_refused(struct bed *bed, struct thread *thread, uint32_t refus
     print_line(bed, "%u refused %s: %s", thread->number, code, text);
 }
 
+/* A local id is the address of a UTCB, and names a thread of the caller's space. Returns the global id; or the id itself if it is global, or names no
+ * thread. */
+static uint32_t global_of(const struct bed *bed, const struct thread *caller, uint32_t id) {
+    size_t k;
+    if (id == L4_NILTHREAD || (id & LOCAL_BITS) != 0)
+        return id;
+    for (k = 0; k < L4_MAX_THREADS; k++) {
+        const struct thread *named = &bed->threads[k];
+        if (named->state != ABSENT && named->space == caller->space && named->utcb == id)
+            return named->id;
+    }
+    return id;
+}
+
 static void take_ipc(struct bed *bed, struct thread *thread) {
     struct registers *registers = &thread->registers;
     l4_call call = kernel_call(L4_IPC);
     uint32_t words[L4_MAX_WORDS], refusal;
     memcpy(words, thread->utcb_words, sizeof words);
     words[0] = registers->esi;
-    call.to = registers->eax;
-    call.from = registers->edx;
+    call.to = global_of(bed, thread, registers->eax);
+    call.from = global_of(bed, thread, registers->edx);
     call.timeouts = registers->ecx;
     call.acceptor = thread->utcb_words[TCR_BUFFER_0];
     print_line(bed, "%u calls ipc %08x %08x %08x %08x", thread->number, call.to, call.from, call.timeouts, call.acceptor);
@@ -170,9 +187,15 @@ static uint32_t change_version(struct bed *bed, struct thread *caller, struct th
     return 0;
 }
 
+/* A UTCB is named by its address, or by the start of its bytes. */
+static uint32_t middle_of(uint32_t utcb) {
+    return utcb % UTCB_BYTES == 0 ? utcb + UTCB_MIDDLE : utcb;
+}
+
 static uint32_t control_thread(struct bed *bed, struct thread *thread) {
     const struct registers *registers = &thread->registers;
-    uint32_t id = registers->eax, pager = registers->ecx, specifier = registers->esi, utcb = registers->edi;
+    uint32_t id = global_of(bed, thread, registers->eax), pager = global_of(bed, thread, registers->ecx);
+    uint32_t specifier = global_of(bed, thread, registers->esi), utcb = middle_of(registers->edi);
     struct thread *target = thread_numbered(bed, NUMBER(id));
     uint32_t error;
     if (specifier == L4_NILTHREAD)
@@ -305,6 +328,34 @@ static int take_kdb(struct bed *bed, struct thread *thread) {
     return 1;
 }
 
+/* The control word can only ask for the values, since this kernel cannot change the wait of a thread. The result is the thread's other id. */
+#define DELIVER UINT32_C(0x200)
+
+static uint32_t exchange_registers(struct thread *thread, const struct thread *dest) {
+    struct registers *registers = &thread->registers;
+    uint32_t result = registers->eax == dest->id ? dest->utcb : dest->id;
+    registers->ecx = 0;
+    registers->edx = dest->registers.esp;
+    registers->esi = dest->registers.eip;
+    registers->edi = dest->registers.eflags;
+    registers->ebx = dest->utcb_words[TCR_USER_DEFINED_HANDLE];
+    registers->ebp = dest->pager;
+    return result;
+}
+
+static void take_exchange_registers(struct bed *bed, struct thread *thread) {
+    struct registers *registers = &thread->registers;
+    struct thread *dest = thread_find(bed, global_of(bed, thread, registers->eax));
+    uint32_t error = 0;
+    print_line(bed, "%u calls exchange registers %08x %08x", thread->number, registers->eax, registers->ecx);
+    if ((registers->ecx & ~DELIVER) != 0)
+        error = INVALID_PARAMETER;
+    else if (dest == NULL || dest->space != thread->space || dest->utcb == 0)
+        error = INVALID_THREAD;
+    thread->utcb_words[TCR_ERROR_CODE] = error;
+    registers->eax = error == 0 ? exchange_registers(thread, dest) : L4_NILTHREAD;
+}
+
 static void take_other(struct bed *bed, struct thread *thread, enum system_call call) {
     print_line(bed, "%u calls system call %u, which this kernel does not have", thread->number, (unsigned)call);
     end_control(thread, NO_PRIVILEGE);
@@ -323,6 +374,7 @@ int call_take(struct bed *bed, struct thread *thread, enum system_call call) {
     case SYSTEM_UNMAP: take_unmap(bed, thread); return 1;
     case SYSTEM_THREAD_CONTROL: take_thread_control(bed, thread); return 1;
     case SYSTEM_SPACE_CONTROL: take_space_control(bed, thread); return 1;
+    case SYSTEM_EXCHANGE_REGISTERS: take_exchange_registers(bed, thread); return 1;
     case SYSTEM_CLOCK: take_clock(bed, thread); return 1;
     case SYSTEM_THREAD_SWITCH: return 0;
     default: take_other(bed, thread, call); return 1;

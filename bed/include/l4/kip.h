@@ -33,6 +33,9 @@ enum {
     L4_KIP_KDB = 0xfc /* the kernel debugger of l4_bed */
 };
 
+/* The page itself. Functions take its address. */
+typedef void L4_KernelInterfacePage_t;
+
 L4_BEGIN_C
 
 /* The page's address, which the start of the program writes here. */

@@ -70,19 +70,42 @@ L4_INLINE L4_Bool_t L4_IsGlobalId(L4_ThreadId_t t) {
     return (t.raw & 0x3f) != 0;
 }
 
-/* Every id of this kernel is global. */
+/* Reads what the kernel keeps of a thread of the caller's space: its handle and its pager. Returns its local id if `t` is global, and its global id
+ * if `t` is local; or L4_nilthread with an ErrorCode. (The system call is ExchangeRegisters.) */
+L4_INLINE L4_ThreadId_t L4_ReadThread(L4_ThreadId_t t, L4_Word_t *handle, L4_Word_t *pager) {
+    L4_Word_t result = t.raw, control = 0x200, ignored_sp, ignored_ip, ignored_flags, entry = L4_KipEntry(L4_KIP_EXCHANGE_REGISTERS);
+    __asm__ __volatile__("pushl %%ebp\n\t"
+                         "call *%%ebx\n\t"
+                         "movl %%ebp, %%ecx\n\t"
+                         "popl %%ebp"
+                         : "+a"(result), "+c"(control), "=d"(ignored_sp), "=S"(ignored_ip), "=D"(ignored_flags), "+b"(entry)
+                         :
+                         : "memory", "cc");
+    *handle = entry;
+    *pager = control;
+    return L4_ThreadIdOfWord(result);
+}
+
+/* A local id names a thread of the caller's space. */
 L4_INLINE L4_ThreadId_t L4_GlobalIdOf(L4_ThreadId_t t) {
-    return t;
+    L4_Word_t handle, pager;
+    return L4_IsLocalId(t) ? L4_ReadThread(t, &handle, &pager) : t;
+}
+
+/* Returns L4_nilthread for a thread of another space. */
+L4_INLINE L4_ThreadId_t L4_LocalIdOf(L4_ThreadId_t t) {
+    L4_Word_t handle, pager;
+    return L4_IsLocalId(t) ? t : L4_ReadThread(t, &handle, &pager);
 }
 
 L4_INLINE L4_Bool_t L4_SameThreads(L4_ThreadId_t l, L4_ThreadId_t r) {
-    return l.raw == r.raw;
+    return L4_GlobalIdOf(l).raw == L4_GlobalIdOf(r).raw;
 }
 
-L4_ABSENT("this kernel has no local ids: use global ids")
-L4_ThreadId_t L4_LocalIdOf(L4_ThreadId_t t);
-L4_ABSENT("this kernel has no local ids: use L4_MyGlobalId")
-L4_ThreadId_t L4_MyLocalId(void);
+/* The local id of a thread is the address of its UTCB. */
+L4_INLINE L4_ThreadId_t L4_MyLocalId(void) {
+    return L4_ThreadIdOfWord((L4_Word_t)L4_Utcb());
+}
 
 /* THREAD CONTROL REGISTERS */
 
@@ -178,12 +201,19 @@ L4_ABSENT(L4_EXCHANGE_REGISTERS_REASON)
 L4_ThreadId_t L4_ExchangeRegisters(L4_ThreadId_t dest, L4_Word_t control, L4_Word_t sp, L4_Word_t ip, L4_Word_t flags, L4_Word_t UserDefinedHandle,
                                    L4_ThreadId_t pager, L4_Word_t *old_control, L4_Word_t *old_sp, L4_Word_t *old_ip, L4_Word_t *old_flags,
                                    L4_Word_t *old_UserDefinedHandle, L4_ThreadId_t *old_pager);
-L4_ABSENT(L4_EXCHANGE_REGISTERS_REASON)
-L4_Word_t L4_UserDefinedHandleOf(L4_ThreadId_t t);
+/* The thread has to be of the caller's space. */
+L4_INLINE L4_Word_t L4_UserDefinedHandleOf(L4_ThreadId_t t) {
+    L4_Word_t handle, pager;
+    return L4_IsNilThread(L4_ReadThread(t, &handle, &pager)) ? 0 : handle;
+}
+
 L4_ABSENT(L4_EXCHANGE_REGISTERS_REASON)
 void L4_Set_UserDefinedHandleOf(L4_ThreadId_t t, L4_Word_t handle);
-L4_ABSENT(L4_EXCHANGE_REGISTERS_REASON)
-L4_ThreadId_t L4_PagerOf(L4_ThreadId_t t);
+L4_INLINE L4_ThreadId_t L4_PagerOf(L4_ThreadId_t t) {
+    L4_Word_t handle, pager;
+    return L4_IsNilThread(L4_ReadThread(t, &handle, &pager)) ? L4_nilthread : L4_ThreadIdOfWord(pager);
+}
+
 L4_ABSENT("in this kernel only L4_ThreadControl changes a pager")
 void L4_Set_PagerOf(L4_ThreadId_t t, L4_ThreadId_t p);
 L4_ABSENT(L4_EXCHANGE_REGISTERS_REASON)
