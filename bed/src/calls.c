@@ -13,8 +13,10 @@
 /* ErrorCodes of ThreadControl, SpaceControl and ExchangeRegisters. */
 enum { NO_PRIVILEGE = 1, INVALID_THREAD = 2, INVALID_SPACE = 3, INVALID_PARAMETER = 5, INVALID_UTCB_AREA = 6, INVALID_KIP_AREA = 7, OUT_OF_MEMORY = 8 };
 
-/* If the kernel refuses the message of an Ipc, the program gets the ErrorCode of a message that is too long, in the send phase. */
+/* If the kernel refuses an Ipc, the program gets the ErrorCode of a message that is too long, in the send phase; or in the receive phase if the Ipc
+ * has no other. */
 #define REFUSED_MESSAGE 8u
+#define RECEIVE_PHASE 1u
 
 static void print_refused(struct bed *bed, struct thread *thread, uint32_t refusal) {
     char code[10], text[160];
@@ -52,7 +54,7 @@ static void take_ipc(struct bed *bed, struct thread *thread) {
     if (refusal == L4_OK)
         return;
     print_refused(bed, thread, refusal);
-    thread->utcb_words[TCR_ERROR_CODE] = REFUSED_MESSAGE;
+    thread->utcb_words[TCR_ERROR_CODE] = call.to == L4_NILTHREAD ? REFUSED_MESSAGE | RECEIVE_PHASE : REFUSED_MESSAGE;
     registers->esi = FAILED_TAG;
     registers->eax = L4_NILTHREAD;
     registers->ebx = thread->utcb_words[1];

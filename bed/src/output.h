@@ -1,5 +1,5 @@
 /* The run's output: standard output, the script and the step list. No whole line is lost: what is printed is kept until its line is complete,
- * and whole lines are written at least ten times a second. If the run ends early (by a signal, a crash or a full disk), the whole lines are
+ * and whole lines are written up to a hundred times a second. If the run ends early (by a signal, a crash or a full disk), the whole lines are
  * written first, and a file ends with a whole line. */
 #ifndef OUTPUT_H
 #define OUTPUT_H
