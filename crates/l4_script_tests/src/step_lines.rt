@@ -76,6 +76,6 @@ fn the_requests_of_a_list_are_its_lines_without_comments(rt: HostRuntime) -> Res
     let Ok(requests) = read_requests(rt.alloc(), &mut reader) else {
         return Err(Fail::new("the requests cannot be read"));
     };
-    assert!(rt; requests.first() == b"space 1");
+    assert!(rt; requests.first() == b"space 1".as_slice());
     Ok(())
 }
