@@ -17,6 +17,7 @@ NEEDS = {
     "self-send": "a send to the calling thread fails at once",
     "high-pages": "threads can have pages at 0xc0000000 and above",
     "complete-space": "an item or an Unmap can name the complete space",
+    "fault-calls": "a page fault needs any rights at once, and ends with the first answer or with an ErrorCode",
 }
 HEAD = "## needs "
 
@@ -51,6 +52,41 @@ def fpages_of(line, page_log):
     return []
 
 
+# the accesses for which a processor raises a fault
+SINGLE = (4, 2, 1)
+READ = 4
+
+
+def rights_at(model, number, address):
+    """The rights of the page that a thread has at an address; none if there is no page."""
+    mapping = model.machine.places.get((model.machine.threads[number].space, address >> model.machine.page_log))
+    return mapping.rights if mapping else 0
+
+
+def needs_fault_call(model, number, address, access):
+    """Whether a processor would not raise this fault as the list does: x86 lets a thread read each page that it has."""
+    rights = rights_at(model, number, address)
+    return access not in SINGLE or access == READ and rights != 0 and not rights & READ
+
+
+def has_ended_fault(model, answer):
+    """Whether a fault fails, or ends although the access is still not allowed: a processor would repeat it."""
+    for end in answer.splitlines():
+        words = end.split()
+        if words[1:2] == ["failed"]:
+            return True
+        if words[1:2] == ["answered"]:
+            address, access = faults_of(model)[int(words[0])]
+            if rights_at(model, int(words[0]), address) & access != access:
+                return True
+    return False
+
+
+def faults_of(model):
+    """The last fault of each thread: its address and access."""
+    return model.__dict__.setdefault("faults", {})
+
+
 def call_needs(model, line):
     """What a call needs by its words."""
     found, tokens = set(), line.split()
@@ -62,8 +98,13 @@ def call_needs(model, line):
     thread = model.machine.threads.get(int(tokens[1]))
     if tokens[2] == "ipc" and thread and int(tokens[3], 0) == thread.ident:
         found.add("self-send")
-    if tokens[2] == "fault" and int(tokens[3], 0) >= HIGH:
-        found.add("high-pages")
+    if tokens[2] == "fault" and thread:
+        address, access = int(tokens[3], 0), int(tokens[5], 0)
+        faults_of(model)[int(tokens[1])] = (address, access)
+        if address >= HIGH:
+            found.add("high-pages")
+        if needs_fault_call(model, int(tokens[1]), address, access):
+            found.add("fault-calls")
     return found
 
 
@@ -83,6 +124,8 @@ def step(model, line):
     answer = model.answer(line)
     if answer.startswith("entangled"):
         found.add("entangled")
+    if has_ended_fault(model, answer):
+        found.add("fault-calls")
     if words[0] == "transfer" and any(space and page >= HIGH >> model.machine.page_log for space, page in model.machine.places):
         found.add("high-pages")
     return answer, found

@@ -67,7 +67,7 @@ struct thread {
     uint32_t *utcb_words; /* message register 0 in the bed's memory */
     uint32_t fault_address, fault_access;
     uint32_t vain_answers; /* answers in a row to one fault that did not give the right */
-    char text[127];        /* the line that it has begun to print */
+    char text[1023];       /* the line that it has begun to print; a longer one is printed in parts */
     size_t text_length;
 };
 

@@ -27,7 +27,8 @@ use Rattle.l4_judging.specs.declared.judging.Judged.{Judged}
 use Rattle.l4_judging.specs.declared.judging.JudgeFault.{JudgeFault}
 use Rattle.l4_judging.specs.declared.judging.Wanted.{Wanted}
 use Rattle.l4_judging.specs.Agreeing.{said_then, said_above, SaysLines, SaysText, IsAnswered, AreAnswered, Agrees, AllAgrees}
-use Rattle.l4_judging.specs.Judging.{said_in, has_said, after_answer, lacks, is_short, stops, ends_short, is_wanted, has_all, with_answer, with_request, step_count, differs_at_end, verdict_of, IsExpected, JudgesAnswer, JudgesAsked, JudgesSaid, JudgesAt, JudgesLines, Ends, JudgesFirst, IsUnwritten, Judges}
+use Rattle.l4_judging.specs.Calls.{starts_call}
+use Rattle.l4_judging.specs.Judging.{said_in, has_said, after_answer, lacks, is_short, stops, ends_short, is_wanted, has_all, with_answer, with_call, with_request, step_count, differs_at_end, verdict_of, IsExpected, JudgesAnswer, JudgesAsked, JudgesSaid, JudgesAt, JudgesLines, Ends, JudgesFirst, IsUnwritten, Judges}
 use Rattle.l4_judging.specs.Requests.{request_text, requests_text}
 
 -- TESTS
@@ -165,7 +166,7 @@ agree_silent m n old number line lines whole plain silent a =
     }
 
 agree_request : (m between n : Machine) (old : Judged) (request : Request) (e : Expected) (number : ℕ) (line : TextLine) (lines : List TextLine) → ending_of line ≡ Whole → said_in line.bytes ≡ None → is_silent line.bytes ≡ false
-    → asked_at number Whole line.bytes ≡ Ok (Some request) → IsExpected m request number line.bytes e between → Agree between (with_request old (step_count request) e) (number + 1) lines n → Agree m old number (line ∷ lines) n
+    → asked_at number Whole line.bytes ≡ Ok (Some request) → IsExpected m old.calls request number line.bytes e between → Agree between (with_request (with_call old (starts_call request) number line.bytes) (step_count request) e) (number + 1) lines n → Agree m old number (line ∷ lines) n
 agree_request m between n old request e number line lines whole plain loud asks expects a =
     let d = not_not_true (old.differs || is_short old.partial old.expected) (is_wanted (ends_short old) old.requests e.line.items) a.same in
     let before = or_false old.differs (is_short old.partial old.expected) d.0 in

@@ -28,7 +28,8 @@ use Rattle.l4_judging.specs.declared.judging.Judged.{Judged}
 use Rattle.l4_judging.specs.declared.judging.JudgeFault.{JudgeFault}
 use Rattle.l4_judging.specs.declared.judging.JudgeFault.TheVariants.{List as OfList}
 use Rattle.l4_judging.specs.declared.judging.Wanted.{Wanted}
-use Rattle.l4_judging.specs.Judging.{said_in, has_said, is_unknown, after_answer, difference, with_answer, with_request, ends_short, IsExpected, answer_count, step_count, is_short, short_text, stops, is_wanted, other_text, has_all, missing_text, end_report, differs_at_end, verdict_of, agreed_text, JudgesAnswer, JudgesAsked, JudgesSaid, JudgesAt, JudgesLines, IsStart, JudgesFirst, EndsAt, EndsWith, Ends, IsUnwritten, Judges}
+use Rattle.l4_judging.specs.Calls.{Calls, starts_call, with_last}
+use Rattle.l4_judging.specs.Judging.{request_report, with_call, said_in, has_said, is_unknown, after_answer, difference, with_answer, with_request, ends_short, IsExpected, answer_count, step_count, is_short, short_text, stops, is_wanted, other_text, has_all, missing_text, end_report, differs_at_end, verdict_of, agreed_text, JudgesAnswer, JudgesAsked, JudgesSaid, JudgesAt, JudgesLines, IsStart, JudgesFirst, EndsAt, EndsWith, Ends, IsUnwritten, Judges}
 use Rattle.l4_judging.specs.Inside.Judged.{MatchesAnswer, TellsRequest, TellsJudged, EndsBy, EndsEarly, TellsEnd, JudgesSome, TellsLines}
 use Rattle.l4_text.proofs.Grammar.{cut_line, none_whole}
 use Rattle.l4_answers.proofs.Taking.{Taken, taken_none, taken_more, taken_parts, taken_with, rest_is, line_of_more, ending_whole, ending_long, nothing_kept, something_kept}
@@ -38,9 +39,9 @@ use Rattle.l4_answers.proofs.Taking.{Taken, taken_none, taken_more, taken_parts,
 -- an answer was compared
 pub answer_judged : (old : Judged) (e : Expected) (number : ℕ) (said : List ℕ) (same differs : Bool) (count : ℕ) (after : Expected) (written out : Option (List ℕ)) (s t : List ℕ × Bool) → old.expected ≡ Some e → same ≡ has_said e.due said
     → after ≡ after_answer e number → count ≡ answer_count said → differs ≡ (old.differs || not same) → Tells written out s t (cond (has_said e.due said) [] (difference e number said))
-    → MatchesAnswer old (record { alloc = old.alloc; requests = old.requests; partial = old.partial; all = old.all; expected = Some after; steps = old.steps; answers = old.answers + count; differs = differs }) number said written out s t true
+    → MatchesAnswer old (record { alloc = old.alloc; requests = old.requests; partial = old.partial; all = old.all; keeps_calls = old.keeps_calls; calls = old.calls; expected = Some after; steps = old.steps; answers = old.answers + count; differs = differs }) number said written out s t true
 answer_judged old e number said same differs count after written out s t is same_is after_is count_is differs_is tells =
-    let made : Expected → ℕ → Bool → Judged = λ a n d. record { alloc = old.alloc; requests = old.requests; partial = old.partial; all = old.all; expected = Some a; steps = old.steps; answers = old.answers + n; differs = d } in
+    let made : Expected → ℕ → Bool → Judged = λ a n d. record { alloc = old.alloc; requests = old.requests; partial = old.partial; all = old.all; keeps_calls = old.keeps_calls; calls = old.calls; expected = Some a; steps = old.steps; answers = old.answers + n; differs = d } in
     let new_is : made after count differs ≡ with_answer old e number said =
     ap (λ (a : Expected). made a count differs) after_is
     ∙ ap (λ (n : ℕ). made (after_answer e number) n differs) count_is
@@ -66,13 +67,13 @@ above_differs old short inner short_is inner_is = inner_is ∙ ap (λ b. old.dif
 pub request_judged : (old : Judged) (e : Expected) (above : Option Expected) (requests later : Option (List ℕ)) (found : List ℕ) (short ended same inner differs : Bool) (steps : ℕ) (a b c : Option (List ℕ)) (s t u : List ℕ × Bool)
     → found ≡ e.line.items → above ≡ old.expected → requests ≡ old.requests → later ≡ option_map later_lines old.requests → short ≡ is_short old.partial above → ended ≡ stops old.all short → same ≡ is_wanted ended requests found
     → inner ≡ (old.differs || not (not short)) → differs ≡ (inner || not same) → Tells a b s t (short_text old.partial above) → Tells b c t u (other_text ended requests e.last found)
-    → TellsRequest old (record { alloc = old.alloc; requests = later; partial = old.partial; all = old.all; expected = Some e; steps = old.steps + steps; answers = old.answers; differs = differs }) steps e a c s u
+    → TellsRequest old (record { alloc = old.alloc; requests = later; partial = old.partial; all = old.all; keeps_calls = old.keeps_calls; calls = old.calls; expected = Some e; steps = old.steps + steps; answers = old.answers; differs = differs }) steps e a c s u
 request_judged old e above requests later found short ended same inner differs steps a b c s t u found_is above_is requests_is later_is short_is ended_is same_is inner_is differs_is told_short told_other =
     let short' = above_is_short old above short above_is short_is in
     let ended' = above_ends old short ended short' ended_is in
     let line : List ℕ = e.line.items in
     let same' : same ≡ is_wanted (ends_short old) old.requests line = same_is ∙ ap (λ l. is_wanted ended requests l) found_is ∙ ap (λ r. is_wanted ended r line) requests_is ∙ ap (λ b. is_wanted b old.requests line) ended' in
-    let made : Option (List ℕ) → Bool → Judged = λ r d. record { alloc = old.alloc; requests = r; partial = old.partial; all = old.all; expected = Some e; steps = old.steps + steps; answers = old.answers; differs = d } in
+    let made : Option (List ℕ) → Bool → Judged = λ r d. record { alloc = old.alloc; requests = r; partial = old.partial; all = old.all; keeps_calls = old.keeps_calls; calls = old.calls; expected = Some e; steps = old.steps + steps; answers = old.answers; differs = d } in
     let differs' : differs ≡ ((old.differs || is_short old.partial old.expected) || not (is_wanted (ends_short old) old.requests line)) =
     differs_is ∙ ap (λ b. b || not same) (above_differs old short inner short' inner_is) ∙ ap (λ b. (old.differs || is_short old.partial old.expected) || not b) same' in
     let new_is : made later differs ≡ with_request old steps e = ap (λ (r : Option (List ℕ)). made r differs) later_is ∙ ap (λ (d : Bool). made (option_map later_lines old.requests) d) differs' in (
@@ -88,11 +89,19 @@ asks_request number line request loud is =
     ap (λ b. cond b (Ok None) (ok_or (option_map Some (request_of (tokens_of line))) (Unread number (unread_says number (tokens_of line))))) loud
     ∙ ap (λ o. ok_or (option_map Some o) (Unread number (unread_says number (tokens_of line)))) is
 
+-- what was judged, with other last calls
+abbrev pub keeping : Judged → Calls → Judged
+keeping old calls =
+    record { alloc = old.alloc; requests = old.requests; partial = old.partial; all = old.all; keeps_calls = old.keeps_calls; calls = calls; expected = old.expected; steps = old.steps; answers = old.answers; differs = old.differs }
+
 -- the line of a request was judged
-pub line_judged : (m n : Machine) (old new : Judged) (request : Request) (number : ℕ) (line : List ℕ) (steps : ℕ) (e : Expected) (a b : Option (List ℕ)) (s t : List ℕ × Bool) → said_in line ≡ None → asked_at number Whole line ≡ Ok (Some request)
-    → IsExpected m request number line e n → steps ≡ step_count request → TellsRequest old new steps e a b s t → TellsJudged m n old new number line a b s t (Ok tt)
-line_judged m n old new request number line steps e a b s t plain asked expects steps_is told =
-    let judged : (text : List ℕ) × JudgesAsked m old (Ok (Some request)) number line text n new × Tells a b s t text = (_, (e, expects, refl, told.0 ∙ ap (λ k. with_request old k e) steps_is), told.1) in (
+pub line_judged : (m n : Machine) (old new : Judged) (request : Request) (number : ℕ) (line : List ℕ) (steps : ℕ) (caller : Option ℕ) (calls : Calls) (e : Expected) (a b : Option (List ℕ)) (s t : List ℕ × Bool) → said_in line ≡ None → asked_at number Whole line ≡ Ok (Some request)
+    → IsExpected m old.calls request number line e n → steps ≡ step_count request → caller ≡ starts_call request → calls ≡ with_last old.keeps_calls old.calls caller number line → TellsRequest (keeping old calls) new steps e a b s t
+    → TellsJudged m n old new number line a b s t (Ok tt)
+line_judged m n old new request number line steps caller calls e a b s t plain asked expects steps_is caller_is calls_are told =
+    let kept : keeping old calls ≡ with_call old (starts_call request) number line = ap (keeping old) (calls_are ∙ ap (λ o. with_last old.keeps_calls old.calls o number line) caller_is) in
+    let judged : (text : List ℕ) × JudgesAsked m old (Ok (Some request)) number line text n new × Tells a b s t text =
+    (request_report old e, (e, expects, refl, told.0 ∙ ap (λ j. with_request j steps e) kept ∙ ap (λ k. with_request (with_call old (starts_call request) number line) k e) steps_is), told.1) in (
       judged.0,
       subst (λ (o : Option (List ℕ)). JudgesSaid m old number o line judged.0 n new) (sym plain) (subst (λ (q : Result (Option Request) Fault). JudgesAsked m old q number line judged.0 n new) (sym asked) judged.1),
       judged.2,

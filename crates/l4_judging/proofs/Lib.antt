@@ -1,5 +1,6 @@
 mod Agreement
 mod JudgedLines
+mod LastCalls
 mod RequestLines
 mod Skipping
 mod WatchedLines

@@ -1,5 +1,6 @@
 -- What is reported of a list of steps and queries with another kernel's answers (this profile's own).
 use Rattle.std.specs.Prelude.{ℕ, ◌≡◌, ◌+◌, ◌==◌, ◌||◌, ◌&&◌, ◌⊎◌, not, Bool, true, false, List, [], ◌∷◌, ◌++◌, length, filter, codes, decimal, Option, Some, None, is_none, option_map, MatchOption, Result, Ok, Err, if◌then◌else◌}
+use Rattle.std.specs.FinMap as fin
 use Rattle.std.specs.Str.{bytes_eq}
 use Rattle.std.specs.Io.KnownBytes.{Consumes, Appends, IsAtEnd}
 use Rattle.l4_answers.specs.Replies.{newline}
@@ -24,6 +25,7 @@ use Rattle.l4_judging.specs.declared.judging.Judged.{Judged}
 use Rattle.l4_judging.specs.declared.judging.JudgeFault.{JudgeFault}
 use Rattle.l4_judging.specs.declared.judging.JudgeFault.TheVariants.{List as OfList, NoStep, Empty, Uncompared}
 use Rattle.l4_judging.specs.declared.judging.Wanted.{Wanted}
+use Rattle.l4_judging.specs.Calls.{Calls, starts_call, calls_of, with_last}
 
 -- AN ANSWER OF THE LIST
 
@@ -42,17 +44,19 @@ is_unknown said = bytes_eq said (codes "?")
 abbrev pub has_said : List ℕ → List ℕ → Bool
 has_said due said = if length due == 0 then false else is_unknown said || bytes_eq said (first_line due)
 
--- the machine's answer to the request of the line with this number, of which nothing was compared yet, and the step that is enabled after it
-pub record IsExpected (old : Machine) (request : Request) (number : ℕ) (line : List ℕ) (expected : Expected) (new : Machine) : Type 0 where
+-- the machine's answer to the request of the line with this number, of which nothing was compared yet, the last calls of the threads that it names,
+-- and the step that is enabled after it
+pub record IsExpected (old : Machine) (calls : Calls) (request : Request) (number : ℕ) (line : List ℕ) (expected : Expected) (new : Machine) : Type 0 where
   pub answers : Answers old request expected.due new
   pub next : MatchOption expected.next (IsIdle new) (IsNext new)
   pub line_is : expected.line.items ≡ line
+  pub calls_are : expected.calls.items ≡ calls_of calls request
   pub last : expected.last ≡ number
   pub none : expected.answered ≡ false
 
 -- what is expected after the answer at this line
 abbrev pub after_answer : Expected → ℕ → Expected
-after_answer expected number = record { line = expected.line; due = later_lines expected.due; next = expected.next; last = number; answered = true }
+after_answer expected number = record { line = expected.line; due = later_lines expected.due; calls = expected.calls; next = expected.next; last = number; answered = true }
 
 -- DIFFERENCES
 
@@ -63,10 +67,11 @@ hint first next = if bytes_eq first (codes "refused K1") then codes " (enabled "
 abbrev pub wanted : List ℕ → Option Step → List ℕ
 wanted due next = if length due == 0 then codes "no further answer" else first_line due ++ hint (first_line due) next
 
--- something else was expected than what was found at this line
+-- something else was expected than what was found at this line; the last calls follow
 abbrev pub difference : Expected → ℕ → List ℕ → List ℕ
 difference expected number found =
     codes "line " ++ decimal number ++ codes ": " ++ expected.line.items ++ codes ": expected " ++ wanted expected.due expected.next ++ codes ", found " ++ found ++ newline
+    ++ expected.calls.items
 
 -- lines are due that the list does not give; where answers may be left out, only if it gives others
 abbrev pub lacks : Bool → Expected → Bool
@@ -135,6 +140,8 @@ with_answer judged expected number said = record {
   requests = judged.requests;
   partial = judged.partial;
   all = judged.all;
+  keeps_calls = judged.keeps_calls;
+  calls = judged.calls;
   expected = Some (after_answer expected number);
   steps = judged.steps;
   answers = judged.answers + answer_count said;
@@ -152,13 +159,30 @@ with_request judged steps expected = record {
   requests = option_map later_lines judged.requests;
   partial = judged.partial;
   all = judged.all;
+  keeps_calls = judged.keeps_calls;
+  calls = judged.calls;
   expected = Some expected;
   steps = judged.steps + steps;
   answers = judged.answers;
   differs = (judged.differs || is_short judged.partial judged.expected) || not (is_wanted (ends_short judged) judged.requests expected.line.items);
 }
 
--- what is reported of it
+-- the call that a request starts is the last one of its thread
+abbrev pub with_call : Judged → Option ℕ → ℕ → List ℕ → Judged
+with_call judged caller number line = record {
+  alloc = judged.alloc;
+  requests = judged.requests;
+  partial = judged.partial;
+  all = judged.all;
+  keeps_calls = judged.keeps_calls;
+  calls = with_last judged.keeps_calls judged.calls caller number line;
+  expected = judged.expected;
+  steps = judged.steps;
+  answers = judged.answers;
+  differs = judged.differs;
+}
+
+-- what is reported of a request
 abbrev pub request_report : Judged → Expected → List ℕ
 request_report judged expected =
     short_text judged.partial judged.expected ++ other_text (ends_short judged) judged.requests expected.last expected.line.items
@@ -172,7 +196,8 @@ JudgesAnswer old (Some expected) number said text new =
 -- the request of the line with this number, below which answers can follow
 abbrev pub JudgesRequest : Machine → Judged → Request → ℕ → List ℕ → List ℕ → Machine → Judged → Type 0
 JudgesRequest m old request number line text n new =
-    (expected : Expected) × IsExpected m request number line expected n × (text ≡ request_report old expected) × (new ≡ with_request old (step_count request) expected)
+    (expected : Expected) × IsExpected m old.calls request number line expected n × (text ≡ request_report old expected)
+    × (new ≡ with_request (with_call old (starts_call request) number line) (step_count request) expected)
 
 abbrev pub JudgesAsked : Machine → Judged → Result (Option Request) Fault → ℕ → List ℕ → List ℕ → Machine → Judged → Type 0
 JudgesAsked m old (Ok None) number line text n new = (text ≡ []) × (n ≡ m) × (new ≡ old)
@@ -214,9 +239,17 @@ abbrev pub is_agreement : Result Bool JudgeFault → Bool
 is_agreement (Ok agrees) = agrees
 is_agreement (Err fault) = false
 
+-- the ending of a noun that follows a number
+abbrev pub plural : ℕ → List ℕ
+plural number = if number == 1 then [] else codes "s"
+
+abbrev pub agreement_text : ℕ → ℕ → List ℕ
+agreement_text steps answers =
+    codes "agrees: " ++ decimal steps ++ codes " step" ++ plural steps ++ codes ", " ++ decimal answers ++ codes " answer" ++ plural answers ++ newline
+
 -- `agrees` with the counts, where the list agrees
 abbrev pub agreed_text : Result Bool JudgeFault → Judged → List ℕ
-agreed_text verdict judged = if is_agreement verdict then codes "agrees: " ++ decimal judged.steps ++ codes " steps, " ++ decimal judged.answers ++ codes " answers\n" else []
+agreed_text verdict judged = if is_agreement verdict then agreement_text judged.steps judged.answers else []
 
 -- A RUN
 
@@ -224,6 +257,8 @@ pub record IsStart (wanted : Wanted) (judged : Judged) : Type 0 where
   pub requests : judged.requests ≡ wanted.requests
   pub partial : judged.partial ≡ wanted.partial
   pub all : judged.all ≡ wanted.all
+  pub keeps_calls : judged.keeps_calls ≡ wanted.calls
+  pub calls : judged.calls ≡ fin.empty
   pub expected : judged.expected ≡ None
   pub steps : judged.steps ≡ 0
   pub answers : judged.answers ≡ 0

@@ -1,4 +1,5 @@
 pub mod Agreeing
+pub mod Calls
 pub mod Inside
 pub mod Judging
 pub mod Requests

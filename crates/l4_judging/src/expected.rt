@@ -15,6 +15,8 @@ pub(crate) struct Expected {
     pub(crate) line: Vec<u8>,
     /// The lines of the answer that were not compared yet.
     pub(crate) due: AnswerLines,
+    /// The last calls of the threads that it names, as lines of a report.
+    pub(crate) calls: Vec<u8>,
     /// The step that is enabled after it.
     pub(crate) next: Option<Step>,
     /// The number of the line of the last answer, or of the step or query if it has no answer yet.

@@ -7,6 +7,7 @@ ghost use Rattle.l4_judging.specs.Agreeing.{AllAgrees};
 ghost use Rattle.l4_judging.specs.Judging.{said_in, answer_count, after_answer, step_count, stops, agreed_text, is_agreement, verdict_of, IsExpected, Judges};
 ghost use Rattle.l4_judging.specs.Inside.Judged.{MatchesAnswer, TellsRequest, TellsJudged, TellsEnd, TellsLines, EndsEarly, SkipsRest};
 
+use crate::calls::{LastCalls, starts_call};
 use crate::ending::check_ending;
 use crate::expected::{Expected, is_unknown};
 use crate::reports::{agrees_text, compare, compare_end, compare_request, put_short};
@@ -45,6 +46,8 @@ pub struct Wanted {
     pub partial: bool,
     /// Whether every difference is reported, and not only the first.
     pub all: bool,
+    /// Whether the last calls of the threads that a step names are reported with each difference.
+    pub calls: bool,
 }
 
 /// What a list must have below the part that has been judged, and what was found in that part.
@@ -54,6 +57,8 @@ pub(crate) struct Judged {
     requests: Option<AnswerLines>,
     partial: bool,
     all: bool,
+    keeps_calls: bool,
+    calls: LastCalls,
     expected: Option<Expected>,
     steps: u64,
     answers: u64,
@@ -157,18 +162,21 @@ pub(crate) fn answered(alloc: Global, kernel: &mut Kernel, request: Request) -> 
 fn expect(
     alloc: Global,
     kernel: &mut Kernel,
+    calls: &LastCalls,
     request: Request,
     number: u64,
     line: &[u8],
 ) -> Option<Expected>
     ensures { IfSome result
-        (λ expected. IsExpected kernel.old request number line.now expected kernel.new) }
+        (λ expected. IsExpected kernel.old calls.now request number line.now expected kernel.new) }
 {
     let line = copied(alloc, line)?;
+    let calls = calls.named(alloc, &request)?;
     let text = answered(alloc, kernel, request)?;
     Some(Expected {
         line,
         due: AnswerLines::new(text),
+        calls,
         next: kernel.enabled(),
         last: number,
         answered: false,
@@ -248,9 +256,16 @@ fn judge_line<W: Write>(
         return Err(JudgeFault::List(Fault::Unread(number, unread_reason(number, line))));
     };
     let steps = step_count(&request);
-    let Some(expected) = expect(judged.alloc, kernel, request, number, line) else {
+    let caller = starts_call(&request);
+    let Some(expected) = expect(judged.alloc, kernel, &judged.calls, request, number, line) else {
         return Err(JudgeFault::List(Fault::Stopped(RunFault::Memory)));
     };
+    if !judged
+        .calls
+        .keep(judged.alloc, judged.keeps_calls, caller, number, line)
+    {
+        return Err(JudgeFault::List(Fault::Stopped(RunFault::Memory)));
+    }
     judge_request(judged, steps, expected, out, writer);
     Ok(())
 }
@@ -427,6 +442,8 @@ pub fn judge<R: Read, W: Write>(
         requests: wanted.requests,
         partial: wanted.partial,
         all: wanted.all,
+        keeps_calls: wanted.calls,
+        calls: LastCalls::new(alloc),
         expected: None,
         steps: 0,
         answers: 0,

@@ -1,6 +1,7 @@
 //! Another kernel's answers to steps and queries, compared with this kernel's.
 #![tactic(auto)]
 
+mod calls;
 mod ending;
 mod expected;
 mod judging;

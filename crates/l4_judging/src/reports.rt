@@ -2,7 +2,7 @@
 ghost use Rattle.std.specs.Prelude.{◌≡◌, ◌∷◌, [], ◌++◌, codes, decimal, if◌then◌else◌};
 ghost use Rattle.std.specs.Option.{option_copied};
 ghost use Rattle.l4_text.specs.Streams.{Tells};
-ghost use Rattle.l4_judging.specs.Judging.{has_said, wanted, difference, no_answer, lacks, lack_of, is_short, short_text, wanted_request, other_request, is_wanted, other_text, has_all, missing_text};
+ghost use Rattle.l4_judging.specs.Judging.{has_said, wanted, difference, no_answer, lacks, lack_of, is_short, short_text, wanted_request, other_request, is_wanted, other_text, has_all, missing_text, plural, agreement_text};
 
 use crate::expected::{Expected, has_said, lacks};
 use l4_answers::AnswerLines;
@@ -59,7 +59,7 @@ fn put_wanted<W: Write>(expected: &Expected, out: &mut Output, writer: &mut W)
     }
 }
 
-/// Writes the expected answer, and the one found at the line of this number.
+/// Writes the expected answer, and the one found at the line of this number; below them, the last calls that are reported with it.
 fn put_difference<W: Write>(
     expected: &Expected,
     number: u64,
@@ -77,6 +77,7 @@ fn put_difference<W: Write>(
     put_bytes(b", found ", out, writer);
     put_bytes(found, out, writer);
     out.end_line(writer);
+    put_bytes(expected.calls.as_slice(), out, writer);
 }
 
 /// Compares an answer with the expected one, and reports a difference. Returns whether they agree.
@@ -227,16 +228,29 @@ pub(crate) fn compare_end<W: Write>(
     false
 }
 
+/// The ending of a noun that follows this number.
+fn plural(number: u64) -> &'static [u8]
+    ensures { result.now ≡ plural number }
+{
+    if number == 1 {
+        return b"";
+    }
+    b"s"
+}
+
 /// `agrees: N steps, A answers`
 pub(crate) fn agrees_text(steps: u64, answers: u64) -> Text
-    ensures { result ≡ codes "agrees: " ++ decimal steps ++ codes " steps, " ++ decimal answers
-        ++ codes " answers\n" }
+    ensures { result ≡ agreement_text steps answers }
 {
     let mut text = Text::new();
     text.add(b"agrees: ");
     text.add_number(steps);
-    text.add(b" steps, ");
+    text.add(b" step");
+    text.add(plural(steps));
+    text.add(b", ");
     text.add_number(answers);
-    text.add(b" answers\n");
+    text.add(b" answer");
+    text.add(plural(answers));
+    text.add(b"\n");
     text
 }

@@ -27,7 +27,7 @@ fn keep(text: &mut Vec<u8>, line: &[u8]) -> bool
 
 /// Reads the requests of a list: its lines with their newlines, without comments, answers and empty lines.
 ///
-/// Returns `Cut` and `Long` as `run` does. A line that is no step or query is returned like the others.
+/// Returns `Cut` and `Long` as `run` does. A line that is neither a step nor a query is returned like the others.
 pub fn read_requests<R: Read>(alloc: Global, reader: &mut R) -> Result<AnswerLines, Fault>
     ensures { ReadsRequests (R.remaining reader.old) (R.remaining reader.new) result }
 {
