@@ -33,6 +33,10 @@ class NoSteps(Unread):
         return "line {}: {}".format(*self.args)
 
 
+def _counted(number: int, noun: str) -> str:
+    return f"{number} {noun}{'' if number == 1 else 's'}"
+
+
 @dataclass(frozen=True)
 class Agreement:
     """The list has the wanted steps and queries, and the proved kernel's answers. `steps` counts the steps, and `answers` the answer lines that were compared."""
@@ -41,7 +45,7 @@ class Agreement:
     answers: int
 
     def __str__(self) -> str:
-        return f"agrees: {self.steps} steps, {self.answers} answers"
+        return f"agrees: {_counted(self.steps, 'step')}, {_counted(self.answers, 'answer')}"
 
 
 @dataclass(frozen=True)

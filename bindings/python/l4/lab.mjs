@@ -1,6 +1,7 @@
 // The lab's source of answers: the server of `python3 -m l4 lab`.
 import { begin } from "./views/main.mjs";
 import { shownAt } from "./views/shown.mjs";
+import { Timeline } from "./views/timeline.mjs";
 
 class ServerSource {
   constructor() {
@@ -25,6 +26,7 @@ class ServerSource {
     if (this.run?.key !== key) {
       this.report("Running the script");
       this.run = { key, ...(await this.#fetch("/run", { script, frames, pageBytes })) };
+      this.run.timeline = new Timeline(this.run.steps, pageBytes);
     }
     return this.run;
   }
@@ -34,7 +36,7 @@ class ServerSource {
     this.report("Reading the pages of the spaces");
     const told = await this.#fetch("/view", { ...asked, at });
     const text = told.lines.find(({ number }) => number === told.begun)?.text ?? "";
-    const shown = shownAt({ ...told, steps: run.steps, done: at, before: Math.max(0, at - 1), pageBytes: asked.pageBytes, text });
+    const shown = shownAt({ ...told, timeline: run.timeline, done: at, before: Math.max(0, at - 1), pageBytes: asked.pageBytes, text });
     shown.events.forEach((event) => { event.says = event.step.says; });
     const { lines, line, notes } = told;
     return { at, count: run.steps.length, line, lineCount: run.lineCount, lines, refusals: run.refusals, notes, pageBytes: asked.pageBytes, ...shown };

@@ -26,7 +26,7 @@ MOST_MAPPINGS = 50_000
 MOST_STATES = 100_000
 
 # the largest numbers of lines, characters of a line, answers of a line, refused lines and items of a plan that an answer has
-_LINES, _CHARACTERS, _ANSWERS, _REFUSALS, _ITEMS = 200, 300, 64, 64, 256
+_LINES, _CHARACTERS, _ANSWERS, _REFUSALS, _ITEMS = 120, 300, 64, 64, 256
 
 # the words of the page for the ends of a search
 _ENDS = {SearchEnd.ALL_ORDERS: "all", SearchEnd.MOST_STATES: "most", SearchEnd.MEMORY: "memory", SearchEnd.HISTORY: "history"}
@@ -134,14 +134,16 @@ def _refusal(event: Event) -> Optional[Dict[str, Any]]:
 def run(asked: Dict[str, Any]) -> Dict[str, Any]:
     """Returns the steps of a run, and its refused lines, each with the step that was the last one then, and the names of threads."""
     events, steps, refusals, count = Run(asked), [], [], 0
+    texts = lines_of(events.text)
     for event in events:
         if event.is_step:
             steps.append({**_step(event), "number": len(steps) + 1, "at": len(steps) + 1})
         refusal = _refusal(event)
         if refusal:
             count += 1
-            refusals += [{**refusal, "at": len(steps), "names": sorted(events.script.names)}] if len(refusals) < _REFUSALS else []
-    return {"steps": steps, "refusals": {"count": count, "first": refusals}, "notes": events.notes, "lineCount": len(lines_of(events.text))}
+            more = {"text": texts[event.line - 1], "at": len(steps), "names": sorted(events.script.names)}
+            refusals += [{**refusal, **more}] if len(refusals) < _REFUSALS else []
+    return {"steps": steps, "refusals": {"count": count, "first": refusals}, "notes": events.notes, "lineCount": len(texts)}
 
 
 def _runs(kernel: Kernel, space: int, most: int) -> Tuple[List[List[Any]], int]:

@@ -1,6 +1,8 @@
 """A kernel that threads share, with its history and its seats."""
 from __future__ import annotations
 
+import asyncio
+import contextlib
 import threading
 import time
 from ctypes import byref, c_char
@@ -119,6 +121,12 @@ def _receipt(told: _library.l4_receipt) -> Optional[Receipt]:
     return None if reply is None else Receipt(_call(told), told.start, told.end, reply)
 
 
+def _finish(future: asyncio.Future[None]) -> None:
+    """Ends the wait of a task, unless the task was cancelled."""
+    if not future.done():
+        future.set_result(None)
+
+
 class _Lock(Handle):
     """A locked kernel of the library. Each call holds the lock, and each seat has a condition variable of the lock, on which its thread
     waits."""
@@ -126,6 +134,8 @@ class _Lock(Handle):
     def __init__(self, frames: int, page_bytes: int) -> None:
         super().__init__(_library.l4_lock(), library.l4_lock_new_sized, library.l4_lock_free, frames, page_bytes)
         self._wakers: Dict[int, threading.Condition] = {}
+        # what to call when a seat is woken whose call a task awaits
+        self._notices: Dict[int, Callable[[], object]] = {}
         # the seats whose waits are to end
         self.ended: Set[int] = set()
 
@@ -142,17 +152,29 @@ class _Lock(Handle):
         """Returns the condition variable of a seat. The lock must be held."""
         return self._wakers.setdefault(seat, threading.Condition(self._lock))
 
+    def notice(self, seat: int) -> asyncio.Future[None]:
+        """Returns a future of the running event loop that is done once the seat is woken. The lock must be held."""
+        loop = asyncio.get_running_loop()
+        future: asyncio.Future[None] = loop.create_future()
+        self._notices[seat] = lambda: loop.call_soon_threadsafe(_finish, future)
+        return future
+
     def wake(self, seat: int) -> None:
-        """Wakes the thread that waits in a call of this seat, if there is one. The lock must be held."""
+        """Wakes the thread or the task that waits in a call of this seat, if there is one. The lock must be held."""
         if seat in self._wakers:
             self._wakers[seat].notify_all()
+        notice = self._notices.pop(seat, None)
+        if notice is not None:
+            # the event loop may be closed
+            with contextlib.suppress(RuntimeError):
+                notice()
 
     def close(self) -> None:
         """Frees the kernel, even if calls wait, and wakes the threads that wait for them."""
         super().close()
         if not Forks.among_threads:
             with self._lock:
-                for seat in self._wakers:
+                for seat in {*self._wakers, *self._notices}:
                     self.wake(seat)
 
     def answer(self, function: Callable[..., Any], *values: Any) -> Any:
@@ -429,6 +451,38 @@ class Seat(Unique):
                 lock.waker(self._number).wait()
                 reply = self.take()
             return reply
+
+    async def call_async(self, call: Call) -> Reply:
+        """Makes a call as `call` does, and awaits its end in the running asyncio event loop. No thread waits for it, so that one thread can
+        serve many seats. Raises what `call` raises.
+
+        If the task is cancelled, the call does not end. Get its reply with `take` or `wait_for`.
+
+        >>> import asyncio
+        >>> from l4 import Call, Message, SharedKernel, ThreadId
+        >>> kernel = SharedKernel(1)
+        >>> sigma0, root = kernel.seat(1), kernel.seat(2)
+        >>> async def both():
+        ...     send = Call.send(ThreadId.ROOT, Message.of(untyped=[7]))
+        ...     received, _ = await asyncio.gather(root.call_async(Call.receive()), sigma0.call_async(send))
+        ...     return received.message.untyped
+        >>> asyncio.run(both())
+        (7,)
+        """
+        lock = self._kernel._lock
+        with lock.entered:
+            reply = self._enter(call)
+            lock.ended.discard(self._number)
+        while reply is None:
+            with lock.entered:
+                reply = self.take()
+                if reply is not None:
+                    break
+                if self._number in lock.ended:
+                    raise Refused(_library.L4_K3)
+                woken = lock.notice(self._number)
+            await woken
+        return reply
 
     def _enter(self, call: Call) -> Optional[Reply]:
         """Enters a call, and returns its reply if it has ended."""

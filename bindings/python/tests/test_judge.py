@@ -81,7 +81,7 @@ class Lists(unittest.TestCase):
         ]:
             with self.subTest(text):
                 self.assertEqual(str(self.of(text)), wanted)
-                self.assertEqual(str(self.of(text, partial=True)), "agrees: 0 steps, 1 answers")
+                self.assertEqual(str(self.of(text, partial=True)), "agrees: 0 steps, 1 answer")
         transfer = SENDS + "transfer 1 2\n# done\nspace 2\n"
         self.assertEqual(str(self.of(transfer, partial=True)), "line 6: transfer 1 2: expected 1 ipc 00000000 0 00000000, found no further answer")
         for text, partial in [("space 1\nspace 2\n", True), ("space 1\n# ?\n", False)]:

@@ -184,7 +184,7 @@ class Labs(unittest.TestCase):
     def test_large_scripts_stay_within_bounds(self):
         long = "recv 2 any 0x400\nipc 1 2 nil 0 0 0\n" * 6000
         view, run = self.view(long), self.run_of(long)
-        self.assertEqual((len(view["notes"]), len(view["lines"]), len(run["steps"])), (1, 200, 15_000))
+        self.assertEqual((len(view["notes"]), len(view["lines"]), len(run["steps"])), (1, 120, 15_000))
         self.assertRegex(view["notes"][0], "^The lab stops on line [0-9,]+, after 20,000 events")
         self.assertLess(len(json.dumps(view)), 1 << 20)
         self.assertEqual(self.ask("/view", 400, at=0, script="#" * (MOST_BYTES + 1))["error"], "the lab takes scripts of up to 262,144 bytes; l4 run takes any")

@@ -1,4 +1,5 @@
 """Threads share a kernel."""
+import asyncio
 import copy
 import pickle
 import signal
@@ -214,6 +215,46 @@ class Shared(unittest.TestCase):
         kernel.end_wait(2)
         self.assertEqual(root.call_for(create(3), 0).kind, ReplyKind.CONTROLLED)
         self.assertEqual(len(kernel.close([sigma0, root])), 4)
+
+    def test_tasks_await_the_calls_of_their_seats(self):
+        kernel = SharedKernel(1)
+        sigma0, root = kernel.seat(1), kernel.seat(2)
+
+        def send(word):
+            return sigma0.call_async(Call.send(ThreadId.ROOT, Message.of(untyped=[word])))
+
+        async def run():
+            received, _ = await asyncio.gather(root.call_async(Call.receive()), send(5))
+            self.assertEqual(received.untyped, (5,))
+            # the wait of a task can be ended; its call continues, and a call of another seat ends it
+            waiting = asyncio.ensure_future(root.call_async(Call.receive()))
+            await asyncio.sleep(0)
+            kernel.end_wait(2)
+            with self.assertRaisesRegex(Refused, "K3"):
+                await waiting
+            await send(6)
+            self.assertEqual(root.take().untyped, (6,))
+            # so does the call of a task that is cancelled
+            waiting = asyncio.ensure_future(root.call_async(Call.receive()))
+            await asyncio.sleep(0)
+            waiting.cancel()
+            with self.assertRaises(asyncio.CancelledError):
+                await waiting
+            await send(7)
+            self.assertEqual(root.take().untyped, (7,))
+            # a task and a thread wait for each other
+            waiting = asyncio.ensure_future(root.call_async(Call.receive()))
+            await asyncio.sleep(0)
+            await asyncio.get_running_loop().run_in_executor(None, sigma0.call, Call.send(ThreadId.ROOT, Message.of(untyped=[8])))
+            self.assertEqual((await waiting).untyped, (8,))
+            # the kernel is closed meanwhile
+            waiting = asyncio.ensure_future(root.call_async(Call.receive()))
+            await asyncio.sleep(0)
+            kernel.close([sigma0, root])
+            with self.assertRaisesRegex(ValueError, "closed"):
+                await waiting
+
+        asyncio.run(run())
 
     def test_the_wait_of_a_call_can_be_ended(self):
         kernel = SharedKernel(1)
