@@ -1,10 +1,13 @@
 // Answers the page's questions by the program. It runs in a worker.
 import { Program, READINGS, failureText } from "./program.mjs";
-import { Run } from "./runs.mjs";
-import { shownAt, threadsAfter } from "../bindings/python/l4/views/shown.mjs";
-import { counted, cutList, ended, grouped, linesIn, megabytes } from "../bindings/python/l4/views/texts.mjs";
+import { MOST_TRIED, Run } from "./runs.mjs";
+import { glanceAt, shownAt } from "../bindings/python/l4/views/shown.mjs";
+import { runAt } from "../bindings/python/l4/views/changes.mjs";
+import { stepText } from "../bindings/python/l4/views/kernel.mjs";
+import { rightsText } from "../bindings/python/l4/views/words.mjs";
+import { counted, cut, cutList, ended, grouped, linesIn, megabytes } from "../bindings/python/l4/views/texts.mjs";
 
-const MOST_SCRIPT = 16 << 20, MOST_SHOWN = 256, MOST_WRITTEN = 2 << 20, MOST_ITEMS_SAID = 3;
+const MOST_SCRIPT = 16 << 20, MOST_SHOWN = 256, MOST_WRITTEN = 2 << 20, MOST_ITEMS_SAID = 3, MOST_EXPLAINED = 64, MOST_ORDERS = 2n ** 64n - 1n;
 
 const machineOf = (asked) => ({ frames: asked.frames, pageBytes: asked.pageBytes });
 
@@ -24,17 +27,36 @@ class Answers {
     return this.kept;
   }
 
-  view(asked) {
-    const run = this.run(asked), { steps, machine: { pageBytes } } = run, count = steps.length;
-    const at = Math.min(asked.at ?? count, count), before = Math.max(0, at - 1), begun = run.begunAt(at);
-    this.report("Reading the pages of the spaces");
-    const threads = threadsAfter(steps, at, pageBytes), earlier = threadsAfter(steps, before, pageBytes);
-    const [old, now] = run.states([{ count: before, spaces: earlier.allSpaces() }, { count: at, spaces: threads.allSpaces() }]);
-    const regions = run.regions(begun, threads.deletions), served = run.served(begun, threads.deletions);
-    const shown = shownAt({ steps, done: at, before, now, old, pageBytes, threads, regions, served, text: run.lines[begun - 1] ?? "" });
+  /** The place in a run: the number of steps, the last line that has begun, and the threads, regions and served threads. */
+  #place(asked) {
+    const run = this.run(asked), { timeline, machine: { pageBytes } } = run, count = run.steps.length;
+    const done = Math.min(asked.at ?? count, count), begun = run.begunAt(done), threads = timeline.at(done);
+    return { run, count, done, begun, threads, pageBytes, timeline, regions: run.regions(begun, threads.deletions), served: run.served(begun, threads.deletions) };
+  }
+
+  /** What is shown of a place, with what does not need the pages of the spaces. */
+  #told({ run, count, done, begun, pageBytes }, shown) {
     shown.events.forEach((event) => { if (event.kind === "message" && !event.fault) event.says = this.message(event.words, pageBytes); });
-    const lines = run.linesAround(begun, at);
-    return { at, count, line: run.lineOf(at), lineCount: run.lines.length, lines, refusals: run.refusals, notes: [], pageBytes, ...shown };
+    const lines = run.linesAround(begun, done);
+    return { at: done, count, line: run.lineOf(done), lineCount: run.lines.length, lines, refusals: run.refusals, notes: [], pageBytes, ...shown };
+  }
+
+  /** What can be shown at once: all but the pages of the spaces. */
+  glance(asked) {
+    const place = this.#place(asked);
+    return this.#told(place, glanceAt(place));
+  }
+
+  view(asked) {
+    const place = this.#place(asked), { run, done, begun, threads, timeline } = place, before = Math.max(0, done - 1), earlier = timeline.at(before);
+    this.report("Reading the pages of the spaces");
+    const [old, now] = run.states([{ count: before, spaces: earlier.allSpaces() }, { count: done, spaces: threads.allSpaces() }]);
+    return this.#told(place, shownAt({ ...place, before, now, old, text: run.lines[begun - 1] ?? "" }));
+  }
+
+  /** The answers to a line, each with what it means. */
+  explain(asked) {
+    return { answers: cutAnswers(this.run(asked).explained(asked.line)) };
   }
 
   /** What a message says, in one line. */
@@ -44,14 +66,27 @@ class Answers {
     return this.said.get(key);
   }
 
-  /** How a page of a space got there. `l4 why` reads whole lines: between two steps of a line, the answer names the last one. */
+  /** How a page of a space got there, or why it is absent. `l4 why` reads whole lines: between two steps of a line, the answer names the last
+   * one. */
   why(asked) {
     const run = this.run(asked), at = Math.min(asked.at ?? run.steps.length, run.steps.length), end = run.wholeLineAt(at);
-    const thread = threadsAfter(run.steps, at, run.machine.pageBytes).threadsOf(asked.space)[0];
-    if (thread === undefined) return { lines: ["absent"] };
+    const threads = run.timeline.at(at), [thread] = threads.threadsOf(asked.space);
+    const [{ spaces }] = run.states([{ count: at, spaces: threads.allSpaces() }]);
+    if (runAt(spaces.find(({ space }) => space === asked.space)?.runs ?? [], asked.page) === null) return this.#absence(run, asked, at, threads);
     if (end.steps > at) return { lines: [`known after step ${end.steps}, the last one of this line`], steps: [end.steps] };
     const lines = linesIn(this.program.why(ended(run.lines.slice(0, end.line)), run.machine, thread, asked.page).text);
     return { lines: cutList(lines), steps: lines.map((line) => (line.startsWith("entry ") ? Number(line.split(" ")[1]) + 1 : null)) };
+  }
+
+  /** Why a page is absent: the step that took it away, and messages to the space that were not delivered. Each step is a link. */
+  #absence(run, { space, page }, at, threads) {
+    this.report("Looking for the step that took the page away");
+    const { pageBytes } = run.machine, { step: removal, isWhole } = run.removal(space, page, at), lost = run.undelivered(at, threads.threadsOf(space));
+    const row = (step, more) => ({ step: step.number, text: `step ${step.number}, line ${step.line}: ${stepText(step, pageBytes)}. ${more}` });
+    const none = isWhole ? "No step so far has mapped a page here." : `None of the last ${MOST_TRIED} steps that can change pages took the page away.`;
+    const rows = [{ step: null, text: "absent" }, removal ? row(removal, "This step took the page away.") : { step: null, text: none }];
+    rows.push(...lost.map((step) => row(step, "This message to the space was not delivered, and none of its items was mapped.")));
+    return { lines: rows.map(({ text }) => text), steps: rows.map(({ step }) => step) };
   }
 
   decode({ words, reading, pageBytes }) {
@@ -60,7 +95,7 @@ class Answers {
 
   plan(asked) {
     const { text, found } = this.program.plan(asked, asked), lines = linesIn(text);
-    if (!found && lines[0] !== "too-long") return { text: lines[0], verdict: "", items: [], pages: [] };
+    if (!found && lines[0] !== "too-long") return { text: `${lines[0]}: ${this.#refusedPlan(asked)}`, verdict: "", items: [], pages: [] };
     const verdict = linesIn(this.program.check(asked, asked, text).text)[0];
     const pages = lines.filter((line) => line.includes("page ")).map((line) => Number(line.split(" ").pop()));
     if (!found) return { text: "too long: no 1,984 items move the region", verdict, items: [], pages: pages.slice(0, MOST_SHOWN), claim: text };
@@ -68,12 +103,19 @@ class Answers {
     return { text: `${counted(items.length, "item")} in ${counted(messages, "message")}`, verdict, items, pages: pages.slice(0, MOST_SHOWN), claim: text };
   }
 
+  /** Why a region has no plan: a `delegate` line with this region is refused for the same reason, and `l4 run --explain` says why. */
+  #refusedPlan({ source, target, count, rights, pageBytes }) {
+    const line = `delegate 2 1 ${source} ${target} ${count} ${rightsText(rights)}`;
+    const [, means = ""] = linesIn(this.program.explain(ended([line]), { frames: 1, pageBytes }));
+    return means.replace(/^# (line 1: )?/, "");
+  }
+
   /** The outcomes of a plan over all orders of its calls, each with the script of an order that produces it, and the rules that it breaks. */
   orders(asked) {
     this.report("Searching the orders");
     const { end, orders, states, outcomes } = this.program.orders(ended(linesIn(asked.script)), machineOf(asked), asked.most);
     const shown = outcomes.slice(0, MOST_SHOWN).map(({ answers, witness, broken }) => ({ answers: cutList(answers), witness, broken: cutList(broken) }));
-    return { end, orders: grouped(end === "all" ? orders : 0), states, outcomeCount: outcomes.length, outcomes: shown };
+    return { end, orders: end === "all" ? orderCount(orders) : "0", states, outcomeCount: outcomes.length, outcomes: shown };
   }
 
   /** A text as `l4` writes it. */
@@ -91,6 +133,12 @@ class Answers {
     return { text: `${text.slice(0, MOST_WRITTEN)}\n.. ${grouped(text.length - MOST_WRITTEN)} more characters: save the text to see all of it` };
   }
 }
+
+/** A number of orders. The module's greatest number stands for more, too. */
+const orderCount = (orders) => (orders === MOST_ORDERS ? `at least ${grouped(orders)}` : grouped(orders));
+
+/** At most so many explained answers. */
+const cutAnswers = (answers) => answers.slice(0, MOST_EXPLAINED).map(({ answer, means }) => ({ answer: cut(answer), means: cutList(means) }));
 
 /** The lines of `l4 decode` about a message, in short: its items with their pages, else its label and words. */
 function messageText(lines) {

@@ -11,7 +11,7 @@ const scriptFile = (id) => URL.createObjectURL(new Blob([it(id).textContent], { 
 
 export class LocalSource {
   constructor() {
-    Object.assign(this, { name: "page", hasTexts: true, waiting: new Map(), count: 0, report: () => {} });
+    Object.assign(this, { name: "page", hasTexts: true, hasGlances: true, waiting: new Map(), count: 0, report: () => {} });
     this.restart();
   }
 
@@ -52,7 +52,7 @@ export class LocalSource {
 
   async start() {
     const examples = JSON.parse(it("examples").textContent);
-    return { script: examples[0].script, frames: 256, pageBytes: 4096, examples };
+    return { script: examples[0].script, examples };
   }
 
   ask(name, asked) {

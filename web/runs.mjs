@@ -1,39 +1,52 @@
 // A run of a script, as the program's own texts show it after each step: its answers, its history, and the pages of every space.
+import { Timeline } from "../bindings/python/l4/views/timeline.mjs";
 import { cut, cutList, ended, linesIn } from "../bindings/python/l4/views/texts.mjs";
 
-const MOST_LINES = 200, MOST_REFUSALS = 64, MOST_KEPT = 8;
+const MOST_LINES = 120, MOST_REFUSALS = 64, MOST_KEPT = 8, MOST_UNDELIVERED = 3;
+/** How many steps are tried to find the one that took a page away. */
+export const MOST_TRIED = 500;
+const UNDELIVERED = ["no-window", "entangled", "no-memory"];
 
-/** Where the answers of each line end among all answers, and how many steps there were by then: the query `steps` is put behind each line. */
-function endsIn(program, lines, machine) {
-  const told = linesIn(program.run(ended(lines.flatMap((line) => [line, "steps"])), machine));
-  const ends = [{ answers: 0, steps: 0 }];
-  let at = 0, answers = 0;
-  for (const line of lines) {
-    const first = at;
-    while (!told[at].startsWith("steps ")) at += 1;
-    // a line that asks for it itself
-    if (/^ *steps *$/.test(line)) at += 1;
-    answers += at - first;
-    ends.push({ answers, steps: Number(told[at].slice(6)) });
-    at += 1;
+/** The answers of a script, from the output of `l4 run --number --moves`: all of them, and for each the number of its line. */
+function answersIn(text) {
+  const answers = [], lines = [];
+  for (const row of linesIn(text)) {
+    // a line about a moved page
+    if (row.startsWith("#")) continue;
+    const end = row.indexOf(": ");
+    lines.push(Number(row.slice(0, end)));
+    answers.push(row.slice(end + 2));
   }
-  return ends;
+  return { answers, lines };
 }
 
-/** The steps of a history with their answers (`l4 history --answers`), each with the line that caused it. */
-function stepsIn(text, ends) {
+/** The steps of a history with their answers (`l4 history --answers`), without the lines that caused them. */
+function stepsIn(text) {
   const steps = [];
-  let line = 1;
   for (const row of linesIn(text)) {
-    if (row.startsWith("# ")) {
-      steps.at(-1).answers.push(row.slice(2));
-      continue;
-    }
-    const number = steps.length + 1;
-    while (ends[line].steps < number) line += 1;
-    steps.push({ number, line, text: row, answers: [] });
+    if (row.startsWith("# ")) steps.at(-1).answers.push(row.slice(2));
+    else steps.push({ number: steps.length + 1, line: 0, text: row, answers: [] });
   }
   return steps;
+}
+
+/** The line of each step: the query `steps` behind each line prints how many steps there are by then. */
+function causesIn(program, lines, machine) {
+  const told = linesIn(program.annotate(ended(lines.flatMap((line) => [line, "steps"])), machine)), causes = [];
+  told.forEach((row) => {
+    const found = /^(\d+): steps (\d+)$/.exec(row);
+    // the query behind line L is line 2 L
+    if (found && Number(found[1]) % 2 === 0) while (causes.length < Number(found[2])) causes.push(Number(found[1]) / 2);
+  });
+  return causes;
+}
+
+/** How many of the things that lines caused there are by the end of each line. The numbers of their lines rise. */
+function countsBy(lines, lineCount) {
+  const counts = new Float64Array(lineCount + 1);
+  lines.forEach((line) => { counts[line] += 1; });
+  counts.forEach((count, line) => { counts[line] = count + (counts[line - 1] ?? 0); });
+  return counts;
 }
 
 /** Pages in runs; see views/changes.mjs. */
@@ -58,17 +71,31 @@ function pageIn(line) {
 /** How many lines of its script line's answers a step has: `l4 run` does not say that a call has started. */
 const answerCount = ({ text, answers }) => answers.length - (text.startsWith("start ") ? 1 : 0);
 
+/** The explanations of a script's answers, from the output of `l4 run --explain`: for each answer, its lines without the mark. */
+function explanationsIn(text) {
+  const found = [];
+  for (const row of linesIn(text)) {
+    if (row.startsWith("# ")) found.at(-1).push(row.slice(2));
+    else found.push([]);
+  }
+  return found;
+}
+
 /** The lines of a script on a machine, and what the program answers to them. */
 export class Run {
   constructor(program, script, machine, report) {
     Object.assign(this, { program, script, machine, lines: linesIn(script) });
     report("Answering the script");
-    this.answers = linesIn(program.run(ended(this.lines), machine));
-    report("Counting the steps of each line");
-    this.ends = endsIn(program, this.lines, machine);
+    const { answers, lines } = answersIn(program.annotate(ended(this.lines), machine));
     report("Reading the history");
-    this.steps = stepsIn(program.history(ended(this.lines), machine, true), this.ends);
+    this.steps = stepsIn(program.history(ended(this.lines), machine, true));
+    report("Finding the line of each step");
+    const causes = causesIn(program, this.lines, machine);
+    this.steps.forEach((step, place) => { step.line = causes[place]; });
+    Object.assign(this, { answers, answersBy: countsBy(lines, this.lines.length), stepsBy: countsBy(causes, this.lines.length) });
+    this.timeline = new Timeline(this.steps, machine.pageBytes);
     this.refusals = this.#refusals(report);
+    this.tables = this.#tables();
     this.kept = new Map();
   }
 
@@ -78,7 +105,7 @@ export class Run {
 
   /** The answers to a line, by its number from 1. */
   answersTo(number) {
-    return this.answers.slice(this.ends[number - 1].answers, this.ends[number].answers);
+    return this.answers.slice(this.answersBy[number - 1], this.answersBy[number]);
   }
 
   /** The refused lines, with the reason that `l4 run --explain` prints for each. */
@@ -91,7 +118,7 @@ export class Run {
     for (let place = 0; place < told.length && first.length < MOST_REFUSALS; place += 1) {
       if (!isRefused(told[place])) continue;
       const [, line, , ...code] = told[place].split(" ");
-      first.push({ line: Number(line), at: this.ends[line].steps, code: code.join(" "), means: (told[place + 1] ?? "").replace(/^# (line \d+: )?/, "") });
+      first.push({ line: Number(line), text: this.lines[line - 1], at: this.stepsBy[line], code: code.join(" "), means: (told[place + 1] ?? "").replace(/^# (line \d+: )?/, "") });
     }
     return { count, first };
   }
@@ -113,6 +140,36 @@ export class Run {
     });
   }
 
+  /** Whether a page of a space is present after each of these steps, whose numbers rise. */
+  #presence(space, page, places) {
+    const told = linesIn(this.program.steps(ended(places.flatMap((place, k) => [
+      ...this.steps.slice(places[k - 1] ?? 0, place).map(({ text }) => text), `pages ${space}`])), this.machine));
+    let at = 0;
+    return places.map((place, k) => {
+      at += this.steps.slice(places[k - 1] ?? 0, place).reduce((sum, { answers }) => sum + answers.length, 0);
+      const first = at;
+      while (!told[at].startsWith("shown ")) at += 1;
+      at += 1;
+      return told.slice(first, at).some((line) => line.startsWith(`page ${page} `));
+    });
+  }
+
+  /** The step that took a page away that is absent after these steps; null if none did. Only the last ones that can change pages are tried. */
+  removal(space, page, count) {
+    const changes = this.steps.slice(0, count).filter(({ text, answers }) => /^start \d+ (unmap|delete) /.test(text) || (text.startsWith("transfer ") && answers[0] === "done"));
+    const tried = changes.slice(-MOST_TRIED);
+    if (!tried.length) return { step: null, isWhole: true };
+    const [before, ...after] = this.#presence(space, page, [tried[0].number - 1, ...tried.map(({ number }) => number)]);
+    const place = tried.findLastIndex((_, k) => !after[k] && (after[k - 1] ?? before));
+    return { step: tried[place] ?? null, isWhole: tried.length === changes.length };
+  }
+
+  /** The last messages to a space's threads that were not delivered because of their items. */
+  undelivered(count, threads) {
+    const isTo = ({ text, answers }) => text.startsWith("transfer ") && UNDELIVERED.includes(answers[0]) && threads.includes(Number(text.split(" ")[2]));
+    return this.steps.slice(0, count).filter(isTo).slice(-MOST_UNDELIVERED);
+  }
+
   /** The pages of every space at some places, which rise: each has a number of steps, and the spaces that there are after them. */
   states(places) {
     const asked = places.filter(({ count }) => !this.kept.has(count));
@@ -128,25 +185,41 @@ export class Run {
     this.kept.set(count, state);
   }
 
+  /** The lines that added a region to a pager's table, with the region, and those that made a thread answer by itself. */
+  #tables() {
+    const regions = [], served = [], names = new Map();
+    const threadOf = (word) => names.get(word) ?? Number(word);
+    this.lines.forEach((text, place) => {
+      if (!/^ *(name|region|serve) /.test(text)) return;
+      const number = place + 1, [command, ...words] = text.split(" ").filter((word) => word !== "");
+      if (command === "name") {
+        const [said, thread] = (this.answersTo(number)[0] ?? "").split(" ");
+        if (said === "named") names.set(words[0], Number(thread));
+      }
+      if (command === "region" && this.answersTo(number)[0] === "region ok") {
+        const rights = words.pop(), [first, source, count] = words.slice(1).map(Number);
+        regions.push({ number, thread: threadOf(words[0]), first, source, count, rights });
+      }
+      if (command === "serve" && words.length === 1 && !this.answersTo(number)[0]?.includes(" refused ")) served.push({ number, thread: threadOf(words[0]) });
+    });
+    return { regions, served };
+  }
+
   /** The regions of pagers after a line. A table ends with its thread. */
-  regions(count, deletions) {
-    const found = [];
-    for (let number = 1; number <= count; number += 1) {
-      if (!/^ *region /.test(this.lines[number - 1]) || this.answersTo(number)[0] !== "region ok") continue;
-      const [, ...words] = this.lines[number - 1].split(" ").filter((word) => word !== ""), rights = words.pop();
-      const [thread, first, source, pages] = words.map(Number);
-      if (!(deletions.get(thread) > number)) found.push({ thread, first, source, count: pages, rights });
-    }
-    return found;
+  regions(line, deletions) {
+    return this.tables.regions.filter(({ number, thread }) => number <= line && !(deletions.get(thread) > number)).map(({ number, ...region }) => region);
   }
 
   /** The threads that answer by themselves after a line. */
-  served(count, deletions) {
-    const numbers = this.lines.slice(0, count).flatMap((line, k) => {
-      const found = /^ *serve +(\S+) *$/.exec(line);
-      return found && !this.answersTo(k + 1)[0]?.includes(" refused ") && !(deletions.get(Number(found[1])) > k + 1) ? [Number(found[1])] : [];
-    });
-    return [...new Set(numbers)];
+  served(line, deletions) {
+    return [...new Set(this.tables.served.filter(({ number, thread }) => number <= line && !(deletions.get(thread) > number)).map(({ thread }) => thread))];
+  }
+
+  /** The answers to a line with their explanations, which are those of `l4 run --explain`. */
+  explained(number) {
+    this.explanations ??= explanationsIn(this.program.explain(ended(this.lines), this.machine));
+    const first = this.answersBy[number - 1] ?? 0;
+    return this.answersTo(number).map((answer, place) => ({ answer, means: this.explanations[first + place] ?? [] }));
   }
 
   /** The line that caused the last of these steps; 0 before the first one. */
@@ -162,15 +235,15 @@ export class Run {
   /** The line by whose end there are these pages, and the number of steps by then. It is the current line, with its steps that come later,
    * or the line before it if the current one has only started Ipcs and faults, which changes no page. */
   wholeLineAt(at) {
-    const line = this.begunAt(at), { steps } = this.ends[line];
-    const hasOnlyStarted = steps > at && this.steps.slice(this.ends[line - 1].steps, at).every(({ text }) => /^start \d+ (ipc|fault) /.test(text));
+    const line = this.begunAt(at), steps = this.stepsBy[line];
+    const hasOnlyStarted = steps > at && this.steps.slice(this.stepsBy[line - 1], at).every(({ text }) => /^start \d+ (ipc|fault) /.test(text));
     return hasOnlyStarted ? { line: line - 1, steps: at } : { line, steps };
   }
 
   /** The answers to a line. If its last steps come later, their answers are left out. */
   #answersBy(number, at) {
-    const answers = this.answersTo(number), first = this.ends[number - 1].steps;
-    if (at <= first || this.ends[number].steps <= at) return answers;
+    const answers = this.answersTo(number), first = this.stepsBy[number - 1];
+    if (at <= first || this.stepsBy[number] <= at) return answers;
     return answers.slice(0, this.steps.slice(first, at).reduce((sum, step) => sum + answerCount(step), 0));
   }
 
@@ -179,7 +252,7 @@ export class Run {
     const first = Math.max(0, Math.min(begun - MOST_LINES / 2, this.lines.length - MOST_LINES));
     return this.lines.slice(first, first + MOST_LINES).map((text, place) => {
       const number = first + place + 1;
-      return { number, at: this.ends[number].steps, text: cut(text), answers: cutList(this.#answersBy(number, at)), isLater: number > begun };
+      return { number, at: this.stepsBy[number], text: cut(text), answers: cutList(this.#answersBy(number, at)), isLater: number > begun };
     });
   }
 }

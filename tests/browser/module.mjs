@@ -10,7 +10,6 @@ import readline from "node:readline";
 import { Program, READINGS, RIGHTS } from "../../web/program.mjs";
 import { Run } from "../../web/runs.mjs";
 import { changesBetween } from "../../bindings/python/l4/views/changes.mjs";
-import { threadsAfter } from "../../bindings/python/l4/views/shown.mjs";
 
 const TESTS = path.dirname(import.meta.dirname);
 const KINDS = { scripts: ["run"], explained: ["run", "--explain"], annotated: ["run"], histories: ["history", "--answers"], steps: ["steps"], whys: ["why"], plans: [], decodes: [] };
@@ -117,7 +116,7 @@ function changed(old, changes) {
 /** The first step within a line after which the answers that are shown of the line do not end with the step's own. */
 function wrongStep(run) {
   return run.steps.find(({ number, line, text, answers }) => {
-    if (run.ends[line].steps === number || (answers.length === 1 && text.startsWith("start "))) return false;
+    if (run.stepsBy[line] === number || (answers.length === 1 && text.startsWith("start "))) return false;
     const wanted = answers.length > 1 ? answers.at(-1).split(" ")[0] : `${text} ${answers[0]}`.replace(" expired", "");
     const row = run.linesAround(line, number).find((it) => it.number === line);
     return !`${row.answers.at(-1)} `.startsWith(`${wanted} `);
@@ -126,15 +125,15 @@ function wrongStep(run) {
 
 /** What the views are made from, at the end of a script. The changes since its middle lead to the same mappings. */
 function factsOf(program, words, input) {
-  const run = new Run(program, input, parsed(words).machine, () => {}), { pageBytes } = run.machine, end = run.steps.length, middle = end >> 1;
-  const at = (count) => threadsAfter(run.steps, count, pageBytes), threads = at(end);
+  const run = new Run(program, input, parsed(words).machine, () => {}), end = run.steps.length, middle = end >> 1;
+  const at = (count) => run.timeline.at(count), threads = at(end);
   const [old, now] = run.states([middle, end].map((count) => ({ count, spaces: at(count).allSpaces() }))), mappings = mappingsOf(now);
   if (JSON.stringify(changed(old, changesBetween(old.spaces, now.spaces))) !== JSON.stringify(mappings)) return { mappings: "the changes lead to another state" };
   const wrong = wrongStep(run);
   if (wrong) return { mappings: `step ${wrong.number} has other answers` };
   return {
     spaces: [...threads.spaces].sort((a, b) => a[0] - b[0]), waiting: sorted(threads.waits.keys()), sending: sorted(threads.sending.keys()),
-    served: sorted(run.served(run.lines.length, threads.deletions)), mappings,
+    served: sorted(run.served(run.lines.length, threads.deletions)), causes: run.steps.map(({ line, isServed }) => [line, isServed]), mappings,
   };
 }
 

@@ -2,16 +2,16 @@
 import { drawing, drawn } from "./dom.mjs";
 import { counted, grouped } from "./texts.mjs";
 
-const WIDTH = 860, HEIGHT = 34, LEFT = 58, MOST_ITEMS = 256, ITEMS_OF_A_MESSAGE = 31;
+const WIDTH = 780, HEIGHT = 34, LEFT = 66, DIGIT = 8.5, MOST_ITEMS = 256, ITEMS_OF_A_MESSAGE = 31;
 
 /** The block of an item in one row. */
 function blockOf(item, x, y, first, number) {
   const [left, right] = [x(item.place), x(item.place + item.pages)], width = Math.max(right - left, 1), last = first + item.pages - 1;
   const label = item.pages === 1 ? `${first}` : `${first}–${last}`;
-  const text = width > 7 * label.length + 6 ? label : width > 7 * `${first}`.length + 4 ? `${first}` : "";
+  const text = width > DIGIT * label.length + 6 ? label : width > DIGIT * `${first}`.length + 4 ? `${first}` : "";
   const box = drawn("rect", { x: left, y, width, height: HEIGHT - 6, class: number % 2 ? "item odd" : "item" });
   const block = drawn("g", { class: "block" }, drawn("title", {}, `item ${number}: pages ${first} to ${last}, ${item.text}`), box);
-  if (text) block.append(drawn("text", { x: left + 3, y: y + 18 }, text));
+  if (text) block.append(drawn("text", { x: left + 3, y: y + 19 }, text));
   return block;
 }
 

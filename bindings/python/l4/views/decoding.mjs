@@ -1,8 +1,9 @@
 // Words that say what they mean: those of a line or an answer, when the pointer or the keyboard's focus is on them.
 import { it, made } from "./dom.mjs";
+import { question } from "./state.mjs";
 
 const MOST_WORDS = 64;
-let source = null, pageBytes = 4096, asked = 0;
+let source = null, pageBytes = 4096, asked = 0, runs = 0;
 const known = new Map();
 
 /** Which tokens of a text are words, and how they are read: by the command's name or the kind of the answer. */
@@ -39,30 +40,57 @@ export function wordsIn(text, kind) {
   });
 }
 
-/** Shows what a word's message means, below the list. */
-async function tell(element) {
-  const { words, reading } = element.dataset, key = `${pageBytes} ${reading} ${words}`, turn = ++asked;
+/** Shows a text below the list, unless something else was asked about meanwhile. */
+async function tell(element, key, asks) {
+  const turn = ++asked;
   try {
-    if (!known.has(key)) known.set(key, (await source.ask("decode", { words: words.split(" ").map(Number), reading, pageBytes })).lines.join("\n"));
+    if (!known.has(key)) known.set(key, await asks());
   } catch {
     return;
   }
   if (turn !== asked) return;
-  element.title = known.get(key);
+  if (element) element.title = known.get(key);
   it("decoded").textContent = known.get(key);
   document.body.dataset.decoded = turn;
 }
 
-/** Decodes words under the pointer, and all words of a line that has the keyboard's focus. */
-export function listenToWords(given) {
-  source = given;
-  document.addEventListener("pointerover", ({ target }) => { if (target.classList?.contains("word")) tell(target); });
-  it("lines").addEventListener("focusin", ({ target }) => {
-    const word = target.closest("li")?.querySelector(".word");
-    if (word) tell(word);
-  });
+/** What a word's message means. */
+async function meaningOf({ words, reading }) {
+  return (await source.ask("decode", { words: words.split(" ").map(Number), reading, pageBytes })).lines.join("\n");
 }
 
+const tellWord = (element) => tell(element, `${pageBytes} ${element.dataset.reading} ${element.dataset.words}`, () => meaningOf(element.dataset));
+
+/** What the answers to a line mean, as `l4 run --explain` prints it. */
+async function explanationOf(line) {
+  const { answers } = await source.ask("explain", { ...question(), line });
+  return answers.map(({ answer, means }) => [answer, ...means.map((text) => `  ${text}`)].join("\n")).join("\n") || "This line has no answer.";
+}
+
+/** Explains the answers to a line. A source without explanations decodes the line's first word. */
+function tellLine(row) {
+  const word = row.querySelector(".word");
+  if (source.hasTexts && row.querySelector(".answer")) tell(null, `line ${row.value} of run ${runs}`, () => explanationOf(row.value));
+  else if (word) tellWord(word);
+}
+
+/** Decodes words under the pointer, and explains the answers to a line that the pointer or the keyboard's focus is on. */
+export function listenToWords(given) {
+  source = given;
+  document.addEventListener("pointerover", ({ target }) => {
+    if (target.classList?.contains("word") && target.dataset.words) tellWord(target);
+    else if (target.closest?.("#lines .answer") && source.hasTexts) tellLine(target.closest("li"));
+  });
+  it("lines").addEventListener("focusin", ({ target }) => { if (target.closest("li")) tellLine(target.closest("li")); });
+}
+
+/** Words have pages of this size from now on. */
 export function decodeBy(bytes) {
   pageBytes = bytes;
+}
+
+/** The explanations of the run before are no longer those of the lines. */
+export function forgetLines() {
+  runs += 1;
+  known.clear();
 }

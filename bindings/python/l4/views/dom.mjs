@@ -17,9 +17,9 @@ export const drawn = (name, attributes, ...inside) => filled(document.createElem
 /** A drawing with a name for readers of screens. */
 export const drawing = (width, height, name, parts) => drawn("svg", { width, height, role: "group", "aria-label": name }, ...parts);
 
-/** Gives an element of a drawing a name, a place in the tab order, and an action. The key is what it is known by when it is drawn again. */
+/** Gives an element of a drawing a name and an action. The key is what it is known by when it is drawn again. */
 export function active(element, name, act, key = name) {
-  for (const [attribute, value] of Object.entries({ role: "button", tabindex: "0", "aria-label": name, "data-key": key })) element.setAttribute(attribute, value);
+  for (const [attribute, value] of Object.entries({ role: "button", tabindex: "-1", "aria-label": name, "data-key": key })) element.setAttribute(attribute, value);
   element.append(drawn("title", {}, name));
   element.addEventListener("click", act);
   element.addEventListener("keydown", (event) => {
@@ -30,24 +30,65 @@ export function active(element, name, act, key = name) {
   return element;
 }
 
-/** A button that looks like a link. */
-export function link(text, act, name = text) {
-  const button = made("button", { type: "button", class: "link", "aria-label": name, "data-key": name }, text);
+/** A button that looks like a link. The key is what it is known by when it is made again. */
+export function link(text, act, name = text, key = name) {
+  const button = made("button", { type: "button", class: "link", "aria-label": name, "data-key": key }, text);
   button.addEventListener("click", (event) => { event.stopPropagation(); act(event); });
   return button;
 }
 
-/** Replaces what is in an element. The keyboard's focus stays at the part with the same name. */
-export function fill(id, elements) {
-  const focused = it(id).contains(document.activeElement) ? document.activeElement.dataset.key : undefined;
-  it(id).replaceChildren(...elements);
-  if (focused === undefined) return;
-  [...it(id).querySelectorAll("[data-key]")].find((element) => element.dataset.key === focused)?.focus({ preventScroll: true });
+const partsOf = (area) => [...area.querySelectorAll("[data-key]")];
+
+/** Makes one part of an area its only stop for the Tab key. */
+function stopAt(parts, part) {
+  parts.forEach((it) => it.setAttribute("tabindex", it === part ? "0" : "-1"));
 }
 
-/** Moves the current row of a list into the list's frame, and leaves the page where it is. */
+/** Replaces what is in an element. The element becomes an area with one stop for the Tab key: the part that had the stop, the current one, or
+ * the first. The keyboard's focus stays at the part with the same name. */
+export function fill(id, elements) {
+  const area = it(id), before = area.querySelector("[data-key][tabindex='0']")?.dataset.key, isFocused = area.contains(document.activeElement);
+  area.replaceChildren(...elements);
+  area.dataset.area = "";
+  const parts = partsOf(area), kept = isFocused ? parts.find(({ dataset }) => dataset.key === before) : undefined;
+  stopAt(parts, kept ?? area.querySelector(".now [data-key], .now[data-key]") ?? parts[0]);
+  kept?.focus({ preventScroll: true });
+}
+
+/** Moves the keyboard's focus inside an area, by this many parts. Returns whether it was in one. */
+export function moveFocus(by) {
+  const area = document.activeElement?.closest("[data-area]"), parts = area ? partsOf(area) : [];
+  const place = parts.indexOf(document.activeElement), next = parts[place + by];
+  if (place < 0) return false;
+  if (next) {
+    stopAt(parts, next);
+    next.focus();
+  }
+  return true;
+}
+
+/** Makes a part of an area its stop, and moves the keyboard's focus there. */
+export function focusPart(part) {
+  stopAt(partsOf(part.closest("[data-area]")), part);
+  part.focus();
+}
+
+// the lists that are to be scrolled, each with its row; null stands for the end of the list
+const moved = new Map();
+
+/** Will move the current row of a list into the middle of the list's frame, or its end into view. The page stays where it is. */
 export function follow(list, row) {
-  if (row) list.scrollTop += row.getBoundingClientRect().top - list.getBoundingClientRect().top - list.clientHeight / 2;
+  if (row !== undefined) moved.set(list, row);
+}
+
+/** Scrolls the lists. All places are read before the first one changes, so that the browser computes them once. */
+export function scrollLists() {
+  const places = [...moved].map(([list, row]) => {
+    if (row === null) return [list, list.scrollHeight];
+    return [list, list.scrollTop + row.getBoundingClientRect().top - list.getBoundingClientRect().top - list.clientHeight / 2];
+  });
+  moved.clear();
+  places.forEach(([list, place]) => { list.scrollTop = place; });
 }
 
 export function save(name, kind, data) {

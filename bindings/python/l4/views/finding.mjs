@@ -29,6 +29,10 @@ function findPage(page, space, view, acts) {
   const holds = ({ space: it, runs }) => (space === null || it === space) && runs.some(([first, count]) => first <= page && page < first + count);
   // a page of sigma0's is what every number finds, so other spaces come first
   const found = view.spaces.filter(holds).sort((a, b) => Number(a.space === 0) - Number(b.space === 0))[0];
+  if (!found && view.spaces.some((it) => it.space === space)) {
+    acts.choose(space, page);
+    return `Page ${page} of space ${space} is absent here.`;
+  }
   if (!found) return `No space${space === null ? "" : ` ${space}`} has a page ${page} here.`;
   acts.choose(found.space, page);
   return `Page ${page} of space ${found.space} is chosen.`;

@@ -1,5 +1,7 @@
-// Where a refused line is wrong: the first token that its command does not take. The answer S1 or S2 itself is the program's.
+// The language of scripts: the form of each command, which tokens it takes, and what these are. The editor's colours and offers, the list of
+// commands, and the places of wrong tokens come from here. The answer S1 or S2 itself is the program's.
 
+// the tokens of each command, by their kinds
 const COMMANDS = {
   thread: "thread new|thread pager", setpager: "thread pager", delete: "thread", recv: "thread partner window", send: "thread partner message",
   ipc: "thread partner partner timeouts window message", delegate: "thread partner number number number rights", part: "thread partner number number number number rights",
@@ -7,6 +9,32 @@ const COMMANDS = {
   show: "thread number number", parent: "thread number", name: "name thread", reply: "thread", steps: "", unordered: "", finally: "",
   never: "answer", always: "answer",
 };
+
+/** The forms of the commands, and what each does. */
+export const FORMS = [
+  ["thread N new PAGER", "creates thread N in a new space; PAGER is a thread or `nil`"],
+  ["thread N M PAGER", "creates thread N in the space of thread M"],
+  ["setpager N PAGER", "makes PAGER the pager of thread N"],
+  ["delete N", "deletes thread N"],
+  ["recv N FROM WINDOW", "receives from a thread or `any`; WINDOW `all` accepts pages anywhere, `none` nowhere, `32+4` in these pages"],
+  ["send N TO WORD..", "sends words, the tag first, such as `tag:7 5 map:16+4>32:rwx`"],
+  ["ipc N TO FROM TIMEOUTS WINDOW WORD..", "sends, then receives; TIMEOUTS `never`, `zero` or `zero,never`"],
+  ["delegate N TO SOURCE TARGET COUNT RIGHTS", "maps a region of pages by its plan, in one message"],
+  ["part N TO K SOURCE TARGET COUNT RIGHTS", "sends message K of the plan"],
+  ["unmap N CONTROL FPAGE..", "revokes rights on pages mapped from N's, such as `16+4:-w-`; with bit 6 of CONTROL, on N's own pages too"],
+  ["fault N ADDRESS IP RIGHTS", "tries an access"],
+  ["region P FIRST SOURCE COUNT RIGHTS", "adds pages to P's table, from which it answers faults"],
+  ["serve P", "makes P answer messages by itself"],
+  ["name NAME N", "gives a thread a name, which then stands for the thread in later lines"],
+  ["show N FIRST COUNT", "lists the present pages among these"],
+  ["parent N PAGE", "prints the page from which a page was mapped"],
+  ["reply N", "prints how the last call of thread N ended"],
+  ["steps", "prints the number of kernel steps so far"],
+  ["unordered", "begins the calls of a litmus test, which may come in any order"],
+  ["finally", "begins the queries of a litmus test, which are its outcome"],
+  ["never ANSWER", "is a rule of a litmus test: no order may end with this answer"],
+  ["always ANSWER", "is a rule of a litmus test: every order must end with this answer"],
+];
 const MOST_WORDS = 64, MOST_THREADS = 1 << 18, MOST_LABELS = 1 << 16;
 const WORDS = ["nil", "any", "new", "all", "none", "never", "zero", "tag", "map", "grant"];
 
@@ -75,6 +103,62 @@ export function wrongToken(line, names = []) {
     if (!isRight(token, names)) return `“${token}” is not ${name}`;
   }
   return tokens.length > kinds.length ? `“${tokens[kinds.length]}” is one token too many` : "";
+}
+
+/** The kinds of a line's tokens behind its command; null if there is no such command. */
+function kindsOf(command, count) {
+  if (!Object.hasOwn(COMMANDS, command)) return null;
+  return COMMANDS[command].split(" ").flatMap((kind) => {
+    if (kind === "message") return ["tag", ...Array.from({ length: MOST_WORDS }, () => "word")];
+    if (kind === "fpages") return Array.from({ length: MOST_WORDS }, () => "fpage");
+    return kind === "answer" ? Array.from({ length: count }, () => "answer") : [kind];
+  });
+}
+
+/** The parts of a line, each with its colour: a command, a word of the language, a symbol, a comment, an answer, or null. */
+export function coloursIn(line) {
+  if (line.startsWith("#")) return [[line, line.startsWith("#= ") ? "answer" : "comment"]];
+  const parts = line.split(/( +)/).filter((part) => part !== ""), count = parts.length;
+  let place = -1, kinds = null;
+  return parts.map((part) => {
+    if (part.trim() === "") return [part, null];
+    place += 1;
+    if (place === 0) {
+      kinds = kindsOf(part, count);
+      return [part, kinds === null ? null : "command"];
+    }
+    return [part, colourOf(part, kinds?.[place - 1])];
+  });
+}
+
+function colourOf(token, kind) {
+  if (kind === undefined || kind === "answer") return kind ?? null;
+  if (WORDS.includes(token) || /^(never|zero),/.test(token)) return "word";
+  if (isRights(token) || /[:+>]/.test(token)) return "symbol";
+  return isNumber(token) ? "number" : "name";
+}
+
+// what can be written where a token of this kind is right; names of threads are added
+const OFFERS = {
+  "new|thread": ["new"], pager: ["nil"], partner: ["any", "nil"], window: ["all", "none"], timeouts: ["never", "zero", "zero,never", "never,zero"],
+  tag: ["tag:0"], word: ["map:16>32:rwx", "map:16+4>32:rwx", "grant:16>32:rwx"], fpage: ["16+4:rwx", "16:rwx"], rights: ["rwx", "rw-", "r-x", "r--"],
+};
+const OF_THREADS = ["thread", "new|thread", "pager", "partner"];
+
+/** What the text before the caret can become: the tokens that begin as its last one, and the forms of its command. */
+export function offersFor(before, threads) {
+  if (before.startsWith("#")) return { begun: "", offers: [], forms: [] };
+  const tokens = before.split(/ +/), begun = tokens.pop(), [command, ...others] = tokens.filter((token) => token !== "");
+  const forms = FORMS.filter(([form]) => form.split(" ")[0] === command).map(([form, means]) => `${form}: ${means}`);
+  const kind = command === undefined ? null : kindsOf(command, 0)?.[others.length];
+  const all = command === undefined ? Object.keys(COMMANDS) : [...(OFFERS[kind] ?? []), ...(OF_THREADS.includes(kind) ? threads : [])];
+  return { begun, offers: all.filter((it) => it.startsWith(begun) && it !== begun), forms };
+}
+
+/** The threads and names that a script has: sigma0, root, and those that its lines create and name. */
+export function threadsIn(text) {
+  const found = [...text.matchAll(/^ *(?:thread|name) +(\S+)/gm)].map(([, token]) => token);
+  return [...new Set([...found, "1", "2"])];
 }
 
 /** The first token that is not of its kind, by its place. */

@@ -30,7 +30,7 @@ function edgeOf({ from, to, kind, text }, places) {
 
 function nodeOf(name, [x, y], view) {
   const circle = drawn("circle", { cx: x, cy: y, r: RADIUS, class: name === ANYONE ? "node any" : "node" });
-  const text = drawn("text", { x, y: y + 4, "text-anchor": "middle" }, `${name}`);
+  const text = drawn("text", { x, y: y + 5, "text-anchor": "middle" }, `${name}`);
   const node = drawn("g", {}, circle, text);
   return name === ANYONE ? node : active(node, `thread ${name}`, () => view.findThread(name));
 }

@@ -5,7 +5,8 @@ import { hexadecimal } from "./texts.mjs";
 // threads 1 and 2, and the id of thread 1, which is root's pager at boot
 const SIGMA0 = 1, ROOT = 2, SIGMA0_ID = 0x4001;
 
-/** What the steps up to one have led to. */
+/** What the steps up to one have led to. `events` has the events of all steps that were ever executed, and `eventCount` of them are those of
+ * these steps. */
 export class Threads {
   constructor(pageBytes) {
     this.pageBytes = pageBytes;
@@ -17,7 +18,21 @@ export class Threads {
     this.nextSpace = 2;
     // what the chart shows: messages, Unmaps, and threads that come and go
     this.events = [];
+    this.eventCount = 0;
     this.deletions = new Map();
+  }
+
+  /** A copy with the same list of events. */
+  copy() {
+    const made = Object.assign(new Threads(this.pageBytes), this);
+    for (const name of ["spaces", "pagers", "waits", "sending", "deletions"]) made[name] = new Map(this[name]);
+    return made;
+  }
+
+  /** Notes an event. If these steps are executed again, it is there already. */
+  #happens(event) {
+    if (this.events.length === this.eventCount) this.events.push(event);
+    this.eventCount += 1;
   }
 
   /** Executes a step: its number, its line of a step list, and its answers. */
@@ -33,14 +48,14 @@ export class Threads {
     this.sending.delete(thread);
     const to = kind === "ipc" ? numbers[0] : kind === "fault" ? this.pagers.get(thread) ?? NIL : NIL;
     if (to !== NIL) this.sending.set(thread, to);
-    if (kind === "unmap") this.events.push({ kind, step, thread, words: numbers.slice(1), text: callText(kind, numbers, this.pageBytes) });
+    if (kind === "unmap") this.#happens({ kind, step, thread, words: numbers.slice(1), text: callText(kind, numbers, this.pageBytes) });
   }
 
   #send(step, sender, receiver) {
     const call = this.waits.get(sender), outcome = step.answers[0];
     const fault = call?.kind === "fault" ? call.numbers : null;
     const words = call?.kind === "ipc" ? call.numbers.slice(4) : [];
-    this.events.push({ kind: "message", step, sender, receiver, isDone: outcome === "done", outcome, words, fault: fault && faultWords(fault) });
+    this.#happens({ kind: "message", step, sender, receiver, isDone: outcome === "done", outcome, words, fault: fault && faultWords(fault) });
     this.sending.delete(sender);
   }
 
@@ -54,14 +69,14 @@ export class Threads {
     if (call.kind === "create") {
       this.spaces.set(number, second === id ? this.nextSpace++ : this.spaces.get(threadOf(second)));
       this.pagers.set(number, third);
-      this.events.push({ kind: "create", step, thread: number, text: `created in space ${this.spaces.get(number)}` });
+      this.#happens({ kind: "create", step, thread: number, text: `created in space ${this.spaces.get(number)}` });
     }
     if (call.kind === "setpager") this.pagers.set(number, second);
     if (call.kind === "delete") this.#delete(step, number);
   }
 
   #delete(step, number) {
-    this.events.push({ kind: "delete", step, thread: number, text: `deleted; it was in space ${this.spaces.get(number)}` });
+    this.#happens({ kind: "delete", step, thread: number, text: `deleted; it was in space ${this.spaces.get(number)}` });
     this.deletions.set(number, step.line);
     [this.spaces, this.pagers, this.waits, this.sending].forEach((map) => map.delete(number));
   }

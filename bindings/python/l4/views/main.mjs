@@ -1,9 +1,12 @@
 // The page: asks its source about the run, and shows what it answers.
-import { decodeBy, listenToWords } from "./decoding.mjs";
-import { it, made } from "./dom.mjs";
+import { decodeBy, forgetLines, listenToWords } from "./decoding.mjs";
+import { it, made, moveFocus, scrollLists } from "./dom.mjs";
+import { listenToEditor, markLines, showText } from "./editor.mjs";
 import { find } from "./finding.mjs";
+import { framesFor, isLitmus, pageBytesFor } from "./frames.mjs";
+import { FORMS } from "./grammar.mjs";
 import { showChart } from "./message_view.mjs";
-import { search } from "./orders_view.mjs";
+import { listenToOrders, loadedOrder, search, showOrderNumber } from "./orders_view.mjs";
 import { showMaps, showPages, showTree, showWhy } from "./page_view.mjs";
 import { REGION_FIELDS, clearPlan, plan } from "./plan_view.mjs";
 import { showChanges, showLines, showRefusals, showSteps } from "./run_view.mjs";
@@ -13,7 +16,9 @@ import { saveText, showFields, tell } from "./text_view.mjs";
 import { focusThread, showThreads } from "./thread_view.mjs";
 
 const BUSY_AFTER = 200;
-const MOST_FILE = 16 << 20;
+// in a run with more steps, what needs the pages of the spaces is shown once the slider rests for so many milliseconds
+const LONG_RUN = 5000, REST = 120, NEAR = 12;
+const MOST_FILE = 16 << 20, MOST_ANNOUNCED = 3;
 
 let source = null;
 // the script that a loaded one displaced; the scripts that the page offers itself, which need no keeping
@@ -59,8 +64,15 @@ async function refresh() {
   if (shownCount === 1) performance.mark("first answer");
 }
 
+const rest = () => new Promise((done) => { setTimeout(done, REST); });
+
 async function showOnce() {
   try {
+    if (source.hasGlances && shown.view?.count > LONG_RUN && shown.isSameRun) {
+      takeGlance(await source.ask("glance", question()));
+      await rest();
+      if (isWanted) return;
+    }
     const view = await source.ask("view", question());
     if (isWanted) return;
     sayError("");
@@ -75,20 +87,52 @@ async function showOnce() {
   }
 }
 
+/** The rows of a list around the current one. */
+function near(rows, isNow) {
+  const place = Math.max(0, rows.findIndex(isNow));
+  return rows.slice(Math.max(0, place - NEAR), place + NEAR);
+}
+
+/** Shows the place at once, with the nearest lines and steps. All else follows when the slider rests. */
+function takeGlance(view) {
+  document.body.classList.add("behind");
+  showPlace(view);
+  showLines({ ...view, lines: near(view.lines, ({ number: it }) => it === view.line) }, go);
+  showSteps({ ...view, steps: near(view.steps, ({ number: it }) => it === view.stepCount) }, go);
+  scrollLists();
+  document.body.dataset.glanced = view.at;
+}
+
+/** Shows the script, the steps, the threads and the messages. */
+function showRun(view) {
+  showLines(view, go);
+  showSteps(view, go);
+  showThreads(view, acts());
+  showChart(view, go);
+  scrollLists();
+  markLines(view.refusals.first, view.line);
+}
+
+/** Says the step that is shown, for readers of screens. */
+function announce(view) {
+  const changes = [...view.threadChanges, ...view.changes.slice(0, MOST_ANNOUNCED)].map(({ text }) => text).join("; ");
+  const text = view.at === 0 ? "At boot" : `Step ${view.at} of ${view.count}, line ${view.line}: ${view.said}`;
+  it("announced").textContent = changes ? `${text}. ${changes}` : text;
+}
+
 function takeView(view) {
-  shown.view = view;
+  Object.assign(shown, { view, isSameRun: true });
+  document.body.classList.remove("behind");
   shown.at = view.at === view.count ? null : view.at;
   const { isFollowing, space } = shown, isGone = !view.spaces.some((it) => it.space === space);
   if (isFollowing && view.focus) choosePlace(view.focus.space, view.focus.page);
   else if (isGone || (isFollowing && space === 0)) chooseFirst(view.spaces);
   showPlace(view);
-  showLines(view, go);
+  showRun(view);
   showRefusals(view, go);
-  showSteps(view, go);
   showChanges(view, choose);
-  showThreads(view, acts());
   showSelection();
-  showChart(view, go);
+  announce(view);
 }
 
 function showPlace(view) {
@@ -102,6 +146,7 @@ function showPlace(view) {
 }
 
 function showSelection() {
+  it("asked-space").textContent = `space ${shown.space}`;
   showMaps(shown.view, acts());
   showPages(shown.view, acts());
   showTree(shown.view, acts());
@@ -133,14 +178,22 @@ function choose(space, page) {
   refresh();
 }
 
+/** Explains the page of the field, in the space that is shown. */
+function askWhy() {
+  if (/^[0-9]+$/.test(it("asked-page").value)) choose(shown.space, number("asked-page"));
+}
+
 function chooseSpace(space) {
   Object.assign(shown, { space, page: null, first: 0, isFollowing: false });
   refresh();
 }
 
-function run() {
+/** Runs the script of the field, and shows a place in it: the end, if none is given. */
+function run(at = null) {
   const asked = fields();
-  Object.assign(shown, asked, { at: null, isFollowing: true, space: null, page: null });
+  Object.assign(shown, asked, { at, isFollowing: true, isSameRun: false, space: null, page: null });
+  showText();
+  forgetLines();
   it("edited").hidden = true;
   keep();
   if (!Number.isInteger(asked.frames)) return fail("frames: the number of frames must be from 1 to 4,096.");
@@ -154,19 +207,31 @@ function fail(text) {
 }
 
 /** Puts a script into the field, and runs it. A script of the field that would be lost is kept: `former` brings it back. */
-function load({ script, frames, pageBytes }) {
+function load({ script, frames = framesFor(script), pageBytes = pageBytesFor(script), step = null }) {
   keepFormer(script);
   it("script").value = script;
-  if (frames !== undefined) it("frames").value = frames;
+  it("frames").value = frames;
   if (pageBytes !== undefined) it("page-bytes").value = pageBytes;
-  return run();
+  showOrderNumber(null);
+  return run(step);
 }
 
 /** Puts the script of an order into the field, runs it, and brings the field into view. */
 function loadOrder(found) {
   if (found.script !== former?.script) offered.add(found.script);
   it("script").scrollIntoView({ block: "center" });
-  return load(found);
+  const loading = load(found);
+  showOrderNumber(found.order ?? null);
+  return loading;
+}
+
+/** Loads what a link, the browser's store or the source gives: a script; a litmus test and one of its orders, by the outcome's number; and a
+ * step of either. */
+async function begins(start) {
+  if (!start.order) return load(start);
+  await load({ ...start, step: null });
+  await busy(search(source, sayOrdersError));
+  return loadedOrder(start.order, start.step);
 }
 
 /** Keeps the script of the field if another one takes its place. The kept one is dropped when it comes back. */
@@ -182,16 +247,19 @@ function enter() {
   it("script").value = `${text}${between}${it("next-line").value}\n`;
   it("next-line").value = "";
   sayDone("");
-  run();
+  runAgain();
 }
 
 /** Keys that act where no field has the focus: arrows step, / finds. */
 function onKey(event) {
-  if (event.key === "Enter" && (event.ctrlKey || event.metaKey)) return run();
+  if (event.key === "Enter" && (event.ctrlKey || event.metaKey)) return runAgain();
   const isField = event.target.closest("input, textarea, select");
   if (isField || event.ctrlKey || event.metaKey || event.altKey || !shown.view) return undefined;
-  const isInList = document.activeElement.closest("li, tr, svg") !== null;
-  if (!Object.hasOwn(KEYS, event.key) || (["ArrowUp", "ArrowDown"].includes(event.key) && !isInList)) return undefined;
+  if (["ArrowUp", "ArrowDown"].includes(event.key)) {
+    if (moveFocus(event.key === "ArrowUp" ? -1 : 1)) event.preventDefault();
+    return undefined;
+  }
+  if (!Object.hasOwn(KEYS, event.key)) return undefined;
   event.preventDefault();
   return KEYS[event.key]();
 }
@@ -199,19 +267,18 @@ function onKey(event) {
 const KEYS = {
   "ArrowLeft": () => go(shown.view.at - 1), "ArrowRight": () => go(Math.min(shown.view.at + 1, shown.view.count)),
   "Home": () => go(0), "End": () => go(shown.view.count), "/": () => it("find").focus(),
-  "ArrowUp": () => neighbour(-1), "ArrowDown": () => neighbour(1),
 };
 
-/** Moves the focus to the next part of the list that has it. */
-function neighbour(by) {
-  const list = document.activeElement.closest("ol, ul, tbody, svg"), parts = [...list.querySelectorAll("button, [tabindex='0']")];
-  parts[parts.indexOf(document.activeElement) + by]?.focus();
+/** Runs what was written. A script that was edited is no order of a litmus test any more. */
+function runAgain() {
+  if (isEdited()) showOrderNumber(null);
+  return run();
 }
 
 const on = (id, event, act) => it(id).addEventListener(event, act);
 
 function listenToRun() {
-  on("run", "click", run);
+  on("run", "click", runAgain);
   on("enter", "click", enter);
   on("next-line", "keydown", (event) => { if (event.key === "Enter" && !event.ctrlKey) enter(); });
   on("back", "click", () => go(shown.view.at - 1));
@@ -219,7 +286,7 @@ function listenToRun() {
   on("step", "input", () => go(number("step")));
   on("script", "input", () => { keep(); sayDone(""); it("edited").hidden = !isEdited(); it("refusals").hidden = true; });
   on("former", "click", () => load(former));
-  ["frames", "page-bytes"].forEach((id) => on(id, "change", run));
+  ["frames", "page-bytes"].forEach((id) => on(id, "change", runAgain));
   on("stop", "click", () => source.stop());
   document.addEventListener("keydown", onKey);
 }
@@ -231,10 +298,12 @@ function listenToViews() {
   on("colour", "change", () => { shown.colour = it("colour").value; showSelection(); });
   on("plan", "click", () => plan(source, sayPlanError));
   REGION_FIELDS.forEach((id) => on(id, "input", clearPlan));
-  on("search", "click", () => busy(search(source, loadOrder, sayOrdersError)));
+  on("search", "click", () => busy(search(source, sayOrdersError)));
   on("tell", "click", () => tell(source, sayTextError, sayDone));
   on("words", "keydown", (event) => { if (event.key === "Enter") tell(source, sayTextError, sayDone); });
   on("kind", "change", showFields);
+  on("ask-why", "click", askWhy);
+  on("asked-page", "keydown", (event) => { if (event.key === "Enter") askWhy(); });
   on("find", "keydown", (event) => { if (event.key === "Enter") sayDone(find(it("find").value, shown.view, { choose, chooseSpace, focusThread })); });
 }
 
@@ -251,6 +320,20 @@ function listenToFiles() {
   });
 }
 
+/** A text with code between backquotes. */
+const withCode = (text) => text.split("`").map((part, place) => (place % 2 ? made("code", {}, part) : part));
+
+/** Lists the forms of the commands. */
+function listCommands() {
+  it("commands").append(...FORMS.map(([form, means]) => made("li", {}, made("code", {}, form), " ", ...withCode(means))));
+}
+
+/** Loads an example. The orders of a litmus test are searched too. */
+async function loadExample({ script }) {
+  await load({ script });
+  if (isLitmus(script)) await busy(search(source, sayOrdersError));
+}
+
 /** Offers the examples of the source. */
 function listExamples(examples) {
   examples.forEach(({ script }) => offered.add(script));
@@ -259,7 +342,7 @@ function listExamples(examples) {
   on("example", "change", () => {
     const found = examples.find(({ name }) => name === it("example").value);
     sayDone("");
-    if (found) load(found);
+    if (found) loadExample(found);
     it("example").selectedIndex = 0;
   });
 }
@@ -268,15 +351,17 @@ export async function begin(given) {
   source = given;
   source.report = (text) => { it("doing").textContent = text; };
   document.body.dataset.source = source.name;
-  [listenToRun, listenToViews, listenToFiles, showFields].forEach((act) => act());
+  listCommands();
+  [listenToRun, listenToViews, listenToFiles, listenToEditor, showFields].forEach((act) => act());
+  listenToOrders(loadOrder);
   listenToWords(source);
   try {
     const start = await source.start();
     if (start.mostBytes) it("script").maxLength = start.mostBytes;
     listExamples(start.examples ?? []);
-    await load(firstScript(start, source.name === "page", sayDone));
+    await begins(await firstScript(start, source.name === "page", sayDone));
     plan(source, sayPlanError);
-    globalThis.addEventListener("hashchange", () => load(firstScript(fields(), false, sayDone)));
+    globalThis.addEventListener("hashchange", async () => begins(await firstScript(fields(), false, sayDone)));
   } catch (fault) {
     fail(fault.message);
   }

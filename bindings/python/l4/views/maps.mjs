@@ -2,7 +2,7 @@
 import { active, drawing, drawn } from "./dom.mjs";
 import { grouped, pagesText } from "./texts.mjs";
 
-const CELL = 13, COLUMNS = 16, MOST_AREAS = 8, MOST_PAGES_OF_AREA = 1024, MOST_BLOCKS = 128, MOST_RUNS = 1024, LABEL = 14, TITLE = 62;
+const CELL = 16, COLUMNS = 16, MOST_AREAS = 8, MOST_PAGES_OF_AREA = 1024, MOST_BLOCKS = 128, MOST_RUNS = 1024, LABEL = 16, TITLE = 76;
 
 const hue = (number) => `hsl(${Math.round(number * 137.5) % 360} 62% 66%)`;
 

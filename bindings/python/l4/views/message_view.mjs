@@ -1,10 +1,10 @@
 // The chart of messages, Unmaps, and threads that come and go.
 import { chartOf } from "./chart.mjs";
-import { fill, it, made } from "./dom.mjs";
+import { fill, follow, it, made } from "./dom.mjs";
 
 export function showChart(view, go) {
   const chart = view.events.length ? [chartOf(view.events, view.earlierEvents, { step: view.stepCount, go })] : [made("p", { class: "hint" }, "No message so far.")];
   fill("chart", chart);
   // the newest is at the bottom
-  it("chart").scrollTop = it("chart").scrollHeight;
+  follow(it("chart"), null);
 }

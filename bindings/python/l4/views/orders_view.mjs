@@ -1,43 +1,93 @@
-// Every order of a plan's calls: a table of outcomes and the rules that they break. Each outcome has a link that loads the script of an order
-// that produces it.
+// Every order of a litmus test's calls: a table of outcomes, each with an order that produces it and the rules that it breaks. The number of an
+// outcome loads the script of its order.
 import { fill, it, link, made } from "./dom.mjs";
 import { fields, number } from "./state.mjs";
 import { counted, grouped } from "./texts.mjs";
 
-const MOST = 2 ** 32, EARLY = {
+const MOST = 2 ** 32, MOST_CALLS = 40, EARLY = {
   most: "it visited as many states as it may", memory: "memory ran out", history: "the history of an order is full",
 };
 
 let searched = 0;
+// the search that is shown, with its litmus test; and the outcome whose order is in the editor
+let found = null, loaded = null;
 
 /** Removes the outcomes that are shown. */
 function clear() {
-  it("orders-text").textContent = "";
+  found = null;
+  it("orders-text").textContent = it("outcomes-more").textContent = "";
   fill("outcomes", []);
   it("outcomes-table").hidden = it("plan-again").hidden = true;
 }
 
-function summary({ outcomeCount, end, orders, states }) {
-  const found = counted(outcomeCount, "outcome"), visited = `${counted(states, "state")} visited`;
-  if (end === "all") return `${found} in ${orders} ${orders === "1" ? "order" : "orders"}, ${visited}. No order has another outcome.`;
-  return `${found}, ${visited}. The search ended early, because ${EARLY[end]}: there may be other outcomes.`;
+function summary({ outcomeCount, end, orders, states, outcomes }) {
+  const count = counted(outcomeCount, "outcome"), visited = `${counted(states, "state")} visited`, broken = outcomes.filter((it) => it.broken.length).length;
+  const rules = broken ? ` ${counted(broken, "outcome")} ${broken === 1 ? "breaks" : "break"} a rule.` : "";
+  if (end === "all") return `${count} in ${orders} ${orders === "1" ? "order" : "orders"}, ${visited}. No order has another outcome.${rules}`;
+  return `${count}, ${visited}. The search ended early, because ${EARLY[end]}: there may be other outcomes.${rules}`;
 }
 
-function row({ answers, witness, broken }, place, loads) {
-  const name = `outcome ${place + 1}: load the script of an order`;
+/** The lines of a litmus test that are neither empty nor comments, with their numbers: those before `unordered`, the calls, and those after
+ * `finally`. */
+function partsOf(script) {
+  const parts = [[], [], []];
+  let place = 0;
+  script.replace(/\n$/, "").split("\n").forEach((text, at) => {
+    const word = text.trim();
+    if (word === "" || text.startsWith("#")) return;
+    if (word === "unordered" || word === "finally") place = word === "unordered" ? 1 : 2;
+    else parts[place].push({ number: at + 1, text });
+  });
+  return parts;
+}
+
+/** The calls of an order, with the numbers of their lines in the litmus test, from the script of the order: the lines behind those before
+ * `unordered`, and before the queries. A thread's calls keep their order, so a text that occurs twice is first the line above. */
+function callsOf(script, witness) {
+  const [first, calls, last] = partsOf(script), left = [...calls], lines = witness.replace(/\n$/, "").split("\n");
+  return lines.slice(first.length, lines.length - last.length).map((text) => {
+    const place = left.findIndex((it) => it.text === text);
+    return place < 0 ? { number: 0, text } : left.splice(place, 1)[0];
+  });
+}
+
+function row({ answers, witness, broken }, place, script) {
+  const name = `outcome ${place + 1}: load the script of an order`, calls = callsOf(script, witness);
   const lines = answers.length ? answers.map((text) => made("div", {}, text)) : [made("span", { class: "hint" }, "no answer, and no thread is stuck")];
   const rules = broken.map((text) => made("div", { class: "broken" }, `breaks: ${text}`));
-  return made("tr", {}, made("td", {}, link(`${place + 1}`, () => loads(witness), name)), made("td", { class: "outcome" }, ...lines, ...rules));
+  const order = calls.slice(0, MOST_CALLS).map(({ number: at, text }) => made("li", {}, `${at}: ${text}`));
+  if (calls.length > MOST_CALLS) order.push(made("li", {}, `and ${counted(calls.length - MOST_CALLS, "more call")}`));
+  return made("tr", { class: broken.length ? "breaks" : null }, made("td", {}, link(`${place + 1}`, () => loadedOrder(place + 1), name)),
+    made("td", { class: "outcome" }, ...lines, ...rules), made("td", {}, made("ol", { class: "order" }, ...order)));
 }
 
-function show(told, asked, load) {
-  const again = (script) => load({ ...asked, script });
+let load = null;
+
+/** Loads the script of an outcome's order, at a step of it if one is given. */
+export function loadedOrder(outcome, step = null) {
+  const one = found?.outcomes[outcome - 1];
+  return one ? load({ ...found.asked, script: one.witness, order: outcome, step }) : undefined;
+}
+
+/** The outcome whose order is in the editor, and its litmus test; null if there is none. */
+export const orderShown = () => loaded;
+
+/** Says of which outcome the script in the editor is an order. */
+export function showOrderNumber(outcome) {
+  loaded = outcome === null || found === null ? null : { outcome, ...found.asked };
+  it("order-shown").hidden = loaded === null;
+  it("order-shown").textContent = loaded ? `This is the script of an order that produces outcome ${outcome} of the litmus test.` : "";
+}
+
+function show(told, asked) {
+  found = { ...told, asked };
   it("orders-text").textContent = summary(told);
   it("outcomes-table").hidden = told.outcomes.length === 0;
-  fill("outcomes", told.outcomes.map((outcome, place) => row(outcome, place, again)));
+  fill("outcomes", told.outcomes.map((outcome, place) => row(outcome, place, asked.script)));
   it("outcomes-more").textContent = told.outcomeCount > told.outcomes.length ? `${grouped(told.outcomeCount - told.outcomes.length)} more outcomes: \`l4 orders\` prints all.` : "";
   it("plan-again").hidden = false;
-  it("plan-again").onclick = () => again(asked.script);
+  it("plan-again").onclick = () => load(asked);
+  showOrderNumber(null);
 }
 
 /** What is wrong in the fields. */
@@ -48,15 +98,20 @@ function wrongField({ frames }) {
 }
 
 /** Searches the script of the field. An error leaves no outcomes beside it. */
-export async function search(source, load, say) {
+export async function search(source, say) {
   const place = ++searched, asked = fields(), wrong = wrongField(asked);
   clear();
   try {
     if (wrong) throw new Error(wrong);
     const told = await source.ask("orders", { ...asked, most: number("most") });
-    if (place === searched) { show(told, asked, load); say(""); }
+    if (place === searched) { show(told, asked); say(""); }
   } catch (fault) {
     if (place === searched) { clear(); say(fault.message); }
   }
   document.body.dataset.searched = place;
+}
+
+/** Loads scripts by this function. */
+export function listenToOrders(loads) {
+  load = loads;
 }

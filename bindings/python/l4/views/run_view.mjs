@@ -1,5 +1,5 @@
 // The lines of the script with their answers, the refused lines, and the steps.
-import { fill, follow, it, link, made } from "./dom.mjs";
+import { fill, follow, it, link, made, scrollLists } from "./dom.mjs";
 import { wrongToken } from "./grammar.mjs";
 import { wordsIn } from "./decoding.mjs";
 import { counted, grouped } from "./texts.mjs";
@@ -12,7 +12,7 @@ function lineRow(line, view, refusals, go) {
   const text = made("span", { class: "source" }, ...wordsIn(line.text, "script"));
   const jump = link(`${line.number}`, () => go(line.at), `line ${line.number}: ${line.text}`);
   row.append(made("span", { class: "jump" }, jump), text);
-  line.answers.forEach((answer) => row.append(answerRow(answer, line, refusals)));
+  row.append(...line.answers.map((answer) => answerRow(answer, line, refusals)));
   return row;
 }
 
@@ -32,16 +32,18 @@ function refusalText({ code, means, names }, text) {
 }
 
 export function showLines(view, go) {
+  fitNumbers("lines", view.lineCount);
   fill("lines", view.lines.map((line) => lineRow(line, view, view.refusals.first, go)));
   const left = view.lineCount - view.lines.length;
   it("lines-more").textContent = left > 0 ? `${grouped(view.lines.length)} of ${grouped(view.lineCount)} lines are shown: those around the current one.` : "";
-  follow(it("lines"), it("lines").querySelector(".now"));
+  follow(it("lines"), it("lines").querySelector(".now") ?? undefined);
 }
 
 /** Goes to the last step of a line or before it, and moves the line into view. */
 async function goToLine({ line, at }, go) {
   await go(at);
-  follow(it("lines"), it("lines").querySelector(`li[value="${line}"]`));
+  follow(it("lines"), it("lines").querySelector(`li[value="${line}"]`) ?? undefined);
+  scrollLists();
 }
 
 /** The count of refused lines, and a link to the next one. */
@@ -56,13 +58,24 @@ export function showRefusals(view, go) {
   return fill("refusals", [title, ` — line ${next.line}: ${next.code}, ${refusalText(next, text)} `, jump]);
 }
 
+/** One step, with the line that caused it, and whether a served thread acted by itself. */
+function stepRow(step, view, go) {
+  const isNow = step.number === view.stepCount, row = made("li", { value: step.number, class: place(step, isNow), "aria-current": isNow ? "step" : null });
+  const cause = `line ${step.line}${step.isServed ? ", served thread" : ""}`;
+  row.append(made("span", { class: "jump" }, link(`${step.number}`, () => go(step.number), `step ${step.number}, ${cause}: ${step.text}`)),
+    made("span", { class: "source" }, step.text), made("span", { class: "cause" }, ` ${cause}`));
+  return row;
+}
+
 export function showSteps(view, go) {
-  fill("steps", view.steps.map((step) => {
-    const isNow = step.number === view.stepCount, row = made("li", { value: step.number, class: place(step, isNow), "aria-current": isNow ? "step" : null });
-    row.append(made("span", { class: "jump" }, link(`${step.number}`, () => go(step.number), `step ${step.number}, line ${step.line}: ${step.text}`)), step.text);
-    return row;
-  }));
-  follow(it("steps"), it("steps").querySelector(".now"));
+  fitNumbers("steps", view.count);
+  fill("steps", view.steps.map((step) => stepRow(step, view, go)));
+  follow(it("steps"), it("steps").querySelector(".now") ?? undefined);
+}
+
+/** Makes room for the numbers of a list, up to the greatest one. */
+function fitNumbers(id, most) {
+  it(id).style.setProperty("--digits", `${Math.max(2, `${most}`.length)}`);
 }
 
 /** What the step changed. */

@@ -1,26 +1,44 @@
 // Scripts that stay, travel and leave: in the browser's store, in a link, in files.
 import { it, save } from "./dom.mjs";
-import { fields, question } from "./state.mjs";
+import { framesFor, pageBytesFor } from "./frames.mjs";
+import { orderShown } from "./orders_view.mjs";
+import { fields, isEdited, question, shown } from "./state.mjs";
 import { grouped } from "./texts.mjs";
 
 const STORE = "l4 script", MOST_LINK = 60_000;
 
-/** A text in base64url. */
-function encoded(text) {
-  const letters = Array.from(new TextEncoder().encode(text), (byte) => String.fromCharCode(byte)).join("");
+// what the link in the address carries
+let inAddress = null;
+
+/** Bytes in base64url. */
+function encoded(bytes) {
+  const letters = Array.from(bytes, (byte) => String.fromCharCode(byte)).join("");
   return btoa(letters).replace(/\+/g, "-").replace(/\//g, "_").replace(/=+$/, "");
 }
 
-function decoded(text) {
-  const letters = atob(text.replace(/-/g, "+").replace(/_/g, "/"));
-  return new TextDecoder("utf-8", { fatal: true }).decode(Uint8Array.from(letters, (letter) => letter.charCodeAt(0)));
+const bytesIn = (text) => Uint8Array.from(atob(text.replace(/-/g, "+").replace(/_/g, "/")), (letter) => letter.charCodeAt(0));
+
+const textOf = (bytes) => new TextDecoder("utf-8", { fatal: true }).decode(bytes);
+
+/** Bytes that went through a stream of the browser, which packs or unpacks them. */
+async function through(stream, bytes) {
+  return new Uint8Array(await new Response(new Blob([bytes]).stream().pipeThrough(stream)).arrayBuffer());
 }
+
+/** What a link carries now: the script and its machine; or the litmus test with the outcome whose order is in the editor. */
+function toShare() {
+  const order = isEdited() ? null : orderShown(), step = isEdited() ? null : shown.at;
+  return order ? { ...order, order: order.outcome, step } : { ...fields(), order: null, step };
+}
+
+const isSame = (a, b) => ["script", "frames", "pageBytes", "order"].every((name) => a[name] === b[name]);
 
 /** Keeps the fields for the next visit. A browser that keeps nothing is no fault. A link to another script leaves the address, where a reload
  * would take it in place of what was kept. */
 export function keep() {
   try { localStorage.setItem(STORE, JSON.stringify(fields())); } catch { /* the store is full or closed */ }
-  if (location.hash && location.hash !== linkPart(fields())) history.replaceState(null, "", location.href.split("#")[0]);
+  const now = toShare(), isLinked = inAddress && (isSame(inAddress, now) || (inAddress.order !== null && inAddress.script === now.script));
+  if (location.hash && !isLinked) history.replaceState(null, "", location.href.split("#")[0]);
 }
 
 function kept() {
@@ -32,19 +50,38 @@ function checksum(text) {
   return new TextEncoder().encode(text).reduce((sum, byte) => Math.imul(sum ^ byte, 0x01000193) >>> 0, 0x811c9dc5).toString(16);
 }
 
-/** The part of a link that carries a script. The script is last, so that a link that is cut still has the length and the checksum. */
-const linkPart = ({ script, frames, pageBytes }) =>
-  `#frames=${frames}&page-size=${pageBytes}&length=${script.length}&sum=${checksum(script)}&script=${encoded(script)}`;
+/** The part of a link that carries a script. The script is last, so that a link that is cut still has the length and the checksum. A long
+ * script is packed by the browser's deflate. */
+async function linkPart({ script, frames, pageBytes, order, step }) {
+  const bytes = new TextEncoder().encode(script), packed = await through(new CompressionStream("deflate-raw"), bytes);
+  const place = `${order === null ? "" : `&outcome=${order}&most=${it("most").value}`}${step === null ? "" : `&step=${step}`}`;
+  const text = packed.length < bytes.length ? `packed=${encoded(packed)}` : `script=${encoded(bytes)}`;
+  return `#frames=${frames}&page-size=${pageBytes}&length=${script.length}&sum=${checksum(script)}${place}&${text}`;
+}
 
 const isStart = (it) => it !== null && typeof it?.script === "string" && Number.isInteger(it.frames) && [1024, 4096].includes(it.pageBytes);
 
-/** The script that a link carries. Throws an error where the link is damaged or cut. A link that somebody wrote needs no length and checksum. */
-function linked() {
+/** The number that a link has under a name; null if it has none. */
+function numberIn(parts, name) {
+  const text = parts.get(name);
+  return text !== null && /^[0-9]+$/.test(text) ? Number(text) : null;
+}
+
+async function scriptIn(parts) {
+  if (parts.has("packed")) return textOf(await through(new DecompressionStream("deflate-raw"), bytesIn(parts.get("packed"))));
+  return textOf(bytesIn(parts.get("script") ?? ""));
+}
+
+/** What a link carries. Throws an error where the link is damaged or cut. A link that somebody wrote needs no length and checksum. */
+async function linked() {
   const parts = new URLSearchParams(location.hash.slice(1));
-  if (!["script", "sum", "length"].some((name) => parts.has(name))) return null;
+  if (!["script", "packed", "sum", "length"].some((name) => parts.has(name))) return null;
   try {
-    const script = decoded(parts.get("script") ?? "");
-    const found = { script, frames: Number(parts.get("frames") ?? 256), pageBytes: Number(parts.get("page-size") ?? 4096) };
+    const script = await scriptIn(parts);
+    const found = {
+      script, frames: numberIn(parts, "frames") ?? framesFor(script), pageBytes: numberIn(parts, "page-size") ?? pageBytesFor(script) ?? 4096,
+      order: numberIn(parts, "outcome"), step: numberIn(parts, "step"), most: numberIn(parts, "most"),
+    };
     const isWhole = `${script.length}` === (parts.get("length") ?? `${script.length}`) && checksum(script) === (parts.get("sum") ?? checksum(script));
     if (isWhole && isStart(found)) return found;
   } catch { /* reported below */ }
@@ -52,10 +89,11 @@ function linked() {
 }
 
 /** What the page begins with: the script of a link, else what was kept, else what the source gives. */
-export function firstScript(start, isKeeping, say) {
+export async function firstScript(start, isKeeping, say) {
   try {
-    const found = linked();
-    if (found) return found;
+    inAddress = await linked();
+    if (inAddress?.most != null) it("most").value = inAddress.most;
+    if (inAddress) return inAddress;
   } catch (fault) {
     say(fault.message);
     return start;
@@ -64,16 +102,18 @@ export function firstScript(start, isKeeping, say) {
   return isStart(before) ? before : start;
 }
 
-/** Puts the script into the address and the clipboard. */
+/** Puts the script into the address and the clipboard, with the step that is shown, and with the litmus test if it is one of its orders. */
 export async function shareLink(say) {
-  const part = linkPart(fields()), where = location.protocol === "file:" ? " It opens this file: a reader elsewhere needs the file too." : "";
+  const what = toShare(), part = await linkPart(what), where = location.protocol === "file:" ? " It opens this file: a reader elsewhere needs the file too." : "";
   if (part.length > MOST_LINK) return say(`The script is too long for a link, which carries up to ${grouped(MOST_LINK)} characters. Save it as a file instead.`);
+  inAddress = what;
   history.replaceState(null, "", part);
+  const opens = what.step === null ? "" : ` It opens at step ${what.step}.`;
   try {
     await navigator.clipboard.writeText(location.href);
-    return say(`The link is in the address bar and on the clipboard.${where}`);
+    return say(`The link is in the address bar and on the clipboard.${opens}${where}`);
   } catch {
-    return say(`The link is in the address bar: copy it from there.${where}`);
+    return say(`The link is in the address bar: copy it from there.${opens}${where}`);
   }
 }
 

@@ -1,20 +1,15 @@
 // What the page shows of a run at one place: threads, events and changes, from the steps and the pages of the spaces.
 import { changeText, changesBetween } from "./changes.mjs";
-import { Threads, stepText } from "./kernel.mjs";
+import { stepText } from "./kernel.mjs";
 
-const MOST_STEPS = 200, MOST_LATER = 50, MOST_EVENTS = 40, MOST_CHANGES = 128;
-
-/** The threads after the first steps. */
-export function threadsAfter(steps, count, pageBytes) {
-  const threads = new Threads(pageBytes);
-  steps.slice(0, count).forEach((step) => threads.note(step));
-  return threads;
-}
+const MOST_STEPS = 120, MOST_LATER = 30, MOST_EVENTS = 40, MOST_CHANGES = 128;
+// a step has at most two events: a message, and a thread that comes or goes
+const MOST_OF_STEP = 2;
 
 /** The last steps up to the current one, and the next of those that come later. */
 function stepsShown(steps, count, pageBytes) {
   return steps.slice(Math.max(0, count - MOST_STEPS), count + MOST_LATER)
-    .map((step) => ({ number: step.number, line: step.line, text: stepText(step, pageBytes), isLater: step.number > count }));
+    .map((step) => ({ number: step.number, line: step.line, isServed: step.isServed, text: stepText(step, pageBytes), isLater: step.number > count }));
 }
 
 function threadsShown(threads, regions, served) {
@@ -45,20 +40,27 @@ function focusOf(changes, threads, { text, now, pageBytes }) {
   return page === null ? null : { space, page };
 }
 
-/** All of it. `given` has the steps, how many of them are done now and were before, the states of both places, regions and served threads,
- * and the text of the current line. */
-export function shownAt(given) {
-  const { steps, done, before, now, old, pageBytes } = given;
-  const threads = given.threads ?? threadsAfter(steps, done, pageBytes);
-  const changes = changesBetween(old.spaces, now.spaces);
-  const came = threads.events.filter(({ kind, step }) => kind !== "message" && kind !== "unmap" && step.number > before);
+/** What needs no pages. `given` has the timeline of the run, how many steps are done, the regions and the served threads. */
+export function glanceAt({ timeline, done, pageBytes, regions, served, threads = timeline.at(done) }) {
+  const { steps } = timeline, { events, eventCount, sending } = threads;
   return {
-    stepCount: done, steps: stepsShown(steps, done, pageBytes), threads: threadsShown(threads, given.regions, given.served),
-    senders: [...threads.sending.keys()].map((thread) => ({ thread, ...threads.waitOf(thread) })),
+    stepCount: done, steps: stepsShown(steps, done, pageBytes), threads: threadsShown(threads, regions, served),
+    senders: [...sending.keys()].map((thread) => ({ thread, ...threads.waitOf(thread) })),
+    events: events.slice(Math.max(0, eventCount - MOST_EVENTS), eventCount), earlierEvents: Math.max(0, eventCount - MOST_EVENTS),
+    said: done === 0 ? "" : stepText(steps[done - 1], pageBytes),
+  };
+}
+
+/** All of it. `given` also has how many steps were done before, the states of both places, and the text of the current line. */
+export function shownAt(given) {
+  const { timeline, done, before, now, old } = given, threads = timeline.at(done);
+  const changes = changesBetween(old.spaces, now.spaces);
+  const came = threads.events.slice(Math.max(0, threads.eventCount - MOST_OF_STEP), threads.eventCount).filter(({ kind, step }) => kind !== "message" && kind !== "unmap" && step.number > before);
+  return {
+    ...glanceAt({ ...given, threads }),
     spaces: now.spaces.map((it) => ({ ...it, threads: threads.threadsOf(it.space) })),
     changes: changes.slice(0, MOST_CHANGES).map((change) => ({ ...change, ...changeText(change) })), changeCount: changes.length,
     threadChanges: came.map(({ kind, thread, text }) => ({ kind, text: `thread ${thread} ${text}` })),
-    events: threads.events.slice(-MOST_EVENTS), earlierEvents: Math.max(0, threads.events.length - MOST_EVENTS),
     focus: focusOf(changes, threads, given),
   };
 }

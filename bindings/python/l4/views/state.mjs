@@ -2,7 +2,7 @@
 import { it } from "./dom.mjs";
 
 /** The run that is shown, the place in it (null is the end), and the page that was chosen. */
-export const shown = { script: null, frames: 256, pageBytes: 4096, at: null, space: 0, page: null, first: 0, isFollowing: true, colour: "frame", view: null };
+export const shown = { script: null, frames: 256, pageBytes: 4096, at: null, space: 0, page: null, first: 0, isFollowing: true, isSameRun: false, colour: "frame", view: null };
 
 export const number = (id) => Number.parseInt(it(id).value, 10);
 

@@ -1,5 +1,5 @@
 // The texts as `l4` writes them.
-import { fields } from "./state.mjs";
+import { fields, number } from "./state.mjs";
 import { it, save } from "./dom.mjs";
 import { region } from "./plan_view.mjs";
 
@@ -18,7 +18,7 @@ function wrongWords(kind, words) {
 async function ask(source, isWhole) {
   const kind = it("kind").value, words = ["why", "decode"].includes(kind) ? wordsIn(it("words").value) : [], wrong = wrongWords(kind, words);
   if (wrong) throw new Error(wrong);
-  return (await source.ask("text", { ...fields(), kind, words, region: region(), claim: it("claim").value, isWhole })).text;
+  return (await source.ask("text", { ...fields(), kind, words, region: region(), most: number("most"), claim: it("claim").value, isWhole })).text;
 }
 
 /** Shows a text. The verdict of a check is announced. */

@@ -1,5 +1,5 @@
 // The threads with their pagers and regions, the waits as a graph, and the queue of senders.
-import { fill, it, link, made } from "./dom.mjs";
+import { fill, focusPart, it, link, made } from "./dom.mjs";
 import { graphOf } from "./graph.mjs";
 import { counted, pagesText } from "./texts.mjs";
 
@@ -15,11 +15,14 @@ function threadRow(thread, chooseSpace) {
   if (regions.length > MOST_REGIONS) own.push(made("div", {}, `and ${counted(regions.length - MOST_REGIONS, "more region")}`));
   const role = number === 1 ? " sigma0" : number === 2 ? " root" : "";
   const cells = [`${number}${role}${isServed ? " (served)" : ""}`, "", pager, wait ? wait.text : "nothing"].map((text) => made("td", {}, text));
-  cells[1].append(link(`${space}`, () => chooseSpace(space), `space ${space}, of thread ${number}`));
+  cells[1].append(`${space}`);
   cells[2].append(...own);
   cells[3].className = wait ? "" : "idle";
-  const name = `thread ${number}, space ${space}, pager ${pager}, waits for ${wait ? wait.text : "nothing"}`;
-  return made("tr", { tabindex: 0, "data-thread": number, "data-key": `thread ${number}`, "aria-label": name }, ...cells);
+  const name = `thread ${number}, space ${space}, pager ${pager}, waits for ${wait ? wait.text : "nothing"}: show its space`;
+  cells[0].replaceChildren(link(cells[0].textContent, () => chooseSpace(space), name, `thread ${number}`));
+  const row = made("tr", { "data-thread": number }, ...cells);
+  row.addEventListener("click", () => chooseSpace(space));
+  return row;
 }
 
 export function showThreads(view, acts) {
@@ -35,6 +38,6 @@ export function showThreads(view, acts) {
 
 export function focusThread(number) {
   const row = it("threads").querySelector(`[data-thread="${number}"]`);
-  row?.focus();
+  if (row) focusPart(row.querySelector("[data-key]"));
   return row !== null;
 }

@@ -2,7 +2,7 @@
 import { active, drawing, drawn } from "./dom.mjs";
 import { grouped } from "./texts.mjs";
 
-const WIDTH = 104, HEIGHT = 66, GAP = 12, DROP = 30, MOST_BOXES = 256;
+const WIDTH = 108, HEIGHT = 78, LINE = 18, GAP = 12, DROP = 30, MOST_BOXES = 256;
 
 const keyOf = ({ space, page }) => `${space}:${page}`;
 
@@ -39,7 +39,7 @@ function edgeOf(it, spots) {
 
 function boxOf(it, spot, view) {
   const [x, y] = corner(spot), isChosen = it.space === view.space && it.page === view.page;
-  const texts = [`space ${it.space}`, `page ${it.page}`, `frame ${it.frame}`, it.rights].map((text, line) => drawn("text", { x: x + 6, y: y + 15 * (line + 1) }, text));
+  const texts = [`space ${it.space}`, `page ${it.page}`, `frame ${it.frame}`, it.rights].map((text, line) => drawn("text", { x: x + 6, y: y + LINE * (line + 1) - 2 }, text));
   const box = drawn("rect", { x, y, width: WIDTH, height: HEIGHT, class: isChosen ? "box chosen" : "box" });
   const from = it.parent ? `from space ${it.parent.space} page ${it.parent.page}` : "no parent";
   const name = `space ${it.space} page ${it.page}, frame ${it.frame} ${it.rights}, ${from}${isChosen ? ", chosen" : ""}`;
