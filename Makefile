@@ -141,7 +141,7 @@ $(MODULE): $(SOURCES) web/build-module web/heap.c | toolchain
 	web/build-module
 endif
 
-$(PAGE): $(MODULE) web/make-page $(wildcard web/*.mjs bindings/python/l4/views/* examples/*.script)
+$(PAGE): $(MODULE) web/make-page $(wildcard web/*.mjs web/*.litmus bindings/python/l4/views/* examples/*.script examples/*.litmus)
 	web/make-page $(if $(WITHOUT),--unproved) $(MODULE) $@
 
 suite:

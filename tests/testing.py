@@ -238,6 +238,16 @@ def begin(text, name, *needs, cases=True):
     return report
 
 
+def counted(number, noun):
+    """A number with its noun, which has an `s` unless the number is 1."""
+    return f"{number} {noun}{'' if number == 1 else 's'}"
+
+
+def agreement(steps, answers):
+    """What `l4 judge` prints for a list without differences."""
+    return f"agrees: {counted(steps, 'step')}, {counted(answers, 'answer')}\n"
+
+
 def beside(file, ending, without=""):
     """The text of the file that has another ending."""
     other = file.with_suffix(ending)

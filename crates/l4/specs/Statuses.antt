@@ -3,8 +3,6 @@ use Rattle.std.specs.Prelude.{ℕ, Bool, true, false, Result, Ok, Err, is_some, 
 use Rattle.l4_expectations.specs.declared.outcomes.Failure.{Failure}
 use Rattle.l4_expectations.specs.declared.outcomes.Failure.TheVariants.{Differs, Refused as RefusedTest, NoExpectations, Malformed, Stopped as StoppedTest}
 use Rattle.l4_expectations.specs.declared.outcomes.Passed.{Passed}
-use Rattle.l4_merges.specs.declared.exploring.GaveUp.{GaveUp}
-use Rattle.l4_merges.specs.declared.exploring.GaveUp.TheVariants.{Bound, Memory, Full}
 use Rattle.l4_programs.specs.Statuses.{run_status}
 use Rattle.l4_plan_lines.specs.Answers.{is_proved}
 use Rattle.l4_plan_lines.specs.declared.answers.Answer.{Answer}
@@ -42,18 +40,6 @@ test_status (Err (RefusedTest refusal)) = 1
 test_status (Err NoExpectations) = 2
 test_status (Err (Malformed number fault)) = 2
 test_status (Err (StoppedTest fault)) = run_status fault
-
--- orders: 1 where not every order was followed, 4 where memory ran out
-abbrev pub orders_status : Result (Unit {0}) GaveUp → ℕ
-orders_status (Ok done) = 0
-orders_status (Err Bound) = 1
-orders_status (Err Full) = 1
-orders_status (Err Memory) = 4
-
--- the same by whether an outcome breaks a rule of the plan: 1 where one does
-abbrev pub ruled_status : Bool → Result (Unit {0}) GaveUp → ℕ
-ruled_status true ended = 1
-ruled_status false ended = orders_status ended
 
 -- the requests that a list is judged against: 2 where their list is invalid
 abbrev pub requests_status : Fault → ℕ

@@ -80,6 +80,7 @@ pub(crate) fn judge_list<R: AllocGlobal + Files + Input + Print + Eprint>(
         requests,
         partial: asked.partial,
         all: asked.all,
+        calls: asked.follow,
     };
     let file = asked.list.file.as_deref();
     let mut reader = match opened(rt, file) {

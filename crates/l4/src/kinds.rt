@@ -1,15 +1,15 @@
 //! The kinds of tested files: scripts and litmus tests.
-ghost use Rattle.std.specs.Prelude.{◌≡◌, true};
+ghost use Rattle.std.specs.Prelude.{◌≡◌};
 ghost use Rattle.l4_text.specs.Tokens.{tokens_of};
-ghost use Rattle.l4.specs.Files.{is_unordered, has_unordered};
+ghost use Rattle.l4.specs.Files.{is_unordered, has_unordered, is_litmus_name, is_litmus};
 
 use l4_answers::{first_line, later_lines};
 use l4_text::next_token;
 
 /// The ends of the names of litmus tests.
-const LITMUS: &str = ".litmus";
+const LITMUS: &[u8] = b".litmus";
 
-const PLAN: &str = ".plan";
+const PLAN: &[u8] = b".plan";
 
 /// The first token of the line that begins the calls that have no order.
 const UNORDERED: &[u8] = b"unordered";
@@ -38,9 +38,16 @@ fn has_unordered(text: &[u8]) -> bool
     false
 }
 
+/// Returns whether the name of a file is that of a litmus test.
+fn is_litmus_name(name: &[u8]) -> bool
+    ensures { result ≡ is_litmus_name name.now }
+{
+    name.ends_with(LITMUS) || name.ends_with(PLAN)
+}
+
 /// Returns whether a file is a litmus test: one of its lines says so, or its name does.
 pub(crate) fn is_litmus(file: &str, text: &[u8]) -> bool
-    ensures { has_unordered text.now ≡ true → result ≡ true }
+    ensures { result ≡ is_litmus file.now text.now }
 {
-    has_unordered(text) || file.ends_with(LITMUS) || file.ends_with(PLAN)
+    has_unordered(text) || is_litmus_name(file.as_bytes())
 }

@@ -8,9 +8,7 @@
 
 mod judged;
 mod kinds;
-mod ordered;
 mod plan_tests;
-mod progress;
 mod recorded;
 mod reports;
 mod segments;
@@ -29,8 +27,9 @@ use l4_history::{
     Annotations, Presence, Question, ThreadPage, WhyResult, annotated_script, answered_history,
     history, why,
 };
+use l4_litmus::print_orders;
 use l4_msg::Region;
-use l4_options::{Options, ScriptOptions, misread, options};
+use l4_options::{Options, OrdersOptions, ScriptOptions, misread, options};
 use l4_plan::plan;
 use l4_plan_lines::{Answer, answer_lines, plan_lines};
 use l4_programs::{
@@ -42,7 +41,6 @@ use l4_record::NoSegments;
 use l4_sinks::{Ended, Outputs, Style, answer_script};
 use l4_symbols::write_words;
 use l4_text::{RunFault, ScriptReader};
-use ordered::{print_orders, wanted_by};
 use recorded::run_to;
 use reports::{report_no_plan, report_no_thread, report_refused, report_unproved};
 use segments::tell_segments;
@@ -199,7 +197,13 @@ fn text_ended<W: Write>(
 }
 
 /// Returns the annotations of the answers to a script, by these switches.
-fn annotations(strict: bool, explain: bool, number: bool, moves: bool) -> Annotations {
+fn annotations(strict: bool, explain: bool, number: bool, moves: bool) -> Annotations
+    ensures { result ≡ record {
+      style = record { strict = strict; explain = explain };
+      number = number;
+      moves = moves;
+    } }
+{
     Annotations {
         style: Style { strict, explain },
         number,
@@ -346,6 +350,20 @@ fn check<R: Files + Input + Print + Eprint>(rt: &R, region: &Region, size: PageS
     checked(rt, told, &reader, &writer)
 }
 
+/// Searches all orders of a litmus test. `terminal` says whether standard error is a terminal.
+fn search_orders<R: AllocGlobal + Files + Input + Print + Eprint + Clock>(
+    rt: &R,
+    asked: &OrdersOptions,
+    terminal: bool,
+) -> u8
+    requires { IsFrameCount asked.now.test.frames }
+{
+    match opened(rt, asked.test.file.as_deref()) {
+        Ok(mut reader) => print_orders(rt, asked, terminal, &mut reader),
+        Err(status) => status,
+    }
+}
+
 /// Says what words mean.
 #[inline(never)]
 fn tell_words<R: Print + Eprint>(rt: &R, words: &[u32], reading: Reading, size: PageSize) -> u8 {
@@ -410,13 +428,7 @@ fn execute<R: AllocGlobal + Files + Input + Print + Eprint + Clock>(
             write,
             lenient,
         } => test(rt, files.as_slice(), tap, write, lenient),
-        Options::Orders {
-            plan,
-            most,
-            witness,
-            brief,
-            dot,
-        } => print_orders(rt, &plan, most, wanted_by(witness, brief, dot), terminal),
+        Options::Orders(asked) => search_orders(rt, &asked, terminal),
         Options::Encode(words) => print_words(rt, words.as_slice()),
         Options::Show(text) => show(rt, text.as_str()),
     }

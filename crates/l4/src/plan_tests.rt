@@ -1,22 +1,20 @@
 //! `l4 test` over litmus tests.
-ghost use Rattle.std.specs.Prelude.{◌≡◌, ◌⊎◌, ◌≤◌};
-ghost use Rattle.l4_fpage.specs.Pages.{max_frames};
+ghost use Rattle.std.specs.Prelude.{◌≡◌, MatchResult};
 ghost use Rattle.l4_text.specs.Tokens.{tokens_of};
 ghost use Rattle.l4_orders.specs.Rules.{breaks_any};
 ghost use Rattle.l4.specs.Files.{is_rule, has_rule};
-ghost use Rattle.l4.specs.Statuses.{ruled_status};
+ghost use Rattle.l4_litmus.specs.Statuses.{fault_status, ruled_status};
+ghost use Rattle.l4_options.specs.Ranges.{IsFrameCount};
 
-use crate::ordered::{code_of, not_searched, ruled_status, words_of};
 use crate::tap::Escaped;
-use crate::tested::{Place, print_empty, printed, report_untested};
+use crate::tested::{Place, Written, print_empty, print_reason, print_untested, printed};
+use l4_litmus::{TestFault, not_searched, read_test, report_fault, ruled_status};
 use l4_options::ScriptOptions;
-use l4_orders::{
-    Explored, LineFault, Plan, PlanFault, PlanLine, all_orders, read_plan, rules_text, summary_text,
-};
+use l4_orders::{Explored, Plan, PlanLine, all_orders, rules_text, summary_text};
 use l4_programs::{NOT_UNDERSTOOD, stopped};
 use l4_text::{RunFault, next_token};
 use std::alloc::{AllocError, Global};
-use std::{io, str};
+use std::str;
 
 /// The number of states that are visited at most.
 const MOST: u64 = 1_000_000;
@@ -49,7 +47,7 @@ fn texts(
 }
 
 /// Prints the text of the rules that are broken, as comments in TAP.
-fn print_rules<R: Print>(rt: &R, tap: bool, rules: &str) -> io::Result<()> {
+fn print_rules<R: Print>(rt: &R, tap: bool, rules: &str) -> Written {
     if !tap {
         return rt.print(rules);
     }
@@ -64,14 +62,14 @@ fn print_rules<R: Print>(rt: &R, tap: bool, rules: &str) -> io::Result<()> {
     Ok(())
 }
 
-/// Prints the result of a search with this status.
+/// Prints the result of a search.
 fn print_result<R: Print>(
     rt: &R,
     place: &Place<'_>,
     passed: bool,
     summary: &str,
     rules: &str,
-) -> io::Result<()> {
+) -> Written {
     let file = place.file;
     if place.tap {
         let number = place.number;
@@ -84,59 +82,50 @@ fn print_result<R: Print>(
     print_rules(rt, place.tap, rules)
 }
 
-/// Prints the result of a search. Returns the exit status.
-fn report_searched<R: AllocGlobal + Print + Eprint>(
+/// Returns the exit status of a search whose result was written: 3 if the write failed.
+fn report_searched(rt: &impl Eprint, plan: &Plan, explored: &Explored, written: Written) -> u8
+    ensures { MatchResult written
+        (λ _. result
+        ≡ ruled_status (breaks_any plan.now explored.now.found.items) explored.now.ended)
+        (λ _. result ≡ 3) }
+{
+    printed(rt, written, ruled_status(plan, explored))
+}
+
+/// Prints the result of a search, and returns the exit status.
+fn tell_searched<R: AllocGlobal + Print + Eprint>(
     rt: &R,
     place: &Place<'_>,
     plan: &Plan,
     explored: &Explored,
-) -> u8
-    ensures { (result ≡ ruled_status (breaks_any plan.now explored.now.found.items) explored.now.ended)
-        ⊎ ((result ≡ 3) ⊎ (result ≡ 4)) }
-{
+) -> u8 {
     let Ok((summary, rules)) = texts(rt.alloc(), plan, explored) else {
         return stopped(rt, RunFault::Memory, None, None);
     };
     let summary = str::from_utf8(summary.as_slice()).unwrap_or("").trim_end();
     let rules = str::from_utf8(rules.as_slice()).unwrap_or("");
-    let status = ruled_status(plan, explored);
-    let written = print_result(rt, place, status == 0, summary, rules);
-    printed(rt, written, status)
+    let passed = ruled_status(plan, explored) == 0;
+    let written = print_result(rt, place, passed, summary, rules);
+    report_searched(rt, plan, explored, written)
 }
 
-/// Prints on standard error why a file is not a litmus test, and the result in TAP. Returns the exit status.
-fn report_code<R: Print + Eprint>(rt: &R, place: &Place<'_>, line: u64, code: &str) -> u8
-    ensures { (result ≡ 2) ⊎ (result ≡ 3) }
+/// Prints in TAP why a file is not searched as a litmus test.
+fn print_fault<R: AllocGlobal + Print>(rt: &R, place: &Place<'_>, fault: &TestFault) -> Written {
+    if let TestFault::Stopped(_) = fault {
+        return print_untested(rt, place);
+    }
+    match format!(in rt.alloc(); "{fault}") {
+        Ok(reason) => print_reason(rt, place, reason.as_str()),
+        Err(_) => print_untested(rt, place),
+    }
+}
+
+/// Reports why a file is not searched, after that was printed in TAP. Returns the exit status: 3 if that write failed.
+fn report_no_test(rt: &impl Eprint, file: &str, fault: &TestFault, written: Written) -> u8
+    ensures { MatchResult written (λ _. result ≡ fault_status fault.now) (λ _. result ≡ 3) }
 {
-    let file = place.file;
-    let words = words_of(code);
-    let _ = eprintln!(rt; "error: {file}: line {line}: {code}: {words}");
-    if place.tap {
-        let number = place.number;
-        let written = println!(rt;
-            "not ok {number} - {}: line {line}: {code}: {words}",
-            Escaped(file)
-        );
-        return printed(rt, written, NOT_UNDERSTOOD);
-    }
-    NOT_UNDERSTOOD
-}
-
-/// Prints why a file is not a litmus test. Returns the exit status.
-fn report_no_plan<R: Print + Eprint>(rt: &R, place: &Place<'_>, fault: PlanFault) -> u8 {
-    match fault {
-        PlanFault::Malformed(line, fault) => report_code(rt, place, line, code_of(fault)),
-        PlanFault::NoUnordered => {
-            let file = place.file;
-            let words = words_of("O6");
-            let _ = eprintln!(rt; "error: {file}: O6: {words}");
-            report_untested(rt, place, NOT_UNDERSTOOD)
-        }
-        PlanFault::Stopped(fault) => {
-            let status = stopped(rt, fault, Some(place.file), None);
-            report_untested(rt, place, status)
-        }
-    }
+    let status = report_fault(rt, Some(file), fault);
+    printed(rt, written, status)
 }
 
 /// Returns whether a line states a rule.
@@ -156,8 +145,8 @@ fn has_rule(plan: &Plan) -> bool
     plan.queries.iter().any(|line| is_rule(line))
 }
 
-/// Searches all orders of the plan in this text, and prints the result. Returns the exit status. A plan without a rule passes only if the
-/// test is lenient.
+/// Searches all orders of the litmus test in this text, and prints the result. Returns the exit status. A test without a rule, or with a
+/// refused line before `unordered`, passes only if the test is lenient.
 pub(crate) fn test_plan<R: AllocGlobal + Print + Eprint>(
     rt: &R,
     place: &Place<'_>,
@@ -165,19 +154,25 @@ pub(crate) fn test_plan<R: AllocGlobal + Print + Eprint>(
     lenient: bool,
     text: &[u8],
 ) -> u8
-    requires { script.now.frames ≤ max_frames }
+    requires { IsFrameCount script.now.frames }
 {
-    let mut reader = text;
-    let plan = match read_plan(rt.alloc(), script.size, &mut reader) {
+    let plan = match read_test(rt.alloc(), script, lenient, text) {
         Ok(plan) => plan,
-        Err(fault) => return report_no_plan(rt, place, fault),
+        Err(fault) => {
+            let written = print_fault(rt, place, &fault);
+            return report_no_test(rt, place.file, &fault, written);
+        }
     };
     if !lenient && !has_rule(&plan) {
         let written = print_empty(rt, place, NO_RULE);
         return printed(rt, written, NOT_UNDERSTOOD);
     }
     match all_orders(rt.alloc(), script.frames, script.size, &plan, MOST) {
-        Ok(explored) => report_searched(rt, place, &plan, &explored),
-        Err(failure) => report_untested(rt, place, not_searched(rt, failure)),
+        Ok(explored) => tell_searched(rt, place, &plan, &explored),
+        Err(failure) => {
+            let status = not_searched(rt, failure);
+            let written = print_untested(rt, place);
+            printed(rt, written, status)
+        }
     }
 }

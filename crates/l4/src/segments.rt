@@ -1,5 +1,7 @@
 //! `l4 history --from`: the history in files of segments.
-ghost use Rattle.std.specs.Prelude.{◌≡◌, Err};
+ghost use Rattle.std.specs.Prelude.{◌≡◌, ◌≤◌, ◌-◌, length, nat_lt, Err};
+ghost use Rattle.std.specs.List.{position};
+ghost use Rattle.l4.specs.Files.{segments_before, file_at};
 ghost use Rattle.l4.specs.Statuses.{history_status};
 
 use crate::reports::{report_file, report_history, report_misfit};
@@ -74,22 +76,45 @@ pub(crate) fn found_in<R: AllocGlobal + Files + Eprint>(
     Ok(Found { segments, ends })
 }
 
-/// Returns the index of the file that the segment at this place is in, and its place in the file.
-fn file_of(ends: &[usize], place: usize) -> (usize, usize) {
-    let mut start = 0;
-    for index in 0..ends.len() {
-        let end = ends[index];
-        if place < end && start <= place {
-            return (index, place - start);
-        }
-        start = end;
+/// Returns the number of segments in the files before the one at this index.
+fn segments_before(ends: &[usize], index: usize) -> usize
+    ensures { result ≡ segments_before ends.now index }
+{
+    if index == 0 {
+        return 0;
     }
-    (ends.len(), 0)
+    match ends.get(index - 1) {
+        Some(end) => *end,
+        None => 0,
+    }
+}
+
+/// Returns the index of the first file that ends behind this place.
+fn end_behind(ends: &[usize], place: usize) -> Option<usize>
+    ensures { result ≡ position (λ end. nat_lt place end) ends.now }
+{
+    ends.iter().position(|end| place < *end)
+}
+
+/// Returns the index of the file that the segment at this place is in.
+fn file_at(ends: &[usize], place: usize) -> usize
+    ensures value { result ≡ file_at ends.now place }
+    ensures within { result ≤ length ends.now }
+{
+    end_behind(ends, place).unwrap_or(ends.len())
+}
+
+/// Returns the place of a segment in the file at this index.
+fn place_in_file(ends: &[usize], place: usize, index: usize) -> usize
+    ensures { result ≡ place - segments_before ends.now index }
+{
+    place.saturating_sub(segments_before(ends, index))
 }
 
 /// Reports the segment that does not fit those before it.
 fn report_place(rt: &impl Eprint, files: &[String], ends: &[usize], misfit: Misfit) {
-    let (index, place) = file_of(ends, misfit.place);
+    let index = file_at(ends, misfit.place);
+    let place = place_in_file(ends, misfit.place, index);
     if index < files.len() {
         report_misfit(rt, files[index].as_str(), place, misfit);
     }

@@ -5,7 +5,7 @@ ghost use Rattle.l4.specs.Tap.{escape_of};
 use std::fmt;
 use std::fmt::{Display, Formatter};
 
-/// Returns what stands for a character in the description of a test, if that is not the character itself.
+/// Returns the escaped form of a character in the description of a test, or None if it needs none.
 fn escape_of(character: char) -> Option<&'static str>
     ensures { option_map (λ s. s.now) result ≡ escape_of character }
 {

@@ -1,5 +1,5 @@
 //! `l4 test`: scripts that state the answers that they expect.
-ghost use Rattle.std.specs.Prelude.{◌≡◌, ◌⊎◌, IfOk, IfSome, MatchResult};
+ghost use Rattle.std.specs.Prelude.{◌≡◌, ◌⊎◌, IfOk, MatchResult};
 ghost use Rattle.l4.specs.Files.{IsWholeFile};
 ghost use Rattle.l4.specs.Statuses.{test_status};
 ghost use Rattle.l4_options.specs.Ranges.{IsFrameCount};
@@ -11,29 +11,26 @@ use crate::tap::Escaped;
 use l4_expectations::{
     Copied, Difference, Failure, Fault, Passed, UnexpectedRefusal, copy_script, test_script,
 };
-use l4_options::{OptionFault, Options, ScriptOptions, options};
+use l4_litmus::{WRONG_OPTIONS, options_line, options_of};
+use l4_options::ScriptOptions;
 use l4_programs::{NOT_UNDERSTOOD, WatchedReader, not_created, not_opened, stopped};
-use l4_text::{Ending, LineReader, RunFault, next_token};
+use l4_text::RunFault;
 use std::alloc::Global;
+use std::fmt::{Display, Formatter};
 use std::fs::File;
-use std::io::{ErrorKind, Read, Write};
+use std::io::{Error, ErrorKind, Read, Write};
 use std::rt::Files;
-use std::{fs, io, str};
-
-/// The words of `l4 run` with both of its options, each with a value.
-const MOST_WORDS: usize = 6;
-
-/// The first token of a first line with options.
-const MARK: &[u8] = b"#!";
-
-/// Why a first line has wrong options.
-const WRONG_OPTIONS: &str = "after '#!', only --frames N and --page-size BYTES are allowed";
+use std::{fmt, fs, io, str};
 
 /// Why a script has no copy that passes.
 const NO_ANSWERS: &str = "no line has answers, so a copy would test nothing";
 
-/// Why a script that expects nothing does not pass.
-const NO_EXPECTATIONS: &str = "the script expects no answers, so it tests nothing";
+/// Why a script that expects no answer does not pass.
+const NO_EXPECTATIONS: &str =
+    "the script expects no answers, apart from '#= ..', so it tests nothing";
+
+/// Whether a write succeeded.
+pub(crate) type Written = io::Result<()>;
 
 /// Where a result is printed: the name of its file, and its number in TAP.
 #[derive(Drop)]
@@ -43,8 +40,28 @@ pub(crate) struct Place<'a> {
     pub(crate) number: usize,
 }
 
+/// The size of a script in a message: `1 line, 0 expectations`.
+#[derive(Clone, Copy)]
+struct Size(Passed);
+
+impl Display for Size {
+    fn fmt<W: fmt::Write>(&self, f: &mut Formatter<W>) -> fmt::Result {
+        let Passed {
+            lines,
+            expectations,
+        } = self.0;
+        let line = if lines == 1 { "line" } else { "lines" };
+        let expectation = if expectations == 1 {
+            "expectation"
+        } else {
+            "expectations"
+        };
+        write!(f, "{lines} {line}, {expectations} {expectation}")
+    }
+}
+
 /// Returns the status, or that of a write that failed.
-pub(crate) fn printed(rt: &impl Eprint, written: io::Result<()>, status: u8) -> u8
+pub(crate) fn printed(rt: &impl Eprint, written: Written, status: u8) -> u8
     ensures exact { MatchResult written (λ _. result ≡ status) (λ _. result ≡ 3) }
     ensures either { (result ≡ status) ⊎ (result ≡ 3) }
 {
@@ -55,20 +72,13 @@ pub(crate) fn printed(rt: &impl Eprint, written: io::Result<()>, status: u8) -> 
 }
 
 /// Prints that a script passed.
-fn print_passed(rt: &impl Print, place: &Place<'_>, passed: Passed) -> io::Result<()> {
-    let Passed {
-        lines,
-        expectations,
-    } = passed;
+fn print_passed(rt: &impl Print, place: &Place<'_>, passed: Passed) -> Written {
     let file = place.file;
     if place.tap {
         let number = place.number;
-        return println!(rt;
-            "ok {number} - {}: {lines} lines, {expectations} expectations",
-            Escaped(file)
-        );
+        return println!(rt; "ok {number} - {}: {}", Escaped(file), Size(passed));
     }
-    println!(rt; "{file}: {lines} lines, {expectations} expectations, passed")
+    println!(rt; "{file}: {}, passed", Size(passed))
 }
 
 /// Returns an answer, or the words for none.
@@ -86,7 +96,7 @@ fn print_other(
     line: u64,
     expected: &str,
     found: &str,
-) -> io::Result<()> {
+) -> Written {
     let file = place.file;
     if place.tap {
         let number = place.number;
@@ -101,18 +111,14 @@ fn print_other(
 }
 
 /// Prints the first difference.
-fn print_difference(rt: &impl Print, place: &Place<'_>, differs: &Difference) -> io::Result<()> {
+fn print_difference(rt: &impl Print, place: &Place<'_>, differs: &Difference) -> Written {
     let expected = named(differs.expected.as_slice());
     let found = named(differs.found.as_slice());
     print_other(rt, place, differs.line, expected, found)
 }
 
 /// Prints the first refusal that is not expected.
-fn print_refusal(
-    rt: &impl Print,
-    place: &Place<'_>,
-    refused: &UnexpectedRefusal,
-) -> io::Result<()> {
+fn print_refusal(rt: &impl Print, place: &Place<'_>, refused: &UnexpectedRefusal) -> Written {
     let found = named(refused.answer.as_slice());
     print_other(rt, place, refused.line, "no refusal", found)
 }
@@ -135,7 +141,7 @@ pub(crate) fn print_malformed<R: Print + Eprint>(
     place: &Place<'_>,
     line: u64,
     reason: &str,
-) -> io::Result<()> {
+) -> Written {
     let file = place.file;
     let _ = eprintln!(rt; "error: {file}: line {line}: {reason}");
     if !place.tap {
@@ -148,23 +154,28 @@ pub(crate) fn print_malformed<R: Print + Eprint>(
     )
 }
 
-/// Prints on standard error why a file tests nothing, and the result in TAP.
-pub(crate) fn print_empty<R: Print + Eprint>(
-    rt: &R,
-    place: &Place<'_>,
-    reason: &str,
-) -> io::Result<()> {
-    let file = place.file;
-    let _ = eprintln!(rt; "error: {file}: {reason}");
+/// Prints in TAP why a file does not pass.
+pub(crate) fn print_reason(rt: &impl Print, place: &Place<'_>, reason: &str) -> Written {
     if !place.tap {
         return Ok(());
     }
     let number = place.number;
-    println!(rt; "not ok {number} - {}: {reason}", Escaped(file))
+    println!(rt;
+        "not ok {number} - {}: {}",
+        Escaped(place.file),
+        Escaped(reason)
+    )
+}
+
+/// Prints on standard error why a file tests nothing, and the result in TAP.
+pub(crate) fn print_empty<R: Print + Eprint>(rt: &R, place: &Place<'_>, reason: &str) -> Written {
+    let file = place.file;
+    let _ = eprintln!(rt; "error: {file}: {reason}");
+    print_reason(rt, place, reason)
 }
 
 /// Prints in TAP that a file was not tested to its end, after the reason was reported.
-fn print_untested(rt: &impl Print, place: &Place<'_>) -> io::Result<()> {
+pub(crate) fn print_untested(rt: &impl Print, place: &Place<'_>) -> Written {
     if !place.tap {
         return Ok(());
     }
@@ -173,79 +184,6 @@ fn print_untested(rt: &impl Print, place: &Place<'_>) -> io::Result<()> {
         "not ok {number} - {}: the script was not tested to its end",
         Escaped(place.file)
     )
-}
-
-/// The same. Returns the status, or that of a write that failed.
-pub(crate) fn report_untested<R: Print + Eprint>(rt: &R, place: &Place<'_>, status: u8) -> u8
-    ensures { (result ≡ status) ⊎ (result ≡ 3) }
-{
-    let written = print_untested(rt, place);
-    printed(rt, written, status)
-}
-
-/// Returns the options that `l4 run` reads from these words. None if they are not understood, name a file, or have other options.
-fn options_in(alloc: Global, words: &[&str]) -> Result<Option<ScriptOptions>, RunFault>
-    ensures { IfOk result (λ o. IfSome o (λ script. IsFrameCount script.frames)) }
-{
-    match options(alloc, words) {
-        Ok(
-            Options::Run {
-                script,
-                strict: false,
-                explain: false,
-                number: false,
-                moves: false,
-                history_to: None,
-            },
-        ) => {
-            if script.file.is_some() {
-                return Ok(None);
-            }
-            Ok(Some(script))
-        }
-        Err(OptionFault::Memory) => Err(RunFault::Memory),
-        _ => Ok(None),
-    }
-}
-
-/// Returns the options in the words behind `#!`. None if they are wrong.
-fn options_behind(alloc: Global, line: &[u8]) -> Result<Option<ScriptOptions>, RunFault>
-    ensures { IfOk result (λ o. IfSome o (λ script. IsFrameCount script.frames)) }
-{
-    let mut words = ["l4", "run", "", "", "", ""];
-    let mut rest = line;
-    for count in 2..MOST_WORDS {
-        let Some((token, after)) = next_token(rest) else {
-            return options_in(alloc, &words[..count]);
-        };
-        let Ok(word) = str::from_utf8(token) else {
-            return Ok(None);
-        };
-        words[count] = word;
-        rest = after;
-    }
-    if next_token(rest).is_some() {
-        return Ok(None);
-    }
-    options_in(alloc, &words)
-}
-
-/// Returns the options of a script that begins with these bytes. None if those in its first line are wrong.
-fn options_of(alloc: Global, front: &[u8]) -> Result<Option<ScriptOptions>, RunFault>
-    ensures { IfOk result (λ o. IfSome o (λ script. IsFrameCount script.frames)) }
-{
-    let mut reader = front;
-    let mut lines = LineReader::new();
-    let Ok(Some(Ending::Whole)) = lines.next(&mut reader) else {
-        return options_behind(alloc, b"");
-    };
-    if !lines.line().starts_with(MARK) {
-        return options_behind(alloc, b"");
-    }
-    match next_token(lines.line()) {
-        Some((MARK, rest)) => options_behind(alloc, rest),
-        _ => Ok(None),
-    }
 }
 
 /// Reads all bytes of a file.
@@ -268,7 +206,7 @@ fn print_result<R: Print + Eprint>(
     rt: &R,
     place: &Place<'_>,
     tested: &Result<Passed, Failure>,
-) -> io::Result<()> {
+) -> Written {
     match tested {
         Ok(passed) => print_passed(rt, place, *passed),
         Err(Failure::Differs(difference)) => print_difference(rt, place, difference),
@@ -284,7 +222,7 @@ fn tested_status(
     rt: &impl Eprint,
     file: &str,
     tested: Result<Passed, Failure>,
-    error: Option<io::Error>,
+    error: Option<Error>,
 ) -> u8
     ensures { result ≡ test_status tested }
 {
@@ -303,8 +241,8 @@ fn report(
     rt: &impl Eprint,
     file: &str,
     tested: Result<Passed, Failure>,
-    error: Option<io::Error>,
-    written: io::Result<()>,
+    error: Option<Error>,
+    written: Written,
 ) -> u8
     ensures { MatchResult written (λ _. result ≡ test_status tested) (λ _. result ≡ 3) }
 {
@@ -317,7 +255,7 @@ fn tell<R: Print + Eprint>(
     rt: &R,
     place: &Place<'_>,
     tested: Result<Passed, Failure>,
-    error: Option<io::Error>,
+    error: Option<Error>,
 ) -> u8 {
     let written = print_result(rt, place, &tested);
     report(rt, place.file, tested, error, written)
@@ -338,7 +276,8 @@ fn begun<Q: Read, R: AllocGlobal + Print + Eprint>(
     match options_of(rt.alloc(), bytes.as_slice()) {
         Ok(Some(script)) => Ok((bytes, script)),
         Ok(None) => {
-            let written = print_malformed(rt, place, 1, WRONG_OPTIONS);
+            let line = options_line(bytes.as_slice());
+            let written = print_malformed(rt, place, line, WRONG_OPTIONS);
             Err(printed(rt, written, NOT_UNDERSTOOD))
         }
         Err(fault) => Err(tell(rt, place, Err(Failure::Stopped(fault)), None)),
@@ -372,7 +311,11 @@ fn test_file<R: AllocGlobal + Files + Print + Eprint>(
 ) -> u8 {
     match fs::open(rt, place.file) {
         Ok(file) => test_reader(rt, place, lenient, &mut WatchedReader::new(file)),
-        Err(error) => report_untested(rt, place, not_opened(rt, place.file, error)),
+        Err(error) => {
+            let status = not_opened(rt, place.file, error);
+            let written = print_untested(rt, place);
+            printed(rt, written, status)
+        }
     }
 }
 
@@ -413,7 +356,7 @@ fn copy_name(alloc: Global, file: &str) -> Option<String> {
 }
 
 /// Creates a file with these bytes. If the file exists, returns an error and leaves it unchanged. If a write fails, removes the new file.
-fn create<R: Files>(rt: &R, name: &str, bytes: &[u8]) -> io::Result<()> {
+fn create<R: Files>(rt: &R, name: &str, bytes: &[u8]) -> Written {
     let mut file = match File::create_new(rt, name) {
         Ok(file) => file,
         Err(error) => return Err(error),
@@ -428,17 +371,8 @@ fn create<R: Files>(rt: &R, name: &str, bytes: &[u8]) -> io::Result<()> {
 }
 
 /// Prints that a copy was written.
-fn report_copied<R: Print + Eprint>(rt: &R, file: &str, name: &str, size: Passed) -> u8
-    ensures { (result ≡ 0) ⊎ (result ≡ 3) }
-{
-    let Passed {
-        lines,
-        expectations,
-    } = size;
-    let written = println!(rt;
-        "{file}: {lines} lines, {expectations} expectations, written to {name}"
-    );
-    printed(rt, written, 0)
+fn print_copied(rt: &impl Print, file: &str, name: &str, size: Passed) -> Written {
+    println!(rt; "{file}: {}, written to {name}", Size(size))
 }
 
 /// Writes the copy of a script to a file, and prints its size. Returns the exit status.
@@ -449,7 +383,10 @@ fn write_copy<R: AllocGlobal + Files + Print + Eprint>(rt: &R, file: &str, copy:
         return stopped(rt, RunFault::Memory, None, None);
     };
     match create(rt, name.as_str(), copy.text.as_slice()) {
-        Ok(()) => report_copied(rt, file, name.as_str(), copy.size),
+        Ok(()) => {
+            let written = print_copied(rt, file, name.as_str(), copy.size);
+            printed(rt, written, 0)
+        }
         Err(error) => not_created(rt, name.as_str(), error),
     }
 }

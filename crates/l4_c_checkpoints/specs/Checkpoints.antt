@@ -4,7 +4,7 @@ use Rattle.l4_fpage.specs.Pages.{max_frames}
 use Rattle.l4_ipc.specs.Machine.{Machine}
 use Rattle.l4_record.specs.Sizes.{max_handed_out}
 use Rattle.l4_refusals.specs.Texts.{spelled}
-use Rattle.l4_checkpoints.specs.Checkpoints.{IsCheckpoint, IsNoCheckpoint}
+use Rattle.l4_checkpoints.specs.Checkpoints.{IsCheckpoint, IsNoCheckpoint, HasForm}
 use Rattle.l4_checkpoints.specs.declared.faults.CheckpointFault.{CheckpointFault}
 use Rattle.l4_checkpoints.specs.declared.faults.CheckpointFaultKind.{CheckpointFaultKind}
 use Rattle.l4_checkpoints.specs.declared.faults.CheckpointFaultKind.TheVariants.{NoMemory, Magic, Version, Frames, Pages, Numbers, Cut, Checksum, Extra, Machine as IsOfWords}
@@ -37,7 +37,7 @@ WritesCheckpoint (Some m) frames entries old r new = Writes frames entries m old
 abbrev pub refusal_result : ℕ → CheckpointResult
 refusal_result code = record { refusal = code; fault = 0; position = 0; entries = 0; frames = 0; reserved = 0 }
 
--- bytes that are not a checkpoint (B6): what is wrong with them, and where
+-- bytes that are not read as a checkpoint (B6): what is wrong with them, and where
 abbrev pub no_checkpoint : ℕ → ℕ → CheckpointResult
 no_checkpoint fault position = record { refusal = spelled (codes "B6"); fault = fault; position = position; entries = 0; frames = 0; reserved = 0 }
 
@@ -57,9 +57,10 @@ fault_result IsOfWords position = no_checkpoint 9 position
 abbrev pub checkpoint_result : ℕ → ℕ → CheckpointResult
 checkpoint_result frames entries = record { refusal = 0; fault = 0; position = 0; entries = entries; frames = frames; reserved = 0 }
 
--- memory ran out, no machine could be built from the words, or the bytes are no checkpoint
+-- Memory ran out, no machine was built from the words, or the bytes are no checkpoint. If no machine was built, the heading, the length and the
+-- checksum are right.
 abbrev pub IsFault : List ℕ → CheckpointFault → Type 0
-IsFault bytes f = (f.kind ≡ NoMemory) ⊎ (f.kind ≡ IsOfWords) ⊎ IsNoCheckpoint bytes
+IsFault bytes f = ((f.kind ≡ NoMemory) ⊎ (f.kind ≡ IsOfWords) ⊎ IsNoCheckpoint bytes) × (f.kind ≡ IsOfWords → HasForm bytes)
 
 -- An empty handle then holds the machine of which the bytes are a checkpoint, with the two numbers beside it; or the bytes have a fault, or
 -- memory ran out. A handle that is not empty is refused (B2) and unchanged.

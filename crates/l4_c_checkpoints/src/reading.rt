@@ -6,7 +6,7 @@ use l4_c_values::{HELD, KernelHandle, NO_MEMORY};
 use l4_checkpoints::{Checkpoint, CheckpointFaultKind, read_checkpoint};
 use std::alloc::Global;
 
-/// B6: the bytes are not a checkpoint.
+/// B6: the bytes are not read as a checkpoint.
 const NO_CHECKPOINT: u32 = 0x4236;
 
 /// What a checkpoint says beside the kernel, or what is wrong with the bytes, and where.

@@ -1,4 +1,4 @@
-//! Laws of what comes next.
+//! Laws: at most one step or act can come next.
 ghost use Rattle.std.specs.Prelude.{◌≡◌, ℕ, List};
 ghost use Rattle.l4_threads.specs.Threads.{Threads, IsConsistent};
 ghost use Rattle.l4_ipc.specs.declared.calls.Call.{Call as ACall};

@@ -1,5 +1,5 @@
 -- Lines that agree with what is expected of them, and one line more.
-use Rattle.std.proofs.Common.{◌≡◌, ℕ, ◌+◌, ◌==◌, ◌⊎◌, inl, inr, Bool, true, false, cond, ◌||◌, ◌&&◌, List, [], ◌∷◌, ◌++◌, length, length-append, drop, Option, Some, None, Result, Ok, refl, sym, ap, subst, ◌∙◌, arith}
+use Rattle.std.proofs.Common.{◌≡◌, ℕ, ◌+◌, ◌≤◌, ◌==◌, ◌⊎◌, inl, inr, Bool, true, false, cond, ◌||◌, ◌&&◌, List, [], ◌∷◌, ◌++◌, length, length-append, drop, Option, Some, None, Result, Ok, refl, sym, ap, subst, ◌∙◌, arith}
 use Rattle.std.specs.Prelude.{is_some}
 use Rattle.std.specs.List.{All}
 use Rattle.std.proofs.lemmas.Bool.{false≢true}
@@ -23,7 +23,7 @@ use Rattle.l4_text.specs.declared.lines.Ending.TheVariants.{Whole}
 use Rattle.l4_expectations.specs.declared.due.Due.{Due}
 use Rattle.l4_expectations.specs.declared.due.Stage.{Stage}
 use Rattle.l4_expectations.specs.declared.due.Stage.TheVariants.{Untouched, Begun, Rest}
-use Rattle.l4_expectations.specs.Expectations.{is_marked, answer_in, expected_in, rest, is_rest, one, expected_by, expected_below, lines_text, NeedNone, Agrees, IsAsExpected, AreAsExpected}
+use Rattle.l4_expectations.specs.Expectations.{is_marked, answer_in, expected_in, rest, is_rest, one, compared_by, expected_by, expected_below, lines_text, NeedNone, Agrees, IsAsExpected, AreAsExpected}
 use Rattle.l4_expectations.specs.Tests.{HasCompared, Compares, AgreesSoFar, is_ended, allows_more, IsClosedBy, IsClosed}
 use Rattle.l4_expectations.specs.Inside.Lines.{Takes}
 use Rattle.l4_answers.specs.Lines.{later_lines, is_next}
@@ -270,19 +270,28 @@ expected_one lenient first lines before after last line answer c whole silent ma
 
 -- HOW MANY EXPECTATIONS
 
-pub counted_one : (lines : List TextLine) (line : TextLine) (answer : List ℕ) → expected_in line.bytes ≡ Some answer → length (expected_by lines) + 1 ≡ length (expected_by (lines ++ line ∷ []))
+-- an expectation compares one answer, or none
+one_or_none : (b : Bool) (answer : List ℕ) → length (cond b [] (answer ∷ [])) ≤ 1
+one_or_none true answer = omega arith
+one_or_none false answer = omega arith
+
+pub at_most_one : (answer : List ℕ) → length (compared_by (Some answer)) ≤ 1
+at_most_one answer = one_or_none (is_rest answer) answer
+
+pub counted_one : (lines : List TextLine) (line : TextLine) (answer : List ℕ) → expected_in line.bytes ≡ Some answer
+    → length (expected_by lines) + length (compared_by (Some answer)) ≡ length (expected_by (lines ++ line ∷ []))
 counted_one lines line answer is =
-    let by = λ (l : TextLine). one (expected_in l.bytes) in
-    let more : length (expected_by (lines ++ line ∷ [])) ≡ length (expected_by lines ++ (one (expected_in line.bytes) ++ [])) = ap length (flat_map-append by lines (line ∷ [])) in
-    let last : length (one (expected_in line.bytes) ++ []) ≡ 1 = ap (λ o. length (one o ++ [])) is in
-    omega (arith, more, last, length-append (expected_by lines) (one (expected_in line.bytes) ++ []))
+    let by = λ (l : TextLine). compared_by (expected_in l.bytes) in
+    let more : length (expected_by (lines ++ line ∷ [])) ≡ length (expected_by lines ++ (compared_by (expected_in line.bytes) ++ [])) = ap length (flat_map-append by lines (line ∷ [])) in
+    let last : length (compared_by (expected_in line.bytes) ++ []) ≡ length (compared_by (Some answer)) = ap (λ o. length (compared_by o ++ [])) is ∙ ap length (append-nil (compared_by (Some answer))) in
+    omega (arith, more, last, length-append (expected_by lines) (compared_by (expected_in line.bytes) ++ []))
 
 pub counted_none : (lines : List TextLine) (line : TextLine) → is_marked line.bytes ≡ false → length (expected_by lines) ≡ length (expected_by (lines ++ line ∷ []))
 counted_none lines line unmarked =
-    let by = λ (l : TextLine). one (expected_in l.bytes) in
-    let more : length (expected_by (lines ++ line ∷ [])) ≡ length (expected_by lines ++ (one (expected_in line.bytes) ++ [])) = ap length (flat_map-append by lines (line ∷ [])) in
-    let last : length (one (expected_in line.bytes) ++ []) ≡ 0 = ap (λ o. length (one o ++ [])) (unmarked_none line.bytes unmarked) in
-    omega (arith, more, last, length-append (expected_by lines) (one (expected_in line.bytes) ++ []))
+    let by = λ (l : TextLine). compared_by (expected_in l.bytes) in
+    let more : length (expected_by (lines ++ line ∷ [])) ≡ length (expected_by lines ++ (compared_by (expected_in line.bytes) ++ [])) = ap length (flat_map-append by lines (line ∷ [])) in
+    let last : length (compared_by (expected_in line.bytes) ++ []) ≡ 0 = ap (λ o. length (compared_by o ++ [])) (unmarked_none line.bytes unmarked) in
+    omega (arith, more, last, length-append (expected_by lines) (compared_by (expected_in line.bytes) ++ []))
 
 pub asked_unmarked : (line : TextLine) → is_silent line.bytes ≡ false → is_marked line.bytes ≡ false
 asked_unmarked line h = not_marked line.bytes h

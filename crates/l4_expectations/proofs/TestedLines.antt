@@ -23,10 +23,10 @@ use Rattle.l4_expectations.specs.declared.outcomes.Failure.{Failure}
 use Rattle.l4_expectations.specs.declared.outcomes.Failure.TheVariants.{Differs, Refused, NoExpectations, Malformed, Stopped}
 use Rattle.l4_expectations.specs.declared.outcomes.Passed.{Passed}
 use Rattle.l4_expectations.specs.declared.testing.Tested.{Tested}
-use Rattle.l4_expectations.specs.Expectations.{is_marked, expected_in, expected_by, expected_below, AreAsExpected}
+use Rattle.l4_expectations.specs.Expectations.{is_marked, expected_in, compared_by, expected_by, expected_below, AreAsExpected}
 use Rattle.l4_expectations.specs.Tests.{Compares, AgreesSoFar, IsClosed, is_test, EndsInput, FailsAt, FailsNext, AllAgree, AgreesFirst, Tests}
 use Rattle.l4_expectations.specs.Inside.Lines.{Fails, Compared, Goes, GoesBy, TestsLine, EndsWhole, EndFails, TestsEnd, IsFirst, AgreesSome, AllAsExpected, TestsLines}
-use Rattle.l4_expectations.proofs.Agreeing.{lines_closed, none_above, answered_more, silent_more, expected_one, counted_one, counted_none, asked_unmarked}
+use Rattle.l4_expectations.proofs.Agreeing.{lines_closed, none_above, answered_more, silent_more, expected_one, at_most_one, counted_one, counted_none, asked_unmarked}
 use Rattle.l4_answers.proofs.Taking.{Taken, taken_none, taken_more, taken_with, rest_is, line_of_more, ending_whole, ending_long, something_kept, nothing_kept}
 
 abbrev IsWhole : TextLine → Type 0
@@ -94,8 +94,8 @@ compared_more lenient first lines line answer old new last next agrees counted w
     subst (λ (m : State). OneMore lenient first lines line old new m) (sym still) (record {
       agrees = subst (λ (d : Option Due). AgreesSoFar lenient first (lines ++ line ∷ []) d last) (sym c.is)
           (expected_one lenient first lines c.before c.after last line answer before whole_line silent marked is c.not_ended c.takes);
-      counted = c.one_more ∙ ap (λ n. n + 1) counted ∙ counted_one lines line answer is;
-      few = omega (arith, c.one_more);
+      counted = c.counted ∙ ap (λ n. n + length (compared_by (Some answer))) counted ∙ counted_one lines line answer is;
+      few = omega (arith, c.counted, at_most_one answer);
       same_lenient = c.lenient;
     })
 
@@ -190,7 +190,7 @@ all_with lenient first old mid new now after kept number last tested a g closed 
       ap (λ ls. length (expected_by ls)) all ∙ sym a.counted,
     )
 
--- a script that is no test expects nothing, and the test is not lenient
+-- a script that is no test compares no answer, and the test is not lenient
 not_false : (a : Bool) → not a ≡ false → a ≡ true
 not_false true h = refl
 not_false false h = absurd (false≢true (sym h))

@@ -36,9 +36,14 @@ abbrev pub one : Option (List ℕ) → List (List ℕ)
 one None = []
 one (Some answer) = answer ∷ []
 
--- all answers that lines expect
+-- the answers that an expectation compares with those of the line: `..` compares none
+abbrev pub compared_by : Option (List ℕ) → List (List ℕ)
+compared_by None = []
+compared_by (Some answer) = if is_rest answer then [] else answer ∷ []
+
+-- all answers that lines expect and compare
 abbrev pub expected_by : List TextLine → List (List ℕ)
-expected_by lines = flat_map (λ line. one (expected_in line.bytes)) lines
+expected_by lines = flat_map (λ line. compared_by (expected_in line.bytes)) lines
 
 -- THE ANSWERS EXPECTED OF A LINE: those in the lines below it, up to the next line that is neither empty nor a comment
 abbrev pub expected_below : List TextLine → List (List ℕ)

@@ -162,7 +162,7 @@ pub record AllAgree (lenient : Bool) (frames : ℕ) (size : PageSize) (old new :
   pub expected : AreAsExpected lenient (first_state frames boot) 1 (lines_of read) last
   pub top : expected_below (lines_of read) ≡ []
 
--- the script expects something, or the test is lenient
+-- the script expects answers, apart from `..`, or the test is lenient
 abbrev pub is_test : Bool → ℕ → Bool
 is_test lenient expectations = lenient || not (expectations == 0)
 
@@ -173,7 +173,7 @@ pub record Passes (lenient : Bool) (frames : ℕ) (size : PageSize) (old new : O
   pub expectations : passed.expectations ≡ length (expected_by (lines_of all.read))
   pub some : is_test lenient passed.expectations ≡ true
 
--- it would pass, but expects nothing
+-- it would pass, but expects no answer, apart from `..`
 pub record ExpectsNothing (lenient : Bool) (frames : ℕ) (size : PageSize) (old new : Option (List ℕ)) : Type 0 where
   pub all : AllAgree lenient frames size old new
   pub strict : lenient ≡ false

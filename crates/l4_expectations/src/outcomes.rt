@@ -6,7 +6,7 @@ use l4_text::RunFault;
 pub struct Passed {
     /// The number of its lines: empty ones and comments too.
     pub lines: u64,
-    /// The number of its lines that expect an answer, or `..`.
+    /// The number of its lines that expect an answer. `..` is not counted.
     pub expectations: u64,
 }
 
@@ -52,7 +52,7 @@ pub enum Failure {
     Differs(Difference),
     /// A line, or a call of a served thread, is refused, and no expectation says so. A lenient test allows this.
     Refused(UnexpectedRefusal),
-    /// The script expects no answers. A lenient test allows this.
+    /// The script expects no answers, apart from `..`. A lenient test allows this.
     NoExpectations,
     /// The line of this number cannot be part of a test.
     Malformed(u64, Fault),

@@ -1,13 +1,13 @@
 //! Tests of scripts.
-ghost use Rattle.std.specs.Prelude.{◌≡◌, ◌≤◌, ◌<◌, ◌+◌, ◌^◌, ℕ, List, [], Option, None, Some, IfSome, MatchOption, true, false, if◌then◌else◌};
+ghost use Rattle.std.specs.Prelude.{◌≡◌, ◌≤◌, ◌<◌, ◌+◌, ◌^◌, ℕ, List, [], length, Option, None, Some, IfSome, MatchOption, true, false, if◌then◌else◌};
 ghost use Rattle.std.specs.Option.{option_copied};
 ghost use Rattle.l4_fpage.specs.Pages.{max_frames};
 ghost use Rattle.l4_shell.specs.ByLines.{state_of};
-ghost use Rattle.l4_expectations.specs.Expectations.{HasAnswers};
+ghost use Rattle.l4_expectations.specs.Expectations.{compared_by, HasAnswers};
 ghost use Rattle.l4_expectations.specs.Tests.{is_ended, is_test, allows_more, Tests};
 ghost use Rattle.l4_expectations.specs.Inside.Lines.{Reports, ReportsRefusal, EndsWhole, Closes, ComparesAnswer, AnswersNext, TestsLine, TestsEnd, TestsLines, IsFirst};
 
-use crate::due::{Due, Stage};
+use crate::due::{Due, Stage, is_rest};
 use crate::marks::{expected_in, is_marked, is_silent};
 use crate::outcomes::{Difference, Failure, Fault, Passed, UnexpectedRefusal};
 use crate::refusals::find_refusal;
@@ -23,7 +23,7 @@ use std::io::Read;
 #[derive(Drop)]
 pub(crate) struct Tested {
     alloc: Global,
-    /// Whether refusals need no expectation, and the script need not expect anything.
+    /// Whether refusals need no expectation, and the script need not expect any answer.
     lenient: bool,
     due: Option<Due>,
     expectations: u64,
@@ -123,6 +123,14 @@ pub fn answered(alloc: Global, run: &mut ScriptRun, number: u64, line: &[u8]) ->
     }
 }
 
+/// Returns how many answers this expectation compares: one, or none if it is `..`.
+fn compared_by(answer: &[u8]) -> u64
+    ensures value { result ≡ length (compared_by (Some answer.now)) }
+    ensures few { result ≤ 1 }
+{
+    if is_rest(answer) { 0 } else { 1 }
+}
+
 /// Compares the answer that a line expects with the next one.
 fn compare(tested: &mut Tested, number: u64, answer: &[u8]) -> Result<(), Failure>
     requires { tested.old.expectations + 1 < 2 ^ 64 }
@@ -138,7 +146,7 @@ fn compare(tested: &mut Tested, number: u64, answer: &[u8]) -> Result<(), Failur
         return Err(differing(tested.alloc, number, answer, due.left.first()));
     }
     tested.due = Some(due);
-    tested.expectations += 1;
+    tested.expectations += compared_by(answer);
     Ok(())
 }
 
@@ -257,11 +265,12 @@ fn test_lines<R: Read>(
 /// An expectation is a line of `#= ` and an answer. It belongs to the nearest line above it that is neither empty nor a comment. The
 /// expectations of a line are all of its answers, in order. If the last one is `..`, further answers may follow. A line without
 /// expectations may have any answers. A refusal is an answer that has to be expected: neither `..` nor a line without expectations allows
-/// one, and a script that expects nothing does not pass. A lenient test allows both.
+/// one, and a script that expects no answer, or `..` alone, does not pass. A lenient test allows both.
 ///
-/// Returns the number of lines and of expectations if all agree. Returns these failures, whichever comes first: `Differs` with the first
-/// difference; `Refused` with the first refusal that is not expected; `Malformed` with the first line that cannot be part of a test;
-/// `NoExpectations` at the end; `Stopped` if a read failed or there was not enough memory, which is possible at the start and at any line.
+/// Returns the number of lines and of expected answers, without `..`, if all agree. Returns these failures, whichever comes first: `Differs`
+/// with the first difference; `Refused` with the first refusal that is not expected; `Malformed` with the first line that cannot be part of
+/// a test; `NoExpectations` at the end; `Stopped` if a read failed or there was not enough memory, which is possible at the start and at any
+/// line.
 pub fn test_script<R: Read>(
     alloc: Global,
     frames: u32,

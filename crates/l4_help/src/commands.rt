@@ -105,7 +105,7 @@ With --against, the steps and queries must be those of LIST: the same lines in
 the same order, byte for byte. Comments and answers in LIST are ignored.
 
   agrees: N steps, A answers
-                             all answers are those of this kernel
+                             all answers are those of this kernel, or '# ?'
   line L: STEP: expected ANSWER, found ANSWER
                              line L is the first answer that differs: this
                              kernel's answer, and the one in the list. 'no
@@ -120,7 +120,16 @@ the same order, byte for byte. Comments and answers in LIST are ignored.
 
 With --all, every difference is printed. After each, the steps continue from the
 state of this kernel, and the next step or query is compared with the next one
-of LIST. FILE is always read to its end.
+of LIST. Without it, the rest of FILE is read after a difference, but not judged.
+
+With --follow, the last line 'start' of each thread that STEP names is printed
+below a wrong ANSWER. A 'start' names its thread, and the one that it sends to.
+
+    line L: start CALL
+
+FILE can be the output of a kernel that runs, such as a serial line. A read takes
+at most 4096 bytes. All whole lines in them are judged, and their differences are
+written, before the next read begins: the comparison is never further behind.
 
 Exit status: 0 if the list agrees, 1 if it differs, 2 if the command line or a
 list is invalid or a file cannot be opened, 3 if a read or a write failed, 4 if
@@ -205,29 +214,30 @@ ignores the '#!' line too: give it these options on its command line.
                              line are all of its answers, in order
   #= ..                      allows any further answers to that line
   #! --frames N --page-size BYTES
-                             as the first line, sets options of 'l4 run'
+                             as the first line, sets options of 'l4 run'; as the
+                             second line, if the first one begins with '#!/'
 
 A line without expectations may have any answers but a refusal. The refusal of a
 line, or of a call of a served thread, has to be expected by its text: '#= ..' does
-not allow it. A script without an expectation tests nothing, and does not pass. With
---lenient, both pass. Prints one line per file:
+not allow it. A script without expectations, or with '#= ..' alone, tests nothing,
+and does not pass. With --lenient, both pass. Prints one line per file:
 
   FILE: N lines, M expectations, passed
   FILE: line L: expected ANSWER, found ANSWER
 
-The second form is the first difference. 'no further answer' stands for an answer
-that is not there. If there are more answers than expected, or a refusal is not
-expected ('no refusal'), L is the line that they answer. Expectations are answers
-without the additions of --explain, --number and --moves.
+M does not count '#= ..'. The second form is the first difference. 'no further answer'
+stands for an answer that is not there. If there are more answers than expected, or a
+refusal is not expected ('no refusal'), L is the line that they answer. Expectations
+are answers without the additions of --explain, --number and --moves.
 
-In TAP, '\\#' stands for '#' in names and answers, '\\\\' for a backslash and '\\n' for a
-newline, so that no part of them is a directive.
+In TAP, '\\#' stands for '#' in names, answers and reasons, '\\\\' for a backslash and
+'\\n' for a newline, so that no part of them is a directive.
 
 A file with an 'unordered' line, or whose name ends in .litmus or .plan, is a litmus
 test (see l4 orders). At most 1,000,000 states are visited. It passes if it has a
-rule, every order was followed and no rule is broken. Without a rule, it passes only
-with --lenient. Prints its summary, and below it the rules that are broken, as
-'l4 orders' does:
+rule, every order was followed and no rule is broken. Without a rule, or with a
+refused line before 'unordered', it passes only with --lenient. Prints its summary,
+and below it the rules that are broken, as 'l4 orders' does:
 
   FILE: N outcomes, M orders, S states, passed
   FILE: N outcomes, M orders, S states, failed
@@ -287,6 +297,11 @@ If not every order was followed, no state is printed. The exit status is as with
 --dot.
 
   l4 orders --dot FILE | dot -Tsvg > states.svg
+
+The first line can be '#!' and the options --frames and --page-size. An option of the
+command line takes precedence. A line before 'unordered' that is refused ends the
+command with status 2, unless --lenient is given. --witness K exits with 0 even if a
+rule is broken.
 
 A line that cannot be part of a litmus test has one of these codes, or S2, S3 or S4
 (see l4 --help):

@@ -85,8 +85,8 @@ waits_at xs l view i x z n once lt read has again is =
 
 -- A CHANGE AT A PLACE
 
-settled_reply : (old new : Book) (before after : SeatState) (own : Call → Call) (reply : Reply) → Settles old new before after own reply → (has_reply old ≡ true) × (has_reply new ≡ false)
-settled_reply old new before after own reply s = (
+settled_reply : (old new : Book) (before after : SeatState) (reply : Reply) → Settles old new before after reply → (has_reply old ≡ true) × (has_reply new ≡ false)
+settled_reply old new before after reply s = (
   ap (λ (o : Option Pending). option_map_or has_ended o false) s.pending_is ∙ ap (λ (e : Option Ended). option_map_or (λ _. true) e false) s.ended_is,
   ap has_reply s.book_is,
 )
@@ -147,11 +147,11 @@ module _ (xs : List Book) (l : BookList) (view : book_list xs ≡ l) (i : ℕ) (
   cancelled_count y n is none cancels = same_count y n is (ap has_reply cancels ∙ sym (none x there))
 
   -- a call that has ended is taken, or none is
-  pub settled_some : (y : Book) (n : ℕ) (before after : SeatState) (own : Call → Call) (reply : Reply) → n ≡ replies_in xs → Settles x y before after own reply → n ≡ replies_in (slice_set xs i y) + 1
-  settled_some y n before after own reply is s = let ends = settled_reply x y before after own reply s in one_less y n is ends.0 ends.1
+  pub settled_some : (y : Book) (n : ℕ) (before after : SeatState) (reply : Reply) → n ≡ replies_in xs → Settles x y before after reply → n ≡ replies_in (slice_set xs i y) + 1
+  settled_some y n before after reply is s = let ends = settled_reply x y before after reply s in one_less y n is ends.0 ends.1
 
-  pub settled_told : (y : Book) (before after : SeatState) (own : Call → Call) (reply : Reply) → Settles x y before after own reply → SettlesAt l.items (slice_set xs i y) i before after own reply
-  settled_told y before after own reply s =
+  pub settled_told : (y : Book) (before after : SeatState) (reply : Reply) → Settles x y before after reply → SettlesAt l.items (slice_set xs i y) i before after reply
+  settled_told y before after reply s =
       record { former = x; at = there; settled = y; changed = ap (λ (k : BookList). slice_set k.items i y) view; settles = s }
 
   pub unsettled_told : (y : Book) (before after : SeatState) → (y ≡ x) × (after ≡ before) × (has_reply x ≡ false) → IsUnsettled l.items (slice_set xs i y) i before after

@@ -14,6 +14,7 @@ use Rattle.l4_ipc.specs.Machine.{Machine}
 use Rattle.l4_ipc.specs.Steps.{Steps}
 use Rattle.l4_record.specs.declared.entries.Entry.{Entry}
 use Rattle.l4_lock.specs.declared.entries.Receipt.{Receipt}
+use Rattle.l4_lock.specs.declared.entries.Awaited.{Awaited}
 use Rattle.l4_lock.specs.declared.entries.Ended.{Ended}
 use Rattle.l4_lock.specs.declared.entries.Pending.{Pending}
 use Rattle.l4_lock.specs.declared.refusals.LockRefusal.{LockRefusal}
@@ -21,18 +22,18 @@ use Rattle.l4_lock.specs.declared.refusals.LockRefusal.TheVariants.{NoMemory, Ke
 use Rattle.l4_lock.specs.Receipts.{Proves}
 use Rattle.l4_record.specs.Recording.{Recording, IsKept as IsRecorded}
 use Rattle.l4_record.specs.Segments.{kept_count}
-use Rattle.l4_lock.specs.Books.{SeatState, seat_state, Book, book_at, reply_waits, has_ended, plain, receipts_at, numbers, IsOnce, receipt_of, HasNotEnded, IsPending, IsRight, AreRight, starts_of}
+use Rattle.l4_lock.specs.Books.{SeatState, seat_state, Book, book_at, pending_at, reply_waits, has_ended, plain, receipts_at, numbers, IsOnce, receipt_of, HasNotEnded, IsPending, IsRight, AreRight, starts_of}
 use Rattle.l4_lock.specs.Locked.{Lock, lock, IsKept, Enters, EndsAtOnce, IsLeft, Takes, Refuses, recording_of}
-use Rattle.l4_lock.specs.Inside.Accounts.{SettlesAt, IsUnsettled}
+use Rattle.l4_lock.specs.Inside.Accounts.{Awaits, SettlesAt, IsUnsettled}
 use Rattle.l4_lock.specs.Inside.Entering.{Begins, IsAdmitted, WaitsMore}
 use Rattle.l4_lock.proofs.Right.{pend}
 use Rattle.l4_lock.proofs.Started.{same_book, own_at, set_own, set_other, plain_at, get_there, read_all, right_settled, settled_right, set_same, at_number}
 
-pub finished : (frames : ℕ) (es : List Entry) (kept_from : ℕ) (m : Machine) (books later : List Book) (board : TableId) (published place : ℕ) (before after : SeatState) (own : Call → Call) (r : Option Reply)
+pub finished : (frames : ℕ) (es : List Entry) (kept_from : ℕ) (m : Machine) (books later : List Book) (board : TableId) (published place : ℕ) (before after : SeatState) (r : Option Reply)
     → IsKept (lock frames m es kept_from books board published)
-    → IfSome r (λ reply. SettlesAt books later place before after own reply) → IfNone r (IsUnsettled books later place before after)
+    → IfSome r (λ reply. SettlesAt books later place before after reply) → IfNone r (IsUnsettled books later place before after)
     → IsKept (lock frames m es kept_from later board published)
-finished frames es kept_from m books later board published place before after own None k some none =
+finished frames es kept_from m books later board published place before after None k some none =
     record {
       right = subst (λ (l : List Book). AreRight frames es m l) (sym none.same) k.right;
       idle = k.idle;
@@ -42,7 +43,7 @@ finished frames es kept_from m books later board published place before after ow
       handed_out = k.handed_out;
       base = k.base;
     }
-finished frames es kept_from m books later board published place before after own (Some reply) k s none =
+finished frames es kept_from m books later board published place before after (Some reply) k s none =
     record {
       right = subst (λ (l : List Book). AreRight frames es m l) (sym s.changed)
           (settled_right frames es m books place s.former s.settled s.settles.pending s.settles.ended k.right s.at s.settles.pending_is s.settles.ended_is s.settles.book_is).1;
@@ -54,12 +55,12 @@ finished frames es kept_from m books later board published place before after ow
       base = k.base;
     }
 
-pub taken : (frames : ℕ) (es : List Entry) (kept_from : ℕ) (m : Machine) (books later : List Book) (board : TableId) (published place : ℕ) (before after : SeatState) (own : Call → Call) (r : Option Reply)
+pub taken : (frames : ℕ) (es : List Entry) (kept_from : ℕ) (m : Machine) (books later : List Book) (board : TableId) (published place : ℕ) (before after : SeatState) (r : Option Reply)
     → IsKept (lock frames m es kept_from books board published) → book_at books before.number ≡ slice_get books place
-    → IfSome r (λ reply. SettlesAt books later place before after own reply)
-    → IfSome r (λ reply. Takes (lock frames m es kept_from books board published) (lock frames m es kept_from later board published) before after own reply)
-taken frames es kept_from m books later board published place before after own None k at some = some
-taken frames es kept_from m books later board published place before after own (Some reply) k at s =
+    → IfSome r (λ reply. SettlesAt books later place before after reply)
+    → IfSome r (λ reply. Takes (lock frames m es kept_from books board published) (lock frames m es kept_from later board published) before after reply)
+taken frames es kept_from m books later board published place before after None k at some = some
+taken frames es kept_from m books later board published place before after (Some reply) k at s =
     let x : Book = s.former in
     let y : Book = s.settled in
     let numbered : x.number ≡ before.number = at_number books before.number x (at ∙ s.at) in
@@ -76,6 +77,17 @@ taken frames es kept_from m books later board published place before after own (
       same = (refl, refl, refl, refl);
       kept_from = refl;
     }
+
+-- what was taken, and of which call
+pub both : (P : Reply → Type 0) (Q : Type 0) (r : Option Reply) → IfSome r P → Q → IfSome r (λ reply. P reply × Q)
+both P Q None p q = p
+both P Q (Some reply) p q = (p, q)
+
+pub awaited : (books : List Book) (n place : ℕ) (own : Awaited) → place < length books → book_at books n ≡ slice_get books place → ((b : Book) → slice_get books place ≡ Some b → Awaits b.pending own)
+    → Awaits (pending_at books n) own
+awaited books n place own lt at awaits =
+    let there = get_there books place lt in
+    subst (λ (o : Option Pending). Awaits o own) (sym (ap (option_and_then (λ (b : Book). b.pending)) (at ∙ there.1))) (awaits there.0 there.1)
 
 pub not_taken : (frames : ℕ) (es : List Entry) (kept_from : ℕ) (m : Machine) (books later : List Book) (board : TableId) (published place : ℕ) (before after : SeatState) (r : Option Reply)
     → place < length books → book_at books before.number ≡ slice_get books place → IfNone r (IsUnsettled books later place before after)
@@ -160,7 +172,7 @@ same_call p q e = cc
 
 -- the call has ended, and its receipt is the seat's
 pub entered_done : (old mid : Lock) (later : List Book) (before between after : SeatState) (call : Call) (place : ℕ) (reply : Reply) → IsKept mid → IsAdmitted old mid before.number call place → WaitsMore before between
-    → SettlesAt mid.books later place between after (λ c. c) reply
+    → SettlesAt mid.books later place between after reply
     → Enters old (settled_in mid later) before.number call × EndsAtOnce old (settled_in mid later) before after call reply
 entered_done old mid later before between after call place reply k a more t =
     let b = a.begins in

@@ -145,8 +145,8 @@ pub record AreRight (frames : ℕ) (history : List Entry) (m : Machine) (books :
   pub apart : IsOnce (numbers books)
   pub others : (n : ℕ) → is_among n (numbers books) ≡ false → starts_of n history ≡ 0
 
--- The book's call has ended and is taken: the seat gains its receipt, with the call as the seat passed it, and gets the reply.
-pub record Settles (old new : Book) (before after : SeatState) (own : Call → Call) (reply : Reply) : Type 0 where
+-- The book's call has ended and is taken: the seat gains its receipt, and gets the reply.
+pub record Settles (old new : Book) (before after : SeatState) (reply : Reply) : Type 0 where
   pub pending : Pending
   pub pending_is : old.pending ≡ Some pending
   pub ended : Ended
@@ -155,5 +155,5 @@ pub record Settles (old new : Book) (before after : SeatState) (own : Call → C
   pub book_is : new ≡ record old { pending = None; receipts = old.receipts ++ receipt_of pending ended ∷ [] }
   pub number : after.number ≡ before.number
   pub waiting : before.waiting ≡ after.waiting + 1
-  pub receipts : after.receipts ≡ before.receipts ++ record (receipt_of pending ended) { call = own pending.call } ∷ []
+  pub receipts : after.receipts ≡ before.receipts ++ receipt_of pending ended ∷ []
   pub kept_from : after.kept_from ≡ before.kept_from

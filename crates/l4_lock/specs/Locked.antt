@@ -129,13 +129,13 @@ abbrev pub Tells : Lock → Lock → SeatState → SeatState → Call → Entere
 Tells old new before after call (Done reply) = EndsAtOnce old new before after call reply
 Tells old new before after call Waiting = IsLeft old new before after
 
--- A call that was left waiting has since ended, and is taken: the seat gains its receipt, with the call as the seat passed it. The call is
--- taken once, and the books of other numbers are unchanged.
-pub record Takes (old new : Lock) (before after : SeatState) (own : Call → Call) (reply : Reply) : Type 0 where
+-- A call that was left waiting has since ended, and is taken: the seat gains its receipt. The call is taken once, and the
+-- books of other numbers are unchanged.
+pub record Takes (old new : Lock) (before after : SeatState) (reply : Reply) : Type 0 where
   pub book : Book
   pub at : book_at old.books before.number ≡ Some book
   pub later : Book
-  pub settles : Settles book later before after own reply
+  pub settles : Settles book later before after reply
   pub proves : Proves old.frames old.history before.number (receipt_of settles.pending settles.ended)
   pub settled : book_at new.books before.number ≡ Some later
   pub others : (m : ℕ) → m ≢ before.number → book_at new.books m ≡ book_at old.books m

@@ -12,8 +12,7 @@ use Rattle.l4_lock.specs.Locked.{Lock, IsKept, Enters, Refuses, RefusesSeat, Han
 use Rattle.l4_lock.specs.declared.refusals.LockRefusal.{LockRefusal}
 use Rattle.l4_lock.specs.declared.refusals.LockRefusal.TheVariants.{HistoryFull, NoMemory, ReplyWaiting, SeatTaken, Kernel as ByKernel}
 
--- The thread's call was entered into the locked kernel that was under the lock at that time, as the recorder enters it. Every invariant of
--- its type held.
+-- The thread's call was entered into some locked kernel that keeps the invariant of its type, as the recorder enters it.
 pub record IsEntered (n : ℕ) (call : Call) : Type 0 where
   pub old : Lock
   pub new : Lock
@@ -21,8 +20,8 @@ pub record IsEntered (n : ℕ) (call : Call) : Type 0 where
   pub enters : Enters old new n call
 
 -- The call was entered, and has ended with this reply: the seat gained one receipt, with the call that it entered and the reply that it got.
--- The receipt is right about the history of the locked kernel that was under the lock when the reply was taken, where its call is the one
--- that the lock recorded.
+-- The receipt is of this call, and of none before it: it starts at the place of the next entry when the call was entered. It is right about
+-- the history of some locked kernel that keeps the invariant of its type.
 pub record IsAnswered (before after : SeatState) (call : Call) (reply : Reply) : Type 0 where
   pub receipt : Receipt
   pub number : after.number ≡ before.number
@@ -32,17 +31,17 @@ pub record IsAnswered (before after : SeatState) (call : Call) (reply : Reply) :
   pub gives : receipt.call ≡ call
   pub answers : receipt.reply ≡ reply
   pub entered : IsEntered before.number call
+  pub start : receipt.start ≡ length entered.old.history
   pub lock : Lock
   pub kept : IsKept lock
-  pub recorded : Call
-  pub proves : Proves lock.frames lock.history before.number (record receipt { call = recorded })
+  pub proves : Proves lock.frames lock.history before.number receipt
 
 -- the call was entered and has not ended: the seat has one more call that was left waiting
 abbrev pub LeavesWaiting : SeatState → SeatState → Call → Type 0
 LeavesWaiting before after call = (after ≡ record before { waiting = before.waiting + 1 }) × IsEntered before.number call
 
 -- A call of the seat that was left waiting has ended, and is taken with this reply. The seat gained its receipt, which is right about the
--- history of the locked kernel that was under the lock at that time.
+-- history of some locked kernel that keeps the invariant of its type.
 pub record IsTaken (before after : SeatState) (reply : Reply) : Type 0 where
   pub receipt : Receipt
   pub number : after.number ≡ before.number
@@ -54,8 +53,7 @@ pub record IsTaken (before after : SeatState) (reply : Reply) : Type 0 where
   pub kept : IsKept lock
   pub proves : Proves lock.frames lock.history before.number receipt
 
--- The reason why a call is not entered through the shared lock: the locked kernel that was under the lock at that time refuses it. Every
--- invariant of its type held.
+-- The reason why a call is not entered through the shared lock: some locked kernel that keeps the invariant of its type refuses it.
 abbrev pub Declines : ℕ → Call → LockRefusal → Type 0
 Declines n call e = (l : Lock) × IsKept l × Refuses l n call e
 
@@ -63,11 +61,11 @@ Declines n call e = (l : Lock) × IsKept l × Refuses l n call e
 abbrev pub DeclinesSeat : ℕ → LockRefusal → Type 0
 DeclinesSeat n e = (l : Lock) × IsKept l × RefusesSeat l n e
 
--- The segment was handed out by the locked kernel that was under the lock at that time. Every invariant of its type held.
+-- the segment was handed out by some locked kernel that keeps the invariant of its type
 abbrev pub IsHandedOut : Segment → Type 0
 IsHandedOut segment = (old new : Lock) × IsKept old × HandsOut old new segment
 
--- no further segment is handed out, because the locked kernel under the lock has recorded too many entries
+-- no further segment is handed out, because some locked kernel that keeps the invariant of its type has recorded too many entries
 abbrev pub EndsSegments : Type 0
 EndsSegments = (l : Lock) × IsKept l × (max_handed_out < length l.history)
 

@@ -1,11 +1,11 @@
 //! The accounts of the seats that were given.
-ghost use Rattle.std.specs.Prelude.{◌≡◌, ◌≢◌, ◌<◌, ℕ, List, Some, None, [], ◌∷◌, ◌++◌, length, map, IfSome, IfNone, MatchOption, MatchResult, is_some, false, slice_get, slice_set};
-ghost use Rattle.std.specs.Option.{option_copied};
+ghost use Rattle.std.specs.Prelude.{◌≡◌, ◌≢◌, ◌<◌, ℕ, List, Some, None, [], ◌∷◌, ◌++◌, length, map, IfSome, IfNone, MatchOption, MatchResult, is_some, true, false, slice_get, slice_set};
 ghost use Rattle.std.specs.List.{All};
 ghost use Rattle.l4_lock.specs.Books.{Book, book, book_at, forgotten_book, reply_waits, numbers, IsOnce};
-ghost use Rattle.l4_lock.specs.Inside.Accounts.{has_reply, HasFewReceipts, SettlesAt, IsUnsettled};
-ghost use Rattle.l4_lock.specs.Inside.Noting.{noted, own_call};
+ghost use Rattle.l4_lock.specs.Inside.Accounts.{has_reply, Awaits, HasFewReceipts, SettlesAt, IsUnsettled};
+ghost use Rattle.l4_lock.specs.Inside.Noting.{noted};
 
+use crate::entries::Awaited;
 use crate::seats::{Account, Seat, settle};
 use l4_ipc::{Call, Kernel, Reply};
 use std::alloc::{AllocError, Global};
@@ -89,6 +89,15 @@ impl Accounts {
         self.items[at].is_pending()
     }
 
+    /// Returns whether the call of the account at this index that was not taken yet is this one.
+    pub fn awaits(&self, at: usize, own: &Awaited) -> bool
+        requires { at < length self.now.items }
+        ensures same { (b : Book) → slice_get self.now.items at ≡ Some b → result ≡ true → Awaits b.pending own.now }
+        ensures other { (b : Book) → slice_get self.now.items at ≡ Some b → result ≡ false → ¬ (Awaits b.pending own.now) }
+    {
+        self.items[at].awaits(own)
+    }
+
     /// Begins a call of the account at this index, and allocates room for its receipt.
     ///
     /// Returns `AllocError` if an allocation fails; then nothing has changed.
@@ -132,18 +141,16 @@ impl Accounts {
         forget_all(&mut self.items);
     }
 
-    /// Takes the call of the account at this index, if it has ended, and returns its reply. The account and the seat gain its receipt. In
-    /// the seat's receipt, the call is the one that the seat passes.
-    pub fn finish(&mut self, at: usize, seat: &mut Seat, own: Option<&Call>) -> Option<Reply>
+    /// Takes the call of the account at this index, if it has ended, and returns its reply. The account and the seat gain its receipt.
+    pub fn finish(&mut self, at: usize, seat: &mut Seat) -> Option<Reply>
         requires waiting { seat.old.waiting ≢ 0 }
         requires at { at < length self.old.items }
         ensures some { IfSome result
-            (λ reply. SettlesAt self.old.items self.new.items at seat.old seat.new
-            (own_call (option_copied own.entry)) reply) }
+            (λ reply. SettlesAt self.old.items self.new.items at seat.old seat.new reply) }
         ensures none { IfNone result
             (IsUnsettled self.old.items self.new.items at seat.old seat.new) }
     {
-        let Some(reply) = settle(&mut self.items[at], seat, own) else {
+        let Some(reply) = settle(&mut self.items[at], seat) else {
             return None;
         };
         self.replies -= 1;

@@ -15,6 +15,15 @@ pub struct Receipt {
     pub reply: Reply,
 }
 
+/// A call that was entered and has not ended, as the thread that waits for it knows it.
+#[derive(Drop)]
+pub(crate) struct Awaited {
+    /// The call.
+    pub call: Call,
+    /// The place of the entry that started it.
+    pub start: usize,
+}
+
 /// The end of a call whose reply has not been taken yet.
 #[derive(Drop)]
 pub struct Ended {

@@ -3,17 +3,19 @@ ghost use Rattle.std.specs.Prelude.{◌≡◌, ◌≢◌, ◌⊎◌, ◌+◌, �
 ghost use Rattle.l4_record.specs.Segments.{kept, kept_count};
 ghost use Rattle.l4_record.specs.Sizes.{last_start, max_handed_out};
 ghost use Rattle.l4_ipc.specs.Machine.{IsBoot};
-ghost use Rattle.l4_lock.specs.Books.{seat_state, book, book_at, reply_waits};
+ghost use Rattle.l4_lock.specs.Books.{seat_state, book, book_at, pending_at, reply_waits};
 ghost use Rattle.l4_lock.specs.Closing.{Closes, Mismatches, by_history};
 ghost use Rattle.l4_record.specs.Laws.{IsWholeRun};
 ghost use Rattle.l4_lock.specs.Locked.{IsKept, RefusesBoot, Enters, Tells, Refuses, Takes, HandsOut};
 ghost use Rattle.l4_lock.specs.declared.refusals.LockRefusal.TheVariants.{SeatTaken, NoMemory as WantOfMemory};
+ghost use Rattle.l4_lock.specs.Inside.Accounts.{Awaits};
 ghost use Rattle.l4_lock.specs.Inside.Entering.{IsAdmitted};
 ghost use Rattle.l4_board.specs.Board.{IsNewWatch};
 ghost use Rattle.std.specs.List.{All};
 
 use crate::accounts::Accounts;
 use crate::closing::{Unclosed, first_mismatch};
+use crate::entries::Awaited;
 use crate::refusals::{Entered, LockRefusal, refusal_of};
 use crate::seats::Seat;
 use crate::steps::begin;
@@ -193,7 +195,7 @@ impl Locked {
                 return Err(refusal);
             }
         };
-        if let Some(reply) = self.accounts.finish(at, seat, None) {
+        if let Some(reply) = self.accounts.finish(at, seat) {
             return Ok(Entered::Done(reply));
         }
         Ok(Entered::Waiting)
@@ -235,7 +237,7 @@ impl Locked {
     /// Takes the reply of a call that was left waiting and has since ended. Returns None if there is no such reply.
     pub fn take(&mut self, seat: &mut Seat) -> Option<Reply>
         ensures some { IfSome result
-            (λ reply. Takes self.old self.new seat.old seat.new (λ call. call) reply) }
+            (λ reply. Takes self.old self.new seat.old seat.new reply) }
         ensures none { IfNone result ((self.new ≡ self.old) × (seat.new ≡ seat.old)
             × ((seat.old.waiting ≡ 0) ⊎ (reply_waits self.old.books seat.old.number ≡ false))) }
     {
@@ -245,13 +247,15 @@ impl Locked {
         let Some(at) = self.accounts.position(seat.number()) else {
             return None;
         };
-        self.accounts.finish(at, seat, None)
+        self.accounts.finish(at, seat)
     }
 
-    /// Does what `take` does. In the seat's receipt, the call is the one that the caller passes.
-    pub(crate) fn take_for(&mut self, seat: &mut Seat, call: &Call) -> Option<Reply>
+    /// Takes the reply of this call of the seat, which was left waiting, if it has since ended. Returns None also if the call that the
+    /// lock keeps for the seat's number is another one.
+    pub(crate) fn take_for(&mut self, seat: &mut Seat, own: &Awaited) -> Option<Reply>
         ensures some { IfSome result
-            (λ reply. Takes self.old self.new seat.old seat.new (λ _. call.now) reply) }
+            (λ reply. Takes self.old self.new seat.old seat.new reply
+            × Awaits (pending_at self.old.books seat.old.number) own.now) }
         ensures none { IfNone result ((self.new ≡ self.old) × (seat.new ≡ seat.old)) }
     {
         if seat.waiting() == 0 {
@@ -260,7 +264,10 @@ impl Locked {
         let Some(at) = self.accounts.position(seat.number()) else {
             return None;
         };
-        self.accounts.finish(at, seat, Some(call))
+        if !self.accounts.awaits(at, own) {
+            return None;
+        }
+        self.accounts.finish(at, seat)
     }
 
     /// Hands out the entries that are kept, as a segment. From then on, the entries of later calls are kept only. Their numbers continue, and

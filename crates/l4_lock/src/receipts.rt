@@ -150,7 +150,7 @@ impl Receipts {
 }
 
 /// Returns whether two calls are the same.
-fn same_call(a: &Call, b: &Call) -> bool
+pub(crate) fn same_call(a: &Call, b: &Call) -> bool
     ensures same { result ≡ true → a.now ≡ b.now }
     ensures other { result ≡ false → a.now ≢ b.now }
 {

@@ -1,14 +1,14 @@
 //! Seats, and the account that the lock keeps for each.
 ghost use Rattle.std.specs.Prelude.{◌≡◌, ◌≢◌, ◌+◌, ◌<◌, ◌≤◌, Some, None, [], ◌∷◌, ◌++◌, length, IfSome, IfNone, MatchResult, is_some, true, false};
-ghost use Rattle.std.specs.Option.{option_map_or, option_copied};
+ghost use Rattle.std.specs.Option.{option_map_or};
 ghost use Rattle.l4_record.specs.Sizes.{max_handed_out};
 ghost use Rattle.l4_lock.specs.Books.{SeatState, seat_state, forgotten_seat, starts, Book, book, forgotten_book, pending_count, receipt, has_ended, Settles};
-ghost use Rattle.l4_lock.specs.Inside.Accounts.{has_reply};
-ghost use Rattle.l4_lock.specs.Inside.Noting.{started_by, noted, noted_call, reply_in, own_call};
+ghost use Rattle.l4_lock.specs.Inside.Accounts.{has_reply, Awaits};
+ghost use Rattle.l4_lock.specs.Inside.Noting.{started_by, noted, noted_call, reply_in};
 
 use crate::copies::{copy_call, copy_reply};
-use crate::entries::{Ended, Pending};
-use crate::receipts::Receipts;
+use crate::entries::{Awaited, Ended, Pending};
+use crate::receipts::{Receipts, same_call};
 use l4_ipc::{Call, Kernel, Reply};
 use l4_record::MAX_HANDED_OUT;
 use std::alloc::{AllocError, Global};
@@ -231,6 +231,20 @@ impl Account {
         }
     }
 
+    /// Returns whether the call that has not been taken yet is this one.
+    pub fn awaits(&self, own: &Awaited) -> bool
+        ensures same { result ≡ true → Awaits self.now.pending own.now }
+        ensures other { result ≡ false → ¬ (Awaits self.now.pending own.now) }
+    {
+        let Some(pending) = &self.pending else {
+            return false;
+        };
+        if pending.start != own.start {
+            return false;
+        }
+        same_call(&pending.call, &own.call)
+    }
+
     /// Begins a call, and allocates room for its receipt.
     pub fn begin(&mut self, call: &Call, start: usize) -> Result<(), AllocError>
         requires { self.old.pending ≡ None }
@@ -267,23 +281,11 @@ impl Account {
     }
 }
 
-/// Returns the call that the seat passed, or the account's if it passed none.
-fn known<'a>(own: Option<&'a Call>, call: &'a Call) -> &'a Call
-    ensures { result.now ≡ own_call (option_copied own.entry) call.now }
-{
-    match own {
-        Some(own) => own,
-        None => call,
-    }
-}
-
-/// Takes the account's call, if it has ended, and returns its reply. The account and the seat gain its receipt. The seat's receipt has the
-/// call that the seat passed.
-pub(crate) fn settle(account: &mut Account, seat: &mut Seat, own: Option<&Call>) -> Option<Reply>
+/// Takes the account's call, if it has ended, and returns its reply. The account and the seat gain its receipt.
+pub(crate) fn settle(account: &mut Account, seat: &mut Seat) -> Option<Reply>
     requires { seat.old.waiting ≢ 0 }
     ensures some { IfSome result
-        (λ reply. Settles account.old account.new seat.old seat.new
-        (own_call (option_copied own.entry)) reply) }
+        (λ reply. Settles account.old account.new seat.old seat.new reply) }
     ensures none { IfNone result
         ((account.new ≡ account.old) × (seat.new ≡ seat.old)
         × (option_map_or has_ended account.old.pending false ≡ false)) }
@@ -300,7 +302,7 @@ pub(crate) fn settle(account: &mut Account, seat: &mut Seat, own: Option<&Call>)
         return None;
     };
     receipts.push(&open.call, open.start, ended);
-    seat.receive(known(own, &open.call), open.start, ended);
+    seat.receive(&open.call, open.start, ended);
     let reply = copy_reply(&ended.reply);
     *pending = None;
     Some(reply)

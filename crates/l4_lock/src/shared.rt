@@ -9,6 +9,7 @@ ghost use Rattle.l4_lock.specs.Inside.Sharing.{EndsOrWaits, TakesOwn};
 ghost use Rattle.l4_lock.specs.Shared.{IsAnswered, Declines, DeclinesSeat, IsHandedOut, EndsSegments, gate_state, pairs_of};
 
 use crate::copies::copy_call;
+use crate::entries::Awaited;
 use crate::locked::Locked;
 use crate::refusals::{Entered, LockRefusal};
 use crate::seats::Seat;
@@ -42,31 +43,47 @@ impl Model for KernelLock {
     ghost view = { λ l. l.board };
 }
 
+/// The state of a call that was entered under the lock.
+#[derive(Drop)]
+pub(crate) enum Began {
+    /// It has ended with this reply.
+    Done(Reply),
+    /// It has not ended.
+    Waits(Awaited),
+}
+
 /// Enters a call into the locked kernel that is under the lock.
 pub(crate) fn enter_kept(
     locked: &mut Locked,
     seat: &mut Seat,
     call: Call,
-) -> Result<Entered, LockRefusal>
+) -> Result<Began, LockRefusal>
     ensures ok { IfOk result (EndsOrWaits seat.old seat.new call) }
     ensures err { OnErr result (seat.new ≡ seat.old) }
     ensures refuses { IfErr result (Declines seat.old.number call) }
 {
     locked.law_kept();
+    let own = Awaited {
+        call: copy_call(&call),
+        start: locked.count(),
+    };
     let entered = match locked.enter(seat, call) {
         Ok(entered) => entered,
         Err(refusal) => return Err(refusal),
     };
     locked.law_kept();
-    Ok(entered)
+    if let Entered::Done(reply) = entered {
+        return Ok(Began::Done(reply));
+    }
+    Ok(Began::Waits(own))
 }
 
 /// Takes the reply of this call of the seat, which was left waiting, if it has ended since.
-pub(crate) fn take_own(locked: &mut Locked, seat: &mut Seat, call: &Call) -> Option<Reply>
-    ensures { MatchOption result (seat.new ≡ seat.old) (TakesOwn seat.old seat.new call.now) }
+pub(crate) fn take_own(locked: &mut Locked, seat: &mut Seat, own: &Awaited) -> Option<Reply>
+    ensures { MatchOption result (seat.new ≡ seat.old) (TakesOwn seat.old seat.new own.now) }
 {
     locked.law_kept();
-    locked.take_for(seat, call)
+    locked.take_for(seat, own)
 }
 
 impl KernelLock {
@@ -120,8 +137,8 @@ impl KernelLock {
         Ok(seat)
     }
 
-    /// Enters a call, and waits until it has ended; the lock is free meanwhile. The seat gains a receipt with this call and the reply. The
-    /// reply is the machine's, in the history of the locked kernel that was under the lock when it was taken.
+    /// Enters a call, and waits until it has ended; the lock is free meanwhile. The seat gains a receipt with this call and the reply, which
+    /// is the machine's. The receipt starts at the place in the history at which the call was entered.
     ///
     /// Returns the refusals of `Locked::enter`, in the same order, for the state under the lock at that time. After a refusal, the seat is
     /// unchanged.
@@ -130,16 +147,16 @@ impl KernelLock {
         ensures err { OnErr result (seat.new ≡ seat.old) }
         ensures refuses { IfErr result (λ e. Declines seat.old.number call e) }
     {
-        let own = copy_call(&call);
         let mut guard = self.locked.lock(rt);
-        let entered = match enter_kept(&mut guard, seat, call) {
-            Ok(entered) => entered,
+        let began = match enter_kept(&mut guard, seat, call) {
+            Ok(began) => began,
             Err(refusal) => return Err(refusal),
         };
         self.ended.notify_all();
-        if let Entered::Done(reply) = entered {
-            return Ok(reply);
-        }
+        let own = match began {
+            Began::Done(reply) => return Ok(reply),
+            Began::Waits(own) => own,
+        };
         for _ in rt.forever() {
             if let Some(reply) = take_own(&mut guard, seat, &own) {
                 return Ok(reply);

@@ -2,11 +2,10 @@
 ghost use Rattle.std.specs.Prelude.{◌≡◌, IfOk, IfErr, OnErr, MatchOption};
 ghost use Rattle.l4_lock.specs.Shared.{IsAnswered, LeavesWaiting, IsTaken, Declines};
 
-use crate::copies::copy_call;
 use crate::locked::Locked;
-use crate::refusals::{Entered, LockRefusal};
+use crate::refusals::LockRefusal;
 use crate::seats::Seat;
-use crate::shared::{KernelLock, enter_kept, take_own};
+use crate::shared::{Began, KernelLock, enter_kept, take_own};
 use l4_ipc::{Call, Reply};
 use std::sync::atomic::Ordering;
 use std::sync::{CondvarTimeouts, Wait};
@@ -51,18 +50,18 @@ impl KernelLock {
         ensures err { OnErr result (seat.new ≡ seat.old) }
         ensures refuses { IfErr result (λ e. Declines seat.old.number call e) }
     {
-        let own = copy_call(&call);
         let begin = Instant::now(rt).ok();
         let mut guard = self.locked.lock(rt);
         let ends = self.ends.load(Ordering::SeqCst);
-        let entered = match enter_kept(&mut guard, seat, call) {
-            Ok(entered) => entered,
+        let began = match enter_kept(&mut guard, seat, call) {
+            Ok(began) => began,
             Err(refusal) => return Err(refusal),
         };
         self.ended.notify_all();
-        if let Entered::Done(reply) = entered {
-            return Ok(Some(reply));
-        }
+        let own = match began {
+            Began::Done(reply) => return Ok(Some(reply)),
+            Began::Waits(own) => own,
+        };
         for _ in rt.forever() {
             if let Some(reply) = take_own(&mut guard, seat, &own) {
                 return Ok(Some(reply));

@@ -1,16 +1,15 @@
 -- The orders from a state, counted thread by thread.
-use Rattle.std.proofs.Common.{◌≡◌, ℕ, zero, suc, ◌+◌, ◌<◌, ◌≤◌, ◌⊎◌, Bool, true, false, List, [], ◌∷◌, ◌++◌, length, get_or, map, min, refl, sym, ap, subst, ◌∙◌, arith, inl, inr}
-use Rattle.std.specs.Prelude.{Contains, Result, Ok, Err, IfOk}
+use Rattle.std.proofs.Common.{◌≡◌, ℕ, zero, suc, ◌+◌, ◌<◌, ◌≤◌, ◌⊎◌, Bool, true, false, List, [], ◌∷◌, ◌++◌, length, get_or, map, refl, sym, ap, subst, ◌∙◌, arith, inl, inr}
+use Rattle.std.specs.Prelude.{Contains}
 use Rattle.std.specs.List.{AllPairs}
 use Rattle.std.proofs.lemmas.Bool.{false≢true, cases_lt}
 use Rattle.std.proofs.lemmas.List.{length-append, length-map, get_or_default}
 use Rattle.std.proofs.lemmas.List.Elements.{Contains-append_left, Contains-append_right, Contains-append_cases}
-use Rattle.l4_merges.specs.declared.exploring.Reached.{Reached}
-use Rattle.l4_merges.specs.Orders.{IsRun, IsOver, IsOrder, LeavesOne, CountsOrders, most_orders}
+use Rattle.l4_merges.specs.Orders.{IsRun, IsOver, IsOrder, LeavesOne, CountsOrders}
 
 -- LISTS
 
-abbrev AreApart : List (List ℕ) → Type 0
+abbrev pub AreApart : List (List ℕ) → Type 0
 AreApart orders = AllPairs (λ a b. a ≡ b → ⊥) orders
 
 -- these orders with one more turn in front
@@ -98,7 +97,7 @@ module _ {S : Type 0} (enabled : S → ℕ → Bool) (Turns : S → ℕ → S �
 
   -- their number
   abbrev pub CountsBelow : S → ℕ → ℕ → Type 0
-  CountsBelow s below count = LeavesOne enabled Turns s → (orders : List (List ℕ)) × AreBelow s below orders × (count ≡ min (length orders) most_orders)
+  CountsBelow s below count = LeavesOne enabled Turns s → (orders : List (List ℕ)) × AreBelow s below orders × (count ≡ length orders)
 
   pub none_below : (s : S) → CountsBelow s 0 0
   none_below s only = (
@@ -128,7 +127,7 @@ module _ {S : Type 0} (enabled : S → ℕ → Bool) (Turns : S → ℕ → S �
       )
 
   -- the orders that begin with an enabled thread are those of the state after its turn
-  pub below_turn : (s : S) (thread : ℕ) (u : S) (count more sum : ℕ) → enabled s thread ≡ true → Turns s thread u → CountsOrders enabled Turns u more → sum ≡ min (count + more) most_orders
+  pub below_turn : (s : S) (thread : ℕ) (u : S) (count more sum : ℕ) → enabled s thread ≡ true → Turns s thread u → CountsOrders enabled Turns u more → sum ≡ count + more
       → CountsBelow s thread count → CountsBelow s (thread + 1) sum
   below_turn s thread u count more sum able turns counts is below only =
       let known = below only in
@@ -196,8 +195,3 @@ module _ {S : Type 0} (enabled : S → ℕ → Bool) (Turns : S → ℕ → S �
     only_empty : (order : List ℕ) (t : S) → IsOrder enabled Turns s order t → Contains ([] ∷ []) order
     only_empty [] t is = has_head [] []
     only_empty (first ∷ rest) t is = absurd (false≢true (sym (over first) ∙ is.run.0))
-
-  -- the number that a function hands on
-  pub counted_as : {E : Type 0} (s : S) (count noted : ℕ) (r : Result Reached E) → noted ≡ count → IfOk r (λ k. k.orders ≡ noted) → CountsOrders enabled Turns s count → IfOk r (λ k. CountsOrders enabled Turns s k.orders)
-  counted_as s count noted (Ok k) is same counts = subst (λ (m : ℕ). CountsOrders enabled Turns s m) (sym (same ∙ is)) counts
-  counted_as s count noted (Err e) is same counts = tt

@@ -1,6 +1,6 @@
 -- What is found of a state, of what comes from the states after it.
 use Rattle.std.proofs.Common.{◌≡◌, ℕ, ◌+◌, ◌<◌, Bool, true, false, List, [], ◌∷◌, ◌++◌, refl, sym, ap, subst, ◌∙◌, arith, inl, inr, get_or}
-use Rattle.std.specs.Prelude.{Result, Ok, Err, OnOk, Option, Some, None, MatchOption, length}
+use Rattle.std.specs.Prelude.{Result, Ok, Err, OnOk, OnErr, Option, Some, None, MatchOption, length}
 use Rattle.std.specs.Option.{option_to_list}
 use Rattle.std.proofs.lemmas.List.{append-nil, append_assoc, same_from_push, length_push, get_or_default}
 use Rattle.std.proofs.Math.Seq.{get_or-append_seam}
@@ -141,6 +141,10 @@ module _ {A E : Type 0} where
   pub on_ok : (P : Type 0) (r : Result A E) → P → OnOk r P
   on_ok P (Ok a) holds = holds
   on_ok P (Err e) holds = tt
+
+  pub on_err : (P : Type 0) (r : Result A E) → P → OnErr r P
+  on_err P (Ok a) holds = tt
+  on_err P (Err e) holds = holds
 
   pub map_ok : (P Q : Type 0) (r : Result A E) → (P → Q) → OnOk r P → OnOk r Q
   map_ok P Q (Ok a) f holds = f holds

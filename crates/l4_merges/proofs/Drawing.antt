@@ -8,7 +8,6 @@ use Rattle.std.proofs.lemmas.List.{append-nil, append_assoc, length-append, leng
 use Rattle.std.specs.List.{AllPairs}
 use Rattle.std.proofs.lemmas.List.Quantifiers.{all_pairs_push}
 use Rattle.std.proofs.lemmas.List.Elements.{Contains-get_or, Contains-append_left, Contains-append_cases, Contains-push, Contains-push_cases}
-use Rattle.l4_merges.specs.declared.exploring.Reached.{Reached}
 use Rattle.l4_merges.specs.declared.found.Found.{Found}
 use Rattle.l4_merges.specs.declared.graph.Edge.{Edge}
 use Rattle.l4_merges.specs.declared.graph.Seen.{Seen}
@@ -31,9 +30,9 @@ module _ {S : Type 0} (HasKey : S → List ℕ → Type 0) where
       (one, omega (arith, length_push seen one), get_or-append_seam seen one [] one, is))
 
   -- the entry that a function added, if it did
-  pub placed_kept : {E : Type 0} (r : Result Reached E) (seen after : List Seen) (one : Seen) (s : S) → OnOk r (after ≡ seen ++ one ∷ []) → IfOk r (λ k. k.place ≡ length seen) → HasKey s one.key.items
-      → IfOk r (λ k. IsPlacedAt HasKey after s k.place)
-  placed_kept (Ok k) seen after one s pushed at is = placed_last seen after one s k.place pushed at is
+  pub placed_kept : {E : Type 0} (r : Result ℕ E) (seen after : List Seen) (one : Seen) (s : S) → OnOk r (after ≡ seen ++ one ∷ []) → IfOk r (λ place. place ≡ length seen) → HasKey s one.key.items
+      → IfOk r (λ place. IsPlacedAt HasKey after s place)
+  placed_kept (Ok place) seen after one s pushed at is = placed_last seen after one s place pushed at is
   placed_kept (Err e) seen after one s pushed at is = tt
 
 -- a list is empty if its length is tested to be 0

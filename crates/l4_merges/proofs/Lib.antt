@@ -1,4 +1,6 @@
 pub mod Covering
-pub mod Noted
 pub mod Counting
 pub mod Drawing
+pub mod Noted
+pub mod Linking
+pub mod Visiting

@@ -1,7 +1,6 @@
 -- States that were searched, by their keys.
 use Rattle.std.proofs.Common.{◌≡◌, ℕ, Bool, List, [], ◌∷◌, ◌++◌, sym, subst, ◌∙◌, inl, inr}
 use Rattle.std.proofs.lemmas.List.Elements.{Contains-push_cases}
-use Rattle.l4_merges.specs.declared.exploring.Reached.{Reached}
 use Rattle.l4_merges.specs.declared.found.Found.{Found}
 use Rattle.l4_merges.specs.declared.graph.Seen.{Seen}
 use Rattle.l4_merges.specs.Orders.{IsComplete, CountsOrders, KeepsFound}
@@ -44,12 +43,16 @@ module _ {S : Type 0} (enabled : S → ℕ → Bool) (Turns : S → ℕ → S �
   explored_among Kin Other seen found within all one has s other is = all one has s (within s other) is
 
   -- a state that was noted was searched
-  pub noted_is : (Kin : S → Type 0) (seen : List Seen) (s : S) (key items : List ℕ) (reached : Reached) (found : List Found) → items ≡ key → Kin s → HasKey s key → IsNoted seen items reached
-      → AreExplored enabled Turns name HasOutcome HasKey Kin seen found → IsComplete enabled Turns HasOutcome s found × CountsOrders enabled Turns s reached.orders
-  noted_is Kin seen s key items reached found e kin is among all =
-      let known = all among.0 (reached.place, among.1, among.2) s kin (subst (λ (l : List ℕ). HasKey s l) (sym (among.3 ∙ e)) is) in
-      (known.0, subst (λ (n : ℕ). CountsOrders enabled Turns s n) among.4 known.1)
+  pub noted_is : (Kin : S → Type 0) (seen : List Seen) (s : S) (key items : List ℕ) (place : ℕ) (found : List Found) → items ≡ key → Kin s → HasKey s key → IsNoted seen items place
+      → AreExplored enabled Turns name HasOutcome HasKey Kin seen found → IsComplete enabled Turns HasOutcome s found
+  noted_is Kin seen s key items place found e kin is among all =
+      (all among.0 (place, among.1, among.2) s kin (subst (λ (l : List ℕ). HasKey s l) (sym (among.3 ∙ e)) is)).0
 
   -- and has its place
-  pub noted_at : (seen : List Seen) (s : S) (key items : List ℕ) (reached : Reached) → items ≡ key → HasKey s key → IsNoted seen items reached → IsPlacedAt HasKey seen s reached.place
-  noted_at seen s key items reached e is among = (among.0, among.1, among.2, subst (λ (l : List ℕ). HasKey s l) (sym (among.3 ∙ e)) is)
+  pub noted_at : (seen : List Seen) (s : S) (key items : List ℕ) (place : ℕ) → items ≡ key → HasKey s key → IsNoted seen items place → IsPlacedAt HasKey seen s place
+  noted_at seen s key items place e is among = (among.0, among.1, among.2, subst (λ (l : List ℕ). HasKey s l) (sym (among.3 ∙ e)) is)
+
+  -- where its orders are counted
+  pub placed_counts : (Kin : S → Type 0) (seen : List Seen) (found : List Found) (s : S) (place : ℕ) → Kin s → AreExplored enabled Turns name HasOutcome HasKey Kin seen found → (is : IsPlacedAt HasKey seen s place)
+      → CountsOrders enabled Turns s is.0.orders
+  placed_counts Kin seen found s place kin all is = (all is.0 (place, is.1, is.2) s kin is.3).1

@@ -1,7 +1,6 @@
 -- The graph of the states that a search visits (this profile's own).
 use Rattle.std.specs.Prelude.{◌≡◌, ℕ, ◌<◌, Bool, true, List, ◌++◌, length, get_or, Option, Some, None, Contains}
 use Rattle.std.specs.List.{AllPairs}
-use Rattle.l4_merges.specs.declared.exploring.Reached.{Reached}
 use Rattle.l4_merges.specs.declared.found.Found.{Found}
 use Rattle.l4_merges.specs.declared.graph.Edge.{Edge}
 use Rattle.l4_merges.specs.declared.graph.Seen.{Seen}
@@ -40,16 +39,19 @@ pub record IsGraph {S : Type 0} (enabled : S → ℕ → Bool) (Turns : S → �
   pub reached : (k : ℕ) → k < length seen → (path : List ℕ) × IsRun enabled Turns start path (states k)
   pub nodes : (k : ℕ) (one : Seen) → k < length seen → get_or seen k one ≡ one → IsNode enabled Turns name HasOutcome (λ t to. (to < length seen) × (states to ≡ t)) (states k) found one
 
+-- no two entries have the same key
+abbrev pub AreToldApart : List Seen → Type 0
+AreToldApart seen = AllPairs (λ a b. a.key.items ≡ b.key.items → ⊥) seen
+
 -- ---- while the search runs
 
 -- the entry at this place has a key of the state
 abbrev pub IsPlacedAt : {S : Type 0} → (S → List ℕ → Type 0) → List Seen → S → ℕ → Type 0
 IsPlacedAt HasKey seen s place = (one : Seen) × (place < length seen) × (get_or seen place one ≡ one) × HasKey s one.key.items
 
--- the entry at this place has this key, and this number of orders
-abbrev pub IsNoted : List Seen → List ℕ → Reached → Type 0
-IsNoted seen key reached =
-    (one : Seen) × (reached.place < length seen) × (get_or seen reached.place one ≡ one) × (one.key.items ≡ key) × (one.orders ≡ reached.orders)
+-- the entry at this place has this key
+abbrev pub IsNoted : List Seen → List ℕ → ℕ → Type 0
+IsNoted seen key place = (one : Seen) × (place < length seen) × (get_or seen place one ≡ one) × (one.key.items ≡ key)
 
 -- entries were added, each for a state that a run from this one reaches
 abbrev pub Grows : {S : Type 0} → (S → ℕ → Bool) → (S → ℕ → S → Type 0) → (S → List ℕ → Type 0) → S → List Seen → List Seen → Type 0

@@ -1,2 +1,3 @@
 pub mod Graphs
 pub mod Orders
+pub mod Inside

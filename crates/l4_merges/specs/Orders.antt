@@ -1,5 +1,5 @@
 -- The orders in which threads can take turns, and their outcomes (this profile's own).
-use Rattle.std.specs.Prelude.{◌≡◌, ℕ, Bool, true, false, List, [], ◌∷◌, ◌++◌, length, min, Contains}
+use Rattle.std.specs.Prelude.{◌≡◌, ℕ, Bool, true, false, List, [], ◌∷◌, ◌++◌, length, Contains}
 use Rattle.std.specs.List.{AllPairs}
 use Rattle.l4_merges.specs.declared.found.Found.{Found}
 
@@ -45,20 +45,24 @@ IsSound enabled Turns HasOutcome s found = (one : Found) → Contains found one 
 abbrev pub AreDistinct : List Found → Type 0
 AreDistinct found = AllPairs (λ a b. a.outcome.items ≡ b.outcome.items → ⊥) found
 
--- the greatest number that is counted
-abbrev pub most_orders : ℕ
-most_orders = 18446744073709551615
-
 -- these are all orders from a state, each once
 pub record AreOrders {S : Type 0} (enabled : S → ℕ → Bool) (Turns : S → ℕ → S → Type 0) (s : S) (orders : List (List ℕ)) : Type 0 where
   pub each : (order : List ℕ) → Contains orders order → (t : S) × IsOrder enabled Turns s order t
   pub all : (order : List ℕ) (t : S) → IsOrder enabled Turns s order t → Contains orders order
   pub distinct : AllPairs (λ a b. a ≡ b → ⊥) orders
 
--- the number of orders from a state, or the greatest number that is counted if there are more
+-- the number of orders from a state
 abbrev pub CountsOrders : {S : Type 0} → (S → ℕ → Bool) → (S → ℕ → S → Type 0) → S → ℕ → Type 0
 CountsOrders enabled Turns s count =
-    LeavesOne enabled Turns s → (orders : List (List ℕ)) × AreOrders enabled Turns s orders × (count ≡ min (length orders) most_orders)
+    LeavesOne enabled Turns s → (orders : List (List ℕ)) × AreOrders enabled Turns s orders × (count ≡ length orders)
+
+-- This many different keys, each of a state that a run reaches: the search recognizes states by their keys. No two states of one system have the same
+-- key. A state that has several keys can be counted more than once.
+pub record Visits {S : Type 0} (enabled : S → ℕ → Bool) (Turns : S → ℕ → S → Type 0) (HasKey : S → List ℕ → Type 0) (s : S) (count : ℕ) : Type 0 where
+  pub keys : List (List ℕ)
+  pub many : length keys ≡ count
+  pub distinct : AllPairs (λ a b. a ≡ b → ⊥) keys
+  pub reached : (key : List ℕ) → Contains keys key → (path : List ℕ) × (t : S) × IsRun enabled Turns s path t × HasKey t key
 
 -- each outcome that was found before is among those that were found after
 abbrev pub KeepsFound : List Found → List Found → Type 0

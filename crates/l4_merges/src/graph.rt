@@ -1,5 +1,7 @@
 //! The graph of the states that a search visits.
 
+use l4_naturals::Natural;
+
 /// A turn in a state: the thread that takes it, the name of the turn, and the place of the state that it leads to.
 #[derive(Clone, Copy, Drop)]
 pub struct Edge {
@@ -13,7 +15,7 @@ pub struct Edge {
 #[derive(Drop)]
 pub struct Seen {
     pub key: Vec<u32>,
-    pub orders: u64,
+    pub orders: Natural,
     pub edges: Vec<Edge>,
     pub end: Option<usize>,
 }

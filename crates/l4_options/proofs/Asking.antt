@@ -135,7 +135,7 @@ asks_in_range name found (Check region size) asks = tt
 asks_in_range name found (Decode words reading size) asks = tt
 asks_in_range name found (Encode words) asks = tt
 asks_in_range name found (Test files tap write lenient) asks = tt
-asks_in_range name found (Orders plan most witness brief dot) asks = frames_fit found plan.frames asks.1.frames
+asks_in_range name found (Orders asked) asks = frames_fit found asked.test.frames asks.1.frames
 asks_in_range name found (Show text) asks = tt
 
 text_in_range : (o : Options) → IsText o → IsInRange o
@@ -150,7 +150,7 @@ text_in_range (Check region size) text = tt
 text_in_range (Decode words reading size) text = tt
 text_in_range (Encode words) text = tt
 text_in_range (Test files tap write lenient) text = tt
-text_in_range (Orders plan most witness brief dot) text = absurd text
+text_in_range (Orders asked) text = absurd text
 text_in_range (Show text) is = tt
 
 one_in_range : (words : List Text) (o : Options) → IsAsked words o → IsInRange o

@@ -59,7 +59,7 @@ history_command = command (codes "history") (
     script_rules (switch (codes "strict") ∷ switch (codes "answers") ∷ option_words (codes "from") ∷ []))
 
 abbrev pub judge_command : Shape
-judge_command = command (codes "judge") (script_rules (option (codes "against") ∷ switch (codes "partial") ∷ switch (codes "all") ∷ []))
+judge_command = command (codes "judge") (script_rules (option (codes "against") ∷ switch (codes "partial") ∷ switch (codes "all") ∷ switch (codes "follow") ∷ []))
 
 abbrev pub why_command : Shape
 why_command = command (codes "why") (needed_word (codes "thread") ∷ needed_word (codes "page") ∷ script_rules (switch (codes "strict") ∷ option_words (codes "from") ∷ []))
@@ -81,7 +81,7 @@ test_command = command (codes "test") (needed_words (codes "files") ∷ switch (
 
 abbrev pub orders_command : Shape
 orders_command = command (codes "orders") (
-    script_rules (option (codes "most") ∷ option (codes "witness") ∷ switch (codes "outcomes") ∷ switch (codes "dot") ∷ []))
+    script_rules (option (codes "most") ∷ option (codes "witness") ∷ switch (codes "outcomes") ∷ switch (codes "dot") ∷ switch (codes "lenient") ∷ []))
 
 -- the commands of l4
 abbrev pub l4_commands : List Shape
@@ -122,7 +122,7 @@ Asks name found (Segments files answers) =
     (name ≡ codes "history") × (Some (map string_bytes files.items) ≡ all_of (codes "from") found) × (answers ≡ is_on found (codes "answers")) × HasNoScript found
 Asks name found (Judge asked) =
     (name ≡ codes "judge") × IsScriptIn found asked.list × (option_map string_bytes asked.against ≡ first_of (codes "against") found)
-    × (asked.partial ≡ is_on found (codes "partial")) × (asked.all ≡ is_on found (codes "all"))
+    × (asked.partial ≡ is_on found (codes "partial")) × (asked.all ≡ is_on found (codes "all")) × (asked.follow ≡ is_on found (codes "follow"))
 Asks name found (Why script strict thread page) =
     (name ≡ codes "why") × IsScriptIn found script × (strict ≡ is_on found (codes "strict"))
     × IsDecimalAt found (codes "thread") thread × IsDecimalAt found (codes "page") page
@@ -138,9 +138,12 @@ Asks name found (Encode words) = (name ≡ codes "encode") × AreEncodedIn found
 Asks name found (Test files tap write lenient) =
     (name ≡ codes "test") × AreFilesIn found (map string_bytes files.items) × (tap ≡ is_on found (codes "tap")) × (write ≡ is_on found (codes "write"))
     × (lenient ≡ is_on found (codes "lenient")) × (tap && write ≡ false) × (lenient && write ≡ false)
-Asks name found (Orders plan most witness brief dot) =
-    (name ≡ codes "orders") × IsScriptIn found plan × IsCountAt found (codes "most") most × IsChosenAt found (codes "witness") witness
-    × (brief ≡ is_on found (codes "outcomes")) × (dot ≡ is_on found (codes "dot")) × (dot && is_some witness ≡ false) × (dot && brief ≡ false)
+Asks name found (Orders asked) =
+    (name ≡ codes "orders") × IsScriptIn found asked.test × IsCountAt found (codes "most") asked.most
+    × IsChosenAt found (codes "witness") asked.witness
+    × (asked.brief ≡ is_on found (codes "outcomes")) × (asked.dot ≡ is_on found (codes "dot")) × (asked.lenient ≡ is_on found (codes "lenient"))
+    × (asked.has_frames ≡ is_some (first_of (codes "frames") found)) × (asked.has_size ≡ is_some (first_of (codes "page-size") found))
+    × (asked.dot && is_some asked.witness ≡ false) × (asked.dot && asked.brief ≡ false)
 Asks name found (Show text) = ⊥
 
 -- the words ask for a text: the usage or the version

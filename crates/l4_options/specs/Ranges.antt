@@ -22,7 +22,7 @@ IsInRange (Plan region size) = Unit {0}
 IsInRange (Check region size) = Unit {0}
 IsInRange (Decode words reading size) = Unit {0}
 IsInRange (Test files tap write lenient) = Unit {0}
-IsInRange (Orders plan most witness brief dot) = IsFrameCount plan.frames
+IsInRange (Orders asked) = IsFrameCount asked.test.frames
 IsInRange (Encode words) = Unit {0}
 IsInRange (Show text) = Unit {0}
 

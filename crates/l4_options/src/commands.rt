@@ -13,10 +13,10 @@ use crate::ordering::{of_orders, orders_options};
 use crate::requests::{JudgeOptions, OptionFault, Options};
 use crate::testing::{of_files, test_options};
 use crate::values::{
-    against_option, all_option, explain_option, file_argument, frames_option, help_text,
-    history_option, is_on, is_strict, is_word, moves_option, name_of, number_of, number_option,
-    partial_option, reading_of, reading_option, region_of, script_of, size_of, size_option,
-    strict_option, texts_of, without_hyphens, words_argument, words_of,
+    against_option, all_option, explain_option, file_argument, follow_option, frames_option,
+    help_text, history_option, is_on, is_strict, is_word, moves_option, name_of, number_of,
+    number_option, partial_option, reading_of, reading_option, region_of, script_of, size_of,
+    size_option, strict_option, texts_of, without_hyphens, words_argument, words_of,
 };
 use clap::error::ErrorKind;
 use clap::{Arg, ArgAction, ArgMatches, Command, Error};
@@ -96,7 +96,8 @@ fn of_list<'a>(alloc: Global) -> Result<Command<'a>, AllocError>
         .arg(size_option(alloc))?
         .arg(against_option(alloc))?
         .arg(partial_option(alloc))?
-        .arg(all_option(alloc))
+        .arg(all_option(alloc))?
+        .arg(follow_option(alloc))
 }
 
 /// The command `run`.
@@ -261,6 +262,7 @@ fn judge_options(alloc: Global, matches: &ArgMatches<'_>) -> Result<Options, Opt
             against,
             partial: is_on(matches, "partial"),
             all: is_on(matches, "all"),
+            follow: is_on(matches, "follow"),
         })),
         Err(fault) => Err(fault),
     }
@@ -393,7 +395,7 @@ fn requested<'a, S: AsStr>(alloc: Global, words: &'a [S]) -> Result<Options, Opt
 
 /// Reads the words of the command line, the program's name first:
 /// `l4 run [FILE] [--frames N] [--strict] [--explain] [--number] [--moves] [--history-to SEGMENTS]`, `l4 history [FILE] [--frames N] [--strict] [--answers]`, `l4 history --from SEGMENTS.. [--answers]`,
-/// `l4 judge [FILE] [--frames N] [--against LIST] [--partial] [--all]`, `l4 why THREAD PAGE [FILE] [--frames N] [--strict]`, `l4 why THREAD PAGE --from SEGMENTS..`, `l4 plan SOURCE TARGET COUNT RIGHTS`, `l4 check` with the same words, `l4 decode [--as READING] WORD..`, `l4 encode [--as KIND] TOKEN..`, `l4 test FILE.. [--tap] [--write] [--lenient]`, `l4 orders [FILE] [--frames N] [--most N] [--witness K] [--outcomes] [--dot]`, each with
+/// `l4 judge [FILE] [--frames N] [--against LIST] [--partial] [--all] [--follow]`, `l4 why THREAD PAGE [FILE] [--frames N] [--strict]`, `l4 why THREAD PAGE --from SEGMENTS..`, `l4 plan SOURCE TARGET COUNT RIGHTS`, `l4 check` with the same words, `l4 decode [--as READING] WORD..`, `l4 encode [--as KIND] TOKEN..`, `l4 test FILE.. [--tap] [--write] [--lenient]`, `l4 orders [FILE] [--frames N] [--most N] [--witness K] [--outcomes] [--dot]`, each with
 /// `--page-size BYTES` where that is wanted, `--help`, `help` or `--version`. N is 256 and BYTES 4096 where they are left out; READING is
 /// message, fpage, window or id.
 ///

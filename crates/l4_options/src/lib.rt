@@ -14,5 +14,5 @@ mod values;
 
 pub use commands::options;
 pub use misreading::misread;
-pub use requests::{JudgeOptions, OptionFault, Options, ScriptOptions, StepOptions};
+pub use requests::{JudgeOptions, OptionFault, Options, OrdersOptions, ScriptOptions, StepOptions};
 pub use step_commands::step_options;

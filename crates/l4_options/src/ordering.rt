@@ -4,7 +4,7 @@ ghost use Rattle.l4_options.specs.Spelled.{IsCountAt, IsChosenAt};
 ghost use Rattle.l4_options.specs.Commands.{option, switch, orders_command, Asks};
 ghost use Rattle.l4_options.specs.Inside.Lines.{IsCommand, IsRule, found_in};
 
-use crate::requests::{OptionFault, Options};
+use crate::requests::{OptionFault, Options, OrdersOptions};
 use crate::values::{
     decimal_of, file_argument, frames_option, is_on, script_of, size_option, text_of,
 };
@@ -57,6 +57,16 @@ fn dot_option<'a>(alloc: Global) -> Arg<'a>
         .action(ArgAction::SetTrue)
 }
 
+/// The option `--lenient`.
+fn lenient_option<'a>(alloc: Global) -> Arg<'a>
+    ensures { IsRule (switch (codes "lenient")) result }
+{
+    Arg::new(alloc, "lenient")
+        .long("lenient")
+        .help("Search also if a line before 'unordered' is refused")
+        .action(ArgAction::SetTrue)
+}
+
 /// The command `orders`.
 pub(crate) fn of_orders<'a>(alloc: Global) -> Result<Command<'a>, AllocError>
     ensures { IfOk result (IsCommand orders_command) }
@@ -70,7 +80,8 @@ pub(crate) fn of_orders<'a>(alloc: Global) -> Result<Command<'a>, AllocError>
         .arg(most_option(alloc))?
         .arg(witness_option(alloc))?
         .arg(outcomes_option(alloc))?
-        .arg(dot_option(alloc))
+        .arg(dot_option(alloc))?
+        .arg(lenient_option(alloc))
 }
 
 /// The number of states to visit at most.
@@ -114,13 +125,16 @@ pub(crate) fn orders_options(
         return Err(OptionFault::Exclude("--dot", "--outcomes"));
     }
     match script_of(alloc, matches) {
-        Ok(plan) => Ok(Options::Orders {
-            plan,
+        Ok(test) => Ok(Options::Orders(OrdersOptions {
+            test,
             most,
             witness,
             brief,
             dot,
-        }),
+            lenient: is_on(matches, "lenient"),
+            has_frames: text_of(matches, "frames").is_some(),
+            has_size: text_of(matches, "page-size").is_some(),
+        })),
         Err(fault) => Err(fault),
     }
 }

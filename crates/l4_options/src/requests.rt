@@ -16,13 +16,31 @@ pub struct ScriptOptions {
 }
 
 /// A step list with another kernel's answers. It must have the steps and queries of the list in the file `against`, if one is named, and this
-/// kernel's answer to each; if `partial`, they may be without answers. If `all`, every difference is reported.
+/// kernel's answer to each; if `partial`, they may be without answers. If `all`, every difference is reported; if `follow`, with the last calls of
+/// the threads that its step names.
 #[derive(Debug, Drop)]
 pub struct JudgeOptions {
     pub list: ScriptOptions,
     pub against: Option<String>,
     pub partial: bool,
     pub all: bool,
+    pub follow: bool,
+}
+
+/// A litmus test whose orders are searched, after visiting at most this many states. Prints every outcome that some order of the threads'
+/// calls can have, without the orders if `brief`; or only the script that produces outcome `witness`, if there is one; or the graph of the
+/// states if `dot`; then `witness` and `brief` are not set. If `lenient`, a line before `unordered` may be refused. `has_frames` and `has_size`
+/// say whether the command line has the number of frames and their size.
+#[derive(Debug, Drop)]
+pub struct OrdersOptions {
+    pub test: ScriptOptions,
+    pub has_frames: bool,
+    pub has_size: bool,
+    pub most: u32,
+    pub witness: Option<u32>,
+    pub brief: bool,
+    pub dot: bool,
+    pub lenient: bool,
 }
 
 /// What the command line of `l4` requests.
@@ -90,16 +108,8 @@ pub enum Options {
         write: bool,
         lenient: bool,
     },
-    /// Prints every outcome that some order of the calls of a plan's threads can have, after visiting at most this many states. Prints only
-    /// the script that produces outcome `witness`, if there is one, leaves out the orders if `brief`, and prints the graph of the states
-    /// instead if `dot`; then `witness` and `brief` are not set.
-    Orders {
-        plan: ScriptOptions,
-        most: u32,
-        witness: Option<u32>,
-        brief: bool,
-        dot: bool,
-    },
+    /// Searches all orders of a litmus test.
+    Orders(OrdersOptions),
     /// Prints these words.
     Encode(ArrayVec<u32, MAX_WORDS>),
     /// Prints this text: the usage, or the version.

@@ -149,6 +149,16 @@ pub(crate) fn all_option<'a>(alloc: Global) -> Arg<'a>
         .action(ArgAction::SetTrue)
 }
 
+/// The option `--follow`.
+pub(crate) fn follow_option<'a>(alloc: Global) -> Arg<'a>
+    ensures { IsRule (switch (codes "follow")) result }
+{
+    Arg::new(alloc, "follow")
+        .long("follow")
+        .help("Report the last calls of a step's threads with each difference")
+        .action(ArgAction::SetTrue)
+}
+
 /// One or more words.
 pub(crate) fn words_argument<'a>(
     alloc: Global,

@@ -1,7 +1,7 @@
 -- Answers that report that the history is full.
-use Rattle.std.proofs.Common.{◌≡◌, ◌⊎◌, ℕ, ◌+◌, ◌<◌, get_or, take, drop, ◌||◌, Bool, true, false, if◌then◌else◌, List, [], ◌∷◌, ◌++◌, length, Option, Some, None, Result, Ok, Err, codes, bytes_eq, refl, sym, ap, subst, ◌∙◌, inl, inr, arith, append_assoc, append-nil}
-use Rattle.std.specs.List.{list_any}
-use Rattle.std.specs.Prelude.{IsErrAnd, MatchResult}
+use Rattle.std.proofs.Common.{◌≡◌, ◌⊎◌, ℕ, ◌+◌, ◌<◌, get_or, take, drop, ◌||◌, Bool, true, false, if◌then◌else◌, List, [], ◌∷◌, ◌++◌, length, Option, Some, None, Result, Ok, Err, codes, bytes_eq, refl, sym, ap, subst, ◌∙◌, inl, inr, append_assoc}
+use Rattle.l4_shell.specs.Room.{says_full, any_full}
+use Rattle.std.specs.Prelude.{Contains, IsErrAnd, MatchResult}
 use Rattle.std.specs.Option.{option_to_list}
 use Rattle.std.proofs.lemmas.List.{take_more, take-append-drop}
 use Rattle.l4_fpage.specs.declared.sizes.PageSize.{PageSize}
@@ -12,21 +12,23 @@ use Rattle.l4_commands.specs.Requests.{asked_at}
 use Rattle.l4_shell.specs.ByLines.{state_of, IsFirst}
 use Rattle.l4_shell.specs.declared.by_lines.ScriptRun.{ScriptRun}
 use Rattle.l4_shell.specs.Sessions.{State, AnswersLine}
+use Rattle.l4_merges.specs.Orders.{IsSound}
+use Rattle.l4_merges.specs.declared.found.Found.{Found}
 use Rattle.l4_merges.specs.declared.machine.Failure.{Failure}
 use Rattle.l4_merges.specs.declared.machine.Failure.TheVariants.{Memory as OutOfMemory, Full}
 use Rattle.l4_orders.specs.declared.lacking.Lack.{Lack}
 use Rattle.l4_orders.specs.declared.lacking.Lack.TheVariants.{Nothing, Memory, History}
-use Rattle.l4_orders.specs.declared.plans.Block.{Block}
 use Rattle.l4_orders.specs.declared.plans.Plan.{Plan}
 use Rattle.l4_orders.specs.declared.plans.PlanLine.{PlanLine}
-use Rattle.l4_orders.specs.Filling.{is_full, FillsFrom, FillsScript, FillsHistory}
+use Rattle.l4_orders.specs.Filling.{FillsFrom, FillsScript, FillsBy, FillsHistory}
+use Rattle.l4_orders.specs.Orders.{IsStart}
 use Rattle.l4_orders.specs.Inside.Executed.{Executed}
 use Rattle.l4_orders.specs.Inside.Lacking.{lack_of_code, lack_of, then_lack, first_lack}
 use Rattle.l4_orders.specs.Plans.{gone_after, line_at}
 use Rattle.l4_orders.specs.Telling.{lines_from, lines_of_order}
-use Rattle.l4_orders.specs.Turns.{AnswersInTurn}
+use Rattle.l4_orders.specs.Turns.{PlanPoint, may_turn, Turns, HasOutcome, AnswersInTurn}
 use Rattle.l4_orders.proofs.InTurn.{in_turn_more, in_turn_both}
-use Rattle.l4_orders.proofs.Turning.{lines_more}
+use Rattle.l4_orders.proofs.Turning.{lines_more, lines_both}
 
 -- THE FIRST LACK
 
@@ -45,7 +47,7 @@ by_code name h = cases (bytes_eq name (codes "NoMemory")) (bytes_eq name (codes 
   cases false true e = refl
   cases false false e = absurd (no_history Nothing e)
 
-full_report : (report : Report) → lack_of report ≡ History → is_full report ≡ true
+full_report : (report : Report) → lack_of report ≡ History → says_full report ≡ true
 full_report (RefusedLine line refusal) h = by_code refusal.name h
 full_report (UnreadLine size names line refusal bytes) h = absurd (no_history Nothing h)
 full_report (RefusedAct thread refusal) h = by_code refusal.name h
@@ -73,19 +75,19 @@ or_right false b h = h
 or_left : (a b : Bool) → a ≡ true → (a || b) ≡ true
 or_left a b h = ap (λ (c : Bool). c || b) h
 
-then_full : (lack : Lack) (report : Report) (told : List Report) → then_lack lack (lack_of report) ≡ History → (lack ≡ History) ⊎ (list_any is_full (report ∷ told) ≡ true)
-then_full Nothing report told h = inr (or_left (is_full report) (list_any is_full told) (full_report report h))
+then_full : (lack : Lack) (report : Report) (told : List Report) → then_lack lack (lack_of report) ≡ History → (lack ≡ History) ⊎ (any_full (report ∷ told) ≡ true)
+then_full Nothing report told h = inr (or_left (says_full report) (any_full told) (full_report report h))
 then_full Memory report told h = absurd (no_history Memory h)
 then_full History report told h = inl refl
 
-first_full : (lack : Lack) (told : List Report) → first_lack lack told ≡ History → (lack ≡ History) ⊎ (list_any is_full told ≡ true)
+first_full : (lack : Lack) (told : List Report) → first_lack lack told ≡ History → (lack ≡ History) ⊎ (any_full told ≡ true)
 first_full lack [] h = inl h
 first_full lack (report ∷ told) h = elim (first_full (then_lack lack (lack_of report)) told h) [
   | inl here ↦ then_full lack report told here
-  | inr later ↦ inr (or_right (is_full report) (list_any is_full told) later)
+  | inr later ↦ inr (or_right (says_full report) (any_full told) later)
 ]
 
-pub reports_full : (told : List Report) → first_lack Nothing told ≡ History → list_any is_full told ≡ true
+pub reports_full : (told : List Report) → first_lack Nothing told ≡ History → any_full told ≡ true
 reports_full told h = elim (first_full Nothing told h) [
   | inl none ↦ absurd (no_history Nothing none)
   | inr full ↦ full
@@ -93,13 +95,13 @@ reports_full told h = elim (first_full Nothing told h) [
 
 -- THE BEGINNING OF LINES
 
-full_later : (told more : List Report) → list_any is_full more ≡ true → list_any is_full (told ++ more) ≡ true
+full_later : (told more : List Report) → any_full more ≡ true → any_full (told ++ more) ≡ true
 full_later [] more h = h
-full_later (report ∷ told) more h = or_right (is_full report) (list_any is_full (told ++ more)) (full_later told more h)
+full_later (report ∷ told) more h = or_right (says_full report) (any_full (told ++ more)) (full_later told more h)
 
 -- the answer to the line behind those that were executed
 full_line : (s m new : State) (first number : ℕ) (lines later : List PlanLine) (line : PlanLine) (more : List Report) → Executed s m first number lines
-    → AnswersLine m number (asked_at m.session.machine.size m.names Whole line.bytes.items) more new → list_any is_full more ≡ true → FillsFrom s first ((lines ++ line ∷ []) ++ later)
+    → AnswersLine m number (asked_at m.session.machine.size m.names Whole line.bytes.items) more new → any_full more ≡ true → FillsFrom s first ((lines ++ line ∷ []) ++ later)
 full_line s m new first number lines later line more x answer full = record {
   first = lines ++ line ∷ [];
   later = later;
@@ -112,7 +114,7 @@ full_line s m new first number lines later line more x answer full = record {
 
 -- an answer to a line with these bytes
 abbrev pub IsFullAt : State → ℕ → List ℕ → State → Type 0
-IsFullAt m number bytes new = (told : List Report) × AnswersLine m number (asked_at m.session.machine.size m.names Whole bytes) told new × (list_any is_full told ≡ true)
+IsFullAt m number bytes new = (told : List Report) × AnswersLine m number (asked_at m.session.machine.size m.names Whole bytes) told new × (any_full told ≡ true)
 
 -- a line of a list that a loop goes through
 pub full_next : (s m new : State) (first number : ℕ) (lines : List PlanLine) (i : ℕ) (line : PlanLine) (bytes : List ℕ) → i < length lines → line ≡ get_or lines i line → bytes ≡ line.bytes.items
@@ -124,54 +126,58 @@ full_next s m new first number lines i line bytes lt item same x full =
     (subst (λ (b : List ℕ). AnswersLine m number (asked_at m.session.machine.size m.names Whole b) full.0 new) same full.1) full.2)
 
 -- a line of an order that a loop goes through
-pub full_turn : (plan : Plan) (s m new : State) (first number : ℕ) (gone order now : List ℕ) (i : ℕ) (line : PlanLine) (bytes : List ℕ) → bytes ≡ line.bytes.items
+pub full_turn : (plan : Plan) (s m new : State) (first number : ℕ) (gone order now : List ℕ) (i : ℕ) (line : PlanLine) (bytes : List ℕ) → i < length order → bytes ≡ line.bytes.items
     → Executed s m first number (lines_from plan.blocks.items gone (take i order)) → now ≡ gone_after gone (take i order) → Some line ≡ line_at plan.blocks.items now (get_or order i 0)
-    → IsFullAt m number bytes new → (part : List ℕ) × FillsFrom s first (lines_from plan.blocks.items gone part)
-full_turn plan s m new first number gone order now i line bytes same x now_is some full = (
-  take i order ++ get_or order i 0 ∷ [],
-  subst (λ (l : List PlanLine). FillsFrom s first l)
-      (append-nil (lines_from plan.blocks.items gone (take i order) ++ line ∷ [])
-      ∙ sym (lines_more plan.blocks.items gone (take i order) (get_or order i 0)
-      ∙ ap (λ (o : Option PlanLine). lines_from plan.blocks.items gone (take i order) ++ option_to_list o) (ap (λ (g : List ℕ). line_at plan.blocks.items g (get_or order i 0)) (sym now_is) ∙ sym some)))
-      (full_line s m new first number (lines_from plan.blocks.items gone (take i order)) [] line full.0 x
-      (subst (λ (b : List ℕ). AnswersLine m number (asked_at m.session.machine.size m.names Whole b) full.0 new) same full.1) full.2),
-)
+    → IsFullAt m number bytes new → FillsFrom s first (lines_from plan.blocks.items gone order)
+full_turn plan s m new first number gone order now i line bytes lt same x now_is some full =
+    let blocks = plan.blocks.items in
+    let ahead = drop (i + 1) order in
+    let here : lines_from blocks gone (take (i + 1) order) ≡ lines_from blocks gone (take i order) ++ line ∷ [] =
+    ap (λ (o : List ℕ). lines_from blocks gone o) (take_more order i 0 lt) ∙ lines_more blocks gone (take i order) (get_or order i 0)
+    ∙ ap (λ (o : Option PlanLine). lines_from blocks gone (take i order) ++ option_to_list o) (ap (λ (g : List ℕ). line_at blocks g (get_or order i 0)) (sym now_is) ∙ sym some) in
+    let whole : lines_from blocks gone order ≡ (lines_from blocks gone (take i order) ++ line ∷ []) ++ lines_from blocks (gone_after gone (take (i + 1) order)) ahead =
+    ap (λ (o : List ℕ). lines_from blocks gone o) (sym (take-append-drop (i + 1) order)) ∙ lines_both blocks gone (take (i + 1) order) ahead
+    ∙ ap (λ (l : List PlanLine). l ++ lines_from blocks (gone_after gone (take (i + 1) order)) ahead) here in
+    subst (λ (l : List PlanLine). FillsFrom s first l) (sym whole)
+    (full_line s m new first number (lines_from blocks gone (take i order)) (lines_from blocks (gone_after gone (take (i + 1) order)) ahead) line full.0 x
+    (subst (λ (b : List ℕ). AnswersLine m number (asked_at m.session.machine.size m.names Whole b) full.0 new) same full.1) full.2)
 
 -- SCRIPTS
 
--- the lines before `unordered` fill it
-pub full_first : (plan : Plan) (s : State) (lines : List PlanLine) → lines ≡ plan.first.items → FillsFrom s 1 lines → FillsScript s plan
-full_first plan s lines is x = (
-  [],
-  record {
-    first = x.first;
-    later = x.later;
-    parts = append-nil plan.first.items ∙ sym is ∙ x.parts;
-    told = x.told;
-    last = x.last;
-    answers = x.answers;
-    full = x.full;
-  },
-)
+-- the lines before `unordered` fill it, whatever follows
+pub full_first : (plan : Plan) (s : State) (lines : List PlanLine) (order : List ℕ) → lines ≡ plan.first.items → FillsFrom s 1 lines → FillsScript s plan order
+full_first plan s lines order is x = record {
+  first = x.first;
+  later = x.later ++ lines_of_order plan order;
+  parts = ap (λ (l : List PlanLine). l ++ lines_of_order plan order) (sym is ∙ x.parts) ∙ append_assoc x.first x.later (lines_of_order plan order);
+  told = x.told;
+  last = x.last;
+  answers = x.answers;
+  full = x.full;
+}
 
 -- those of an order fill it
-pub full_order : (plan : Plan) (s m : State) (number : ℕ) (lines : List PlanLine) → lines ≡ plan.first.items → Executed s m 1 number lines → (part : List ℕ) × FillsFrom m number (lines_of_order plan part) → FillsScript s plan
-full_order plan s m number lines is x (part, y) = (
-  part,
-  record {
-    first = plan.first.items ++ y.first;
-    later = y.later;
-    parts = ap (λ (l : List PlanLine). plan.first.items ++ l) y.parts ∙ sym (append_assoc plan.first.items y.first y.later);
-    told = x.told ++ y.told;
-    last = y.last;
-    answers = in_turn_both s m y.last 1 number plan.first.items y.first x.told y.told (subst (λ (l : List PlanLine). AnswersInTurn s 1 l x.told m) is x.answers)
-        (x.number_is ∙ ap (λ (l : List PlanLine). 1 + length l) is) y.answers;
-    full = full_later x.told y.told y.full;
-  },
-)
+pub full_order : (plan : Plan) (s m : State) (number : ℕ) (lines : List PlanLine) (order : List ℕ) → lines ≡ plan.first.items → Executed s m 1 number lines → FillsFrom m number (lines_of_order plan order) → FillsScript s plan order
+full_order plan s m number lines order is x y = record {
+  first = plan.first.items ++ y.first;
+  later = y.later;
+  parts = ap (λ (l : List PlanLine). plan.first.items ++ l) y.parts ∙ sym (append_assoc plan.first.items y.first y.later);
+  told = x.told ++ y.told;
+  last = y.last;
+  answers = in_turn_both s m y.last 1 number plan.first.items y.first x.told y.told (subst (λ (l : List PlanLine). AnswersInTurn s 1 l x.told m) is x.answers)
+      (x.number_is ∙ ap (λ (l : List PlanLine). 1 + length l) is) y.answers;
+  full = full_later x.told y.told y.full;
+}
 
-pub full_from_boot : (frames : ℕ) (size : PageSize) (plan : Plan) (run : ScriptRun) (s : State) → IsFirst frames size run → s ≡ state_of run → FillsScript s plan → FillsHistory frames size plan
-full_from_boot frames size plan run s x same fills = (x.0, x.1, x.2, subst (λ (v : State). FillsScript v plan) (same ∙ x.3) fills)
+pub full_from_boot : (frames : ℕ) (size : PageSize) (plan : Plan) (order : List ℕ) (run : ScriptRun) (s : State) → IsFirst frames size run → s ≡ state_of run → FillsScript s plan order → FillsBy frames size plan order
+full_from_boot frames size plan order run s x same fills = (x.0, x.1, x.2, subst (λ (v : State). FillsScript v plan order) (same ∙ x.3) fills)
+
+-- that of an order that was found fills it
+pub full_found : (frames : ℕ) (size : PageSize) (plan : Plan) (start : PlanPoint) (found shown : List Found) → IsStart frames size plan start → IsSound may_turn Turns HasOutcome start found → shown ≡ found
+    → (one : Found) × Contains shown one × FillsBy frames size plan one.order.items → FillsHistory frames size plan
+full_found frames size plan start found shown starts sound same filled =
+    let order = sound filled.0 (subst (λ (l : List Found). Contains l filled.0) same filled.1) in
+    inr (record { start = start; starts = starts; turns = filled.0.order.items; end = order.0; run = order.1.run; fills = filled.2 })
 
 -- ERRORS THAT ARE PASSED ON
 

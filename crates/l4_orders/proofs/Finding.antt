@@ -19,7 +19,7 @@ on_ok (Err e) f h = tt
 pub finds_orders : (frames : ℕ) (size : PageSize) (plan : Plan) (most : ℕ) (start : PlanPoint) (explored : Explored) → IsStart frames size plan start
     → All (IsWitness frames size plan) explored.found.items → IsSound may_turn Turns HasOutcome start explored.found.items → AreDistinct explored.found.items
     → OnOk explored.ended (CountsOrders may_turn Turns start explored.orders) → OnOk explored.ended (IsComplete may_turn Turns HasOutcome start explored.found.items)
-    → OnOk explored.ended (IsGraph may_turn Turns next_line HasOutcome start explored.found.items explored.seen.items explored.start) → CountsStates most explored
+    → OnOk explored.ended (IsGraph may_turn Turns next_line HasOutcome start explored.found.items explored.seen.items explored.start) → CountsStates start most explored
     → FindsOrders frames size plan most explored
 finds_orders frames size plan most start explored starts witnesses sound distinct counts complete drawn states = record {
   start = start;

@@ -7,7 +7,7 @@ use Rattle.l4_ipc.proofs.OneState.{same_value}
 use Rattle.l4_text.specs.declared.lines.Ending.TheVariants.{Whole}
 use Rattle.l4_answers.specs.Reports.{Report}
 use Rattle.l4_commands.specs.Requests.{asked_at}
-use Rattle.l4_shell.specs.Inside.Alike.{AreAlike}
+use Rattle.l4_shell.specs.Alike.{AreAlike}
 use Rattle.l4_shell.specs.Sessions.{State, AnswersLine, first_state}
 use Rattle.l4_shell.proofs.OneState.{one_answered, line_in_order}
 use Rattle.l4_determined.specs.Inside.InOrder.{IsInOrder}

@@ -21,7 +21,7 @@ use Rattle.l4_orders.specs.declared.plans.Plan.{Plan}
 use Rattle.l4_orders.specs.declared.plans.PlanLine.{PlanLine}
 use Rattle.l4_orders.specs.Inside.Executed.{Executed}
 use Rattle.l4_orders.specs.Inside.Laws.{IsInStep}
-use Rattle.l4_orders.specs.Inside.Words.{HasWords}
+use Rattle.l4_orders.specs.Words.{HasWords}
 use Rattle.l4_orders.specs.Orders.{IsStart}
 use Rattle.l4_orders.specs.Telling.{lines_of_order}
 use Rattle.l4_orders.specs.Witnesses.{IsRunTo, IsOutcomeOf, IsWitness}

@@ -14,6 +14,13 @@ pub gone_more : (gone order : List ℕ) (place : ℕ) → gone_after gone (order
 gone_more gone [] place = refl
 gone_more gone (p ∷ order) place = gone_more (gone_with gone p) order place
 
+-- the lines of turns that follow others
+pub lines_both : (blocks : List Block) (gone order later : List ℕ) → lines_from blocks gone (order ++ later) ≡ lines_from blocks gone order ++ lines_from blocks (gone_after gone order) later
+lines_both blocks gone [] later = refl
+lines_both blocks gone (p ∷ order) later =
+    ap (λ (l : List PlanLine). option_to_list (line_at blocks gone p) ++ l) (lines_both blocks (gone_with gone p) order later)
+    ∙ sym (append_assoc (option_to_list (line_at blocks gone p)) (lines_from blocks (gone_with gone p) order) (lines_from blocks (gone_after (gone_with gone p) order) later))
+
 pub lines_more : (blocks : List Block) (gone order : List ℕ) (place : ℕ)
     → lines_from blocks gone (order ++ place ∷ []) ≡ lines_from blocks gone order ++ option_to_list (line_at blocks (gone_after gone order) place)
 lines_more blocks gone [] place = append-nil (option_to_list (line_at blocks gone place))

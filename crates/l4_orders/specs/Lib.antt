@@ -8,5 +8,6 @@ pub mod Files
 pub mod Telling
 pub mod Rules
 pub mod Witnesses
+pub mod Words
 pub mod Filling
 pub mod Inside

@@ -1,5 +1,5 @@
 -- The outcomes of all orders of a plan (this profile's own).
-use Rattle.std.specs.Prelude.{◌≡◌, ℕ, ◌≤◌, length, min, Err, OnOk, List}
+use Rattle.std.specs.Prelude.{◌≡◌, ℕ, ◌≤◌, length, Err, OnOk, List}
 use Rattle.std.specs.List.{All}
 use Rattle.l4_fpage.specs.declared.sizes.PageSize.{PageSize}
 use Rattle.l4_ipc.specs.Machine.{Machine, IsBoot}
@@ -8,9 +8,10 @@ use Rattle.l4_shell.specs.Lacking.{LacksNothing}
 use Rattle.l4_shell.specs.Sessions.{State, first_state}
 use Rattle.l4_merges.specs.declared.exploring.Explored.{Explored}
 use Rattle.l4_merges.specs.declared.exploring.GaveUp.TheVariants.{Bound}
-use Rattle.l4_merges.specs.Graphs.{IsGraph}
-use Rattle.l4_merges.specs.Orders.{IsRun, IsOrder, IsFound, IsSound, AreDistinct, AreOrders, FindsEnd, most_orders}
+use Rattle.l4_merges.specs.Graphs.{IsGraph, AreToldApart}
+use Rattle.l4_merges.specs.Orders.{IsRun, IsOrder, IsFound, IsSound, AreDistinct, AreOrders, FindsEnd, Visits}
 use Rattle.l4_orders.specs.declared.plans.Plan.{Plan}
+use Rattle.l4_orders.specs.Words.{HasWords}
 use Rattle.l4_orders.specs.Plans.{none_gone}
 use Rattle.l4_orders.specs.Reading.{IsRead}
 use Rattle.l4_orders.specs.Witnesses.{IsWitness}
@@ -36,19 +37,22 @@ abbrev pub FindsAll : PlanPoint → Explored → Type 0
 FindsAll start explored =
     (order : List ℕ) (end : PlanPoint) (outcome : List ℕ) → IsOrder may_turn Turns start order end → HasOutcome end outcome → IsFound explored.found.items outcome
 
--- this is the number of all orders, or the greatest number that is counted if there are more
+-- this is the number of all orders
 abbrev pub CountsAll : PlanPoint → Explored → Type 0
 CountsAll start explored =
-    (orders : List (List ℕ)) × AreOrders may_turn Turns start orders × (explored.orders ≡ min (length orders) most_orders)
+    (orders : List (List ℕ)) × AreOrders may_turn Turns start orders × (explored.orders ≡ length orders)
 
 -- the graph has a state for each one that an order reaches, and its turns, each with the line that is executed
 abbrev pub DrawsAll : PlanPoint → Explored → Type 0
 DrawsAll start explored = IsGraph may_turn Turns next_line HasOutcome start explored.found.items explored.seen.items explored.start
 
--- The search visited at most this many states: this many if it ended for that reason. If every order was followed, it visited the states of the graph.
-pub record CountsStates (most : ℕ) (explored : Explored) : Type 0 where
+-- The number of states is that of different words of states that orders reach. It is at most this one, and this one if the search ended for that
+-- reason. If every order was followed, it is that of the states of the graph, no two of which have the same words.
+pub record CountsStates (start : PlanPoint) (most : ℕ) (explored : Explored) : Type 0 where
+  pub visits : Visits may_turn Turns HasWords start explored.states
   pub few : explored.states ≤ most
   pub all : OnOk explored.ended (explored.states ≡ length explored.seen.items)
+  pub apart : OnOk explored.ended (AreToldApart explored.seen.items)
   pub bound : explored.ended ≡ Err Bound → explored.states ≡ most
 
 -- Each outcome has an order that produces it, whose script is a run with this outcome, and none was found twice. If the search ended by itself, an outcome of every order was found,
@@ -63,7 +67,7 @@ pub record FindsOrders (frames : ℕ) (size : PageSize) (plan : Plan) (most : �
   pub all : OnOk explored.ended (IsRead size plan → FindsAll start explored)
   pub counted : OnOk explored.ended (CountsAll start explored)
   pub drawn : OnOk explored.ended (DrawsAll start explored)
-  pub states : CountsStates most explored
+  pub states : CountsStates start most explored
 
 -- a state that an order of the plan reaches has one outcome, if the plan was read from a file
 abbrev pub OneOutcome : Type 0

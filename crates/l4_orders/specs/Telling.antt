@@ -2,6 +2,7 @@
 use Rattle.std.specs.Prelude.{ℕ, ◌+◌, ◌==◌, Bool, if◌then◌else◌, List, [], ◌∷◌, ◌++◌, length, map, Result, Ok, Err, codes, decimal}
 use Rattle.std.specs.List.{flat_map}
 use Rattle.std.specs.Option.{option_to_list}
+use Rattle.l4_naturals.specs.Numerals.{numeral}
 use Rattle.l4_merges.specs.declared.exploring.Explored.{Explored}
 use Rattle.l4_merges.specs.declared.exploring.GaveUp.{GaveUp}
 use Rattle.l4_merges.specs.declared.exploring.GaveUp.TheVariants.{Bound, Memory, Full}
@@ -51,6 +52,10 @@ outcomes_text plan brief number (one ∷ found) = outcome_text plan brief number
 abbrev pub counted_text : ℕ → List ℕ → List ℕ
 counted_text number name = decimal number ++ name ++ (if number == 1 then [] else codes "s")
 
+-- the number of orders, whatever its size
+abbrev pub orders_counted : ℕ → List ℕ
+orders_counted number = numeral number ++ codes " order" ++ (if number == 1 then [] else codes "s")
+
 -- why the search ended early: it visited as many states as it may, memory ran out, or the history of an order is full
 abbrev pub reason_text : GaveUp → List ℕ
 reason_text Bound = codes ", incomplete: most\n"
@@ -59,7 +64,7 @@ reason_text Full = codes ", incomplete: history\n"
 
 -- the numbers of outcomes, orders and states, or why the search ended early
 abbrev pub ended_text : Result (Unit {0}) GaveUp → ℕ → ℕ → List ℕ
-ended_text (Ok u) orders states = codes ", " ++ counted_text orders (codes " order") ++ codes ", " ++ counted_text states (codes " state") ++ codes "\n"
+ended_text (Ok u) orders states = codes ", " ++ orders_counted orders ++ codes ", " ++ counted_text states (codes " state") ++ codes "\n"
 ended_text (Err why) orders states = codes ", " ++ counted_text states (codes " state") ++ reason_text why
 
 abbrev pub summary_text : Explored → List ℕ

@@ -1,14 +1,14 @@
 //! Executes lines of a plan one after another, and reads the answers to its queries.
-ghost use Rattle.std.specs.Prelude.{◌≡◌, ◌+◌, ℕ, List, true, None, MatchResult};
-ghost use Rattle.std.specs.List.{list_any};
+ghost use Rattle.std.specs.Prelude.{◌≡◌, ◌+◌, List, true, None, MatchResult};
 ghost use Rattle.l4_answers.specs.Reports.{Report};
 ghost use Rattle.l4_commands.specs.Requests.{asked_at};
 ghost use Rattle.l4_shell.specs.ByLines.{state_of};
+ghost use Rattle.l4_shell.specs.Room.{any_full};
 ghost use Rattle.l4_shell.specs.Sessions.{AnswersLine};
 ghost use Rattle.l4_sinks.specs.Texts.{AreAnswerTexts};
 ghost use Rattle.l4_text.specs.declared.lines.Ending.TheVariants.{Whole};
 ghost use Rattle.l4_orders.specs.Turns.{AnswersWell, AnswersInTurn};
-ghost use Rattle.l4_orders.specs.Filling.{is_full, FillsFrom};
+ghost use Rattle.l4_orders.specs.Filling.{FillsFrom};
 ghost use Rattle.l4_orders.specs.Inside.Executed.{Executed};
 ghost use Rattle.l4_orders.specs.Plans.{gone_after, none_gone};
 ghost use Rattle.l4_orders.specs.Telling.{lines_of_order};
@@ -27,7 +27,7 @@ pub(crate) fn execute(script: &mut ScriptRun, line: u64, bytes: &[u8]) -> Result
         (λ _. AnswersWell (state_of script.old) line bytes.now (state_of script.new))
         (λ why. why ≡ Failure.Full → (told : List Report)
         × AnswersLine (state_of script.old) line (asked_at (state_of script.old).session.machine.size (state_of script.old).names Whole bytes.now) told (state_of script.new)
-        × (list_any is_full told ≡ true)) }
+        × (any_full told ≡ true)) }
 {
     let mut sink = Lacking::new();
     script.answer_line(line, Ending::Whole, bytes, &mut sink);
@@ -79,8 +79,7 @@ pub(crate) fn execute_order(
         (λ r. Executed (state_of script.old) (state_of script.new) first r.0
         (lines_of_order plan.now order.now)
         × (r.1.items ≡ gone_after (none_gone plan.now) order.now))
-        (λ why. why ≡ Failure.Full → (part : List ℕ)
-        × FillsFrom (state_of script.old) first (lines_of_order plan.now part)) }
+        (λ why. why ≡ Failure.Full → FillsFrom (state_of script.old) first (lines_of_order plan.now order.now)) }
 {
     let Ok(mut gone) = plan.none_gone(alloc) else {
         return Err(Failure::Memory);

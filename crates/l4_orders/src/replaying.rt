@@ -1,9 +1,10 @@
 //! Executes the script of an order once more, from boot.
-ghost use Rattle.std.specs.Prelude.{◌≡◌, ◌≤◌, MatchResult};
+ghost use Rattle.std.specs.Prelude.{◌≡◌, ◌≤◌, Contains, MatchResult};
 ghost use Rattle.std.specs.List.{All};
 ghost use Rattle.l4_fpage.specs.Pages.{max_frames};
+ghost use Rattle.l4_merges.specs.declared.found.Found.{Found};
 ghost use Rattle.l4_shell.specs.ByLines.{state_of, IsFirst};
-ghost use Rattle.l4_orders.specs.Filling.{FillsScript, FillsHistory};
+ghost use Rattle.l4_orders.specs.Filling.{FillsScript, FillsBy};
 ghost use Rattle.l4_orders.specs.Witnesses.{IsRunTo, IsOutcomeOf, IsWitness};
 
 use crate::executing::{answers, execute_all, execute_order};
@@ -37,7 +38,7 @@ fn replayed(
 ) -> Result<Vec<u8>, Failure>
     ensures { MatchResult result
         (λ text. IsRunTo (state_of script.old) plan.now order.now text.items)
-        (λ why. why ≡ Failure.Full → FillsScript (state_of script.old) plan.now) }
+        (λ why. why ≡ Failure.Full → FillsScript (state_of script.old) plan.now order.now) }
 {
     let first = execute_all(script, 1, plan.first.as_slice())?;
     let (line, gone) = execute_order(alloc, script, first, plan, order)?;
@@ -60,7 +61,7 @@ fn replay(
     requires { frames ≤ max_frames }
     ensures { MatchResult result
         (λ text. IsOutcomeOf frames size plan.now order.now text.items)
-        (λ why. why ≡ Failure.Full → FillsHistory frames size plan.now) }
+        (λ why. why ≡ Failure.Full → FillsBy frames size plan.now order.now) }
 {
     let mut script = booted(alloc, frames, size)?;
     replayed(alloc, &mut script, plan, order)
@@ -78,7 +79,7 @@ pub(crate) fn replay_all(
     requires { frames ≤ max_frames }
     ensures { MatchResult result
         (λ _. All (IsWitness frames size plan.now) found.now)
-        (λ why. why ≡ Failure.Full → FillsHistory frames size plan.now) }
+        (λ why. why ≡ Failure.Full → (one : Found) × Contains found.now one × FillsBy frames size plan.now one.order.items) }
 {
     for one in found {
         let outcome = replay(alloc, frames, size, plan, one.order.as_slice())?;

@@ -1,7 +1,7 @@
 //! A script between two lines, with the lines that each thread has left.
 ghost use Rattle.std.specs.Prelude.{◌≡◌, IfOk};
 ghost use Rattle.l4_shell.specs.ByLines.{state_of, unread};
-ghost use Rattle.l4_orders.specs.Inside.Words.{HasWords};
+ghost use Rattle.l4_orders.specs.Words.{HasWords};
 
 use crate::executing::{answers, execute, next_number};
 use crate::plans::{Plan, advance};
@@ -72,7 +72,8 @@ impl<'a> PlanState<'a> {
 
 impl<'a> Machine for PlanState<'a> {
     ghost use Rattle.l4_orders.specs.Turns.{may_turn, Turns, next_line, turns_left, HasOutcome};
-    ghost use Rattle.l4_orders.specs.Inside.Words.{HasWords, one_point};
+    ghost use Rattle.l4_orders.specs.Words.{HasWords};
+    ghost use Rattle.l4_orders.specs.Inside.Words.{one_point};
     ghost use Rattle.std.specs.Prelude.{length};
     ghost use Rattle.l4_orders.specs.Inside.Laws.{AreAkin, turn_within, turn_falls, own_point, turn_stays};
 

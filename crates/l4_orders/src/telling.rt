@@ -1,11 +1,12 @@
 //! Outcomes and witnesses as text.
 ghost use Rattle.std.specs.Prelude.{◌≡◌, ◌++◌, IfOk, OnOk};
 ghost use Rattle.std.specs.List.{flat_map};
-ghost use Rattle.l4_orders.specs.Telling.{lines_of_order, line_numbers, number_text, order_text, outcome_text, outcomes_text, counted_text, reason_text, ended_text, summary_text, orders_text, line_text, witness_text};
+ghost use Rattle.l4_orders.specs.Telling.{lines_of_order, line_numbers, number_text, order_text, outcome_text, outcomes_text, counted_text, orders_counted, reason_text, ended_text, summary_text, orders_text, line_text, witness_text};
 
 use crate::numbers::put_number;
 use crate::plans::{Plan, PlanLine, advance};
 use l4_merges::{Explored, Found, GaveUp};
+use l4_naturals::Natural;
 use std::alloc::{AllocError, Global};
 
 /// Appends a space and the number of a line.
@@ -121,6 +122,18 @@ fn put_count(alloc: Global, number: u64, name: &[u8], out: &mut Vec<u8>) -> Resu
     out.extend_from_slice(b"s")
 }
 
+/// Appends the number of orders, whatever its size.
+fn put_orders(orders: &Natural, out: &mut Vec<u8>) -> Result<(), AllocError>
+    ensures { OnOk result (out.new.items ≡ out.old.items ++ orders_counted orders.now) }
+{
+    orders.put_decimal(out)?;
+    out.extend_from_slice(b" order")?;
+    if orders.is_one() {
+        return Ok(());
+    }
+    out.extend_from_slice(b"s")
+}
+
 /// Returns why a search ended early, as the end of the summary.
 fn reason(why: GaveUp) -> &'static [u8]
     ensures { result.now ≡ reason_text why }
@@ -141,7 +154,7 @@ fn put_ended(alloc: Global, explored: &Explored, out: &mut Vec<u8>) -> Result<()
     out.extend_from_slice(b", ")?;
     match explored.ended {
         Ok(()) => {
-            put_count(alloc, explored.orders, b" order", out)?;
+            put_orders(&explored.orders, out)?;
             out.extend_from_slice(b", ")?;
             put_count(alloc, explored.states, b" state", out)?;
             out.extend_from_slice(b"\n")

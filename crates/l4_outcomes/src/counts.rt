@@ -12,7 +12,7 @@ pub struct SearchCounts {
     /// the history of an order was full.
     pub ended: u32,
     pub outcomes: u64,
-    /// 0 if the search ended early.
+    /// 0 if the search ended early, and 2^64 - 1 if there are more orders.
     pub orders: u64,
     pub states: u64,
 }
@@ -29,12 +29,12 @@ fn end_number(explored: &Explored) -> u32
     }
 }
 
-/// Returns the number of orders, or 0 if the search ended early.
+/// Returns the number of orders, at most 2^64 - 1, or 0 if the search ended early.
 fn counted_orders(explored: &Explored) -> u64
     ensures { result ≡ counted_orders explored.now.ended explored.now.orders }
 {
     match explored.ended {
-        Ok(()) => explored.orders,
+        Ok(()) => explored.orders.to_u64(),
         Err(_) => 0,
     }
 }

@@ -1,4 +1,4 @@
--- What is said of bytes that an editor may not show (this profile's own).
+-- What is said of bytes that an editor may not show, and of a comment where none is allowed (this profile's own).
 use Rattle.std.specs.Prelude.{ℕ, ◌==◌, nat_lt, Bool, false, List, [], ◌∷◌, ◌++◌, length, take, Option, Some, None, codes, bytes_eq, if◌then◌else◌}
 use Rattle.std.specs.List.{position}
 
@@ -7,6 +7,9 @@ is_tab byte = byte == 9
 
 abbrev pub is_return : ℕ → Bool
 is_return byte = byte == 13
+
+abbrev pub is_number_sign : ℕ → Bool
+is_number_sign byte = byte == 35
 
 -- whether a token begins with the byte order mark of UTF-8
 unfoldable pub has_mark : List ℕ → Bool
@@ -26,6 +29,9 @@ tab_hint token = where_found (position is_tab token) (codes "; the token has a t
 unfoldable pub return_hint : List ℕ → List ℕ
 return_hint token = where_found (position is_return token) (codes "; the token has a carriage return, but a newline alone ends a line")
 
--- a byte order mark in front, a tab, a carriage return: each that there is
+unfoldable pub comment_hint : List ℕ → List ℕ
+comment_hint token = where_found (position is_number_sign token) (codes "; a comment is a line whose first character is #")
+
+-- a byte order mark in front, a tab, a carriage return, a number sign: each that there is
 unfoldable pub hints : List ℕ → List ℕ
-hints token = mark_hint token ++ tab_hint token ++ return_hint token
+hints token = mark_hint token ++ tab_hint token ++ return_hint token ++ comment_hint token

@@ -1,7 +1,7 @@
-//! Bytes of a token that an editor may not show.
+//! Bytes of a token that an editor may not show, and comments where none are allowed.
 ghost use Rattle.std.specs.Prelude.{◌≡◌, ◌≤◌, ◌+◌, ◌++◌, length};
 ghost use Rattle.std.specs.List.{position};
-ghost use Rattle.l4_reasons.specs.Hints.{is_tab, is_return, has_mark, mark_hint, tab_hint, return_hint, hints};
+ghost use Rattle.l4_reasons.specs.Hints.{is_tab, is_return, is_number_sign, has_mark, mark_hint, tab_hint, return_hint, comment_hint, hints};
 ghost use Rattle.l4_reasons.specs.Sizes.{reason_bytes};
 
 use crate::reasons::Reason;
@@ -32,6 +32,13 @@ fn first_return(token: &[u8]) -> Option<usize>
     ensures { result ≡ position is_return token.now }
 {
     token.iter().position(|b| *b == b'\r')
+}
+
+/// Where the first number sign is.
+fn first_number_sign(token: &[u8]) -> Option<usize>
+    ensures { result ≡ position is_number_sign token.now }
+{
+    token.iter().position(|b| *b == b'#')
 }
 
 /// What is said of a token that begins with a byte order mark.
@@ -70,13 +77,26 @@ fn return_hint(token: &[u8]) -> &'static [u8]
     }
 }
 
+/// What is said of a token that has a number sign.
+#[tactic(auto, unfolding(crate::specs::Hints::comment_hint))]
+fn comment_hint(token: &[u8]) -> &'static [u8]
+    ensures value { result.now ≡ comment_hint token.now }
+    ensures short { length result.now ≤ 60 }
+{
+    match first_number_sign(token) {
+        Some(_) => b"; a comment is a line whose first character is #",
+        None => b"",
+    }
+}
+
 /// Adds what is said of a token's bytes.
 #[tactic(auto, unfolding(crate::specs::Hints::hints))]
 pub(crate) fn add_hints(reason: &mut Reason, token: &[u8])
-    requires { length reason.old + 240 ≤ reason_bytes }
+    requires { length reason.old + 300 ≤ reason_bytes }
     ensures { reason.new ≡ reason.old ++ hints token.now }
 {
     reason.add(mark_hint(token));
     reason.add(tab_hint(token));
     reason.add(return_hint(token));
+    reason.add(comment_hint(token));
 }

@@ -98,8 +98,8 @@ pub fn line_reason(line: u64) -> Reason
     reason
 }
 
-/// Returns why a line can't be read whose token of this number, from 1, is wrong: `line LINE: token NUMBER "TOKEN": expected EXPECTED`, and what
-/// an editor may not show of the token.
+/// Returns why a line can't be read whose token of this number, from 1, is wrong: `line LINE: token NUMBER "TOKEN": expected EXPECTED`, what an
+/// editor may not show of the token, and where comments are allowed if it has a number sign.
 #[tactic(auto, unfolding(crate::specs::Reasons::token_says))]
 pub fn token_reason(line: u64, number: u64, token: &[u8], expected: &[u8]) -> Reason
     requires { length expected.now ≤ 160 }
@@ -116,8 +116,8 @@ pub fn token_reason(line: u64, number: u64, token: &[u8], expected: &[u8]) -> Re
     reason
 }
 
-/// Returns why a line can't be read whose token of this number, from 1, is almost right: `line LINE: token NUMBER "TOKEN": WHY`, and what an
-/// editor may not show of the token.
+/// Returns why a line can't be read whose token of this number, from 1, is almost right: `line LINE: token NUMBER "TOKEN": WHY`, what an
+/// editor may not show of the token, and where comments are allowed if it has a number sign.
 #[tactic(auto, unfolding(crate::specs::Reasons::symbol_says))]
 pub fn symbol_reason(line: u64, number: u64, token: &[u8], why: &[u8]) -> Reason
     requires { length why.now ≤ 160 }

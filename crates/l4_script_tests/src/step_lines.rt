@@ -51,6 +51,7 @@ fn judges_to_the_first_difference_or_to_the_end(rt: HostRuntime) -> Result<(), F
             requests: None,
             partial: false,
             all,
+            calls: false,
         };
         let judged = judge(
             rt.alloc(),

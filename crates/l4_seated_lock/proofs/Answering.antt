@@ -79,13 +79,13 @@ module _ (a l : Lock) (view : a ≡ l) (seats read : List SeatState) (same : rea
       told_refusal call (Ok e) err = tt
       told_refusal call (Err e) err = (subst (λ (k : ℕ). Refuses l k call e) its_number (subst (λ (k : Lock). Refuses k before.number call e) view err.0), err.1 ∙ view)
 
-      pub after_take : (r : Option Reply) → IfSome r (λ reply. Takes a new before after (λ call. call) reply)
+      pub after_take : (r : Option Reply) → IfSome r (λ reply. Takes a new before after reply)
           → IfNone r ((new ≡ a) × (after ≡ before) × ((before.waiting ≡ 0) ⊎ (reply_waits a.books before.number ≡ false)))
           → Agree (slice_set seats at after) new.books
       after_take (Some reply) some none = taken_agree seats a new agree n at before after here was reply some
       after_take None some none = same_agree seats a new agree n at before after here was none.1 (ap (λ (k : Lock). k.books) none.0)
 
-      pub told_take : (r : Option Reply) → IfSome r (λ reply. Takes a new before after (λ call. call) reply) → IfSome r (TakesBySeat l new n)
+      pub told_take : (r : Option Reply) → IfSome r (λ reply. Takes a new before after reply) → IfSome r (TakesBySeat l new n)
       told_take (Some reply) some = subst (λ (k : Lock). TakesBySeat k new n reply) view (taken_told seats a new agree n at before after here was reply some)
       told_take None some = tt
 

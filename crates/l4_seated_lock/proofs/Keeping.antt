@@ -151,7 +151,7 @@ module _ (seats : List SeatState) (old new : Lock) (agree : Agree seats old.book
       record { before = before; after = after; was = seat_there; becomes = own.1; enters = enters; tells = t }
 
   -- A reply is taken
-  taken_seat : (reply : Reply) → Takes old new before after (λ call. call) reply → (after.number ≡ n) × (seat_at new.books n ≡ Some after)
+  taken_seat : (reply : Reply) → Takes old new before after reply → (after.number ≡ n) × (seat_at new.books n ≡ Some after)
   taken_seat reply t =
       let s = t.settles in
       let own = own_book old.books n before seat_there in
@@ -168,12 +168,12 @@ module _ (seats : List SeatState) (old new : Lock) (agree : Agree seats old.book
             (ap (option_map seat_of) (t.settled ∙ ap Some s.book_is) ∙ ap Some (same_seat (seat_of (record t.book { pending = None; receipts = t.book.receipts ++ receipt_of s.pending s.ended ∷ [] })) after number none receipts same)),
       )
 
-  pub taken_agree : (reply : Reply) → Takes old new before after (λ call. call) reply → Agree (slice_set seats at after) new.books
+  pub taken_agree : (reply : Reply) → Takes old new before after reply → Agree (slice_set seats at after) new.books
   taken_agree reply t = λ m.
       let own = taken_seat reply t in
       agree_again m own.0 own.1 (λ k ne. ap (option_map seat_of) (t.others k (λ is. ne (is ∙ number_there))))
 
-  pub taken_told : (reply : Reply) → Takes old new before after (λ call. call) reply → TakesBySeat old new n reply
+  pub taken_told : (reply : Reply) → Takes old new before after reply → TakesBySeat old new n reply
   taken_told reply t =
       let own = taken_seat reply t in
       record { before = before; after = after; was = seat_there; becomes = own.1; number = number_there; takes = t }

@@ -36,7 +36,7 @@ pub record TakesBySeat (old new : Lock) (n : ℕ) (reply : Reply) : Type 0 where
   pub was : seat_at old.books n ≡ Some before
   pub becomes : seat_at new.books n ≡ Some after
   pub number : before.number ≡ n
-  pub takes : Takes old new before after (λ call. call) reply
+  pub takes : Takes old new before after reply
 
 -- the reason why the provenance of a page is not found: entries were handed out (L8), or else the history cannot be replayed
 abbrev pub IsNotTraced : Lock → TraceFault → Type 0

@@ -24,7 +24,7 @@ use Rattle.l4_determined.proofs.OneNext.{one_end, next_in_order}
 use Rattle.l4_determined.specs.Memory.{NoneRanOut}
 use Rattle.l4_determined.proofs.OneAct.{one_act}
 use Rattle.l4_shell.specs.Lacking.{lacks_by_code, LacksNothing}
-use Rattle.l4_shell.specs.Inside.Alike.{AreAlike}
+use Rattle.l4_shell.specs.Alike.{AreAlike}
 use Rattle.l4_shell.proofs.Quiet.{nothing_parts, nothing_both, quiet_step, quiet_steps, not_entered}
 
 -- ONE CALL

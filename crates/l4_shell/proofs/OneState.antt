@@ -35,7 +35,7 @@ use Rattle.l4_commands.specs.declared.requests.Request.{Request}
 use Rattle.l4_commands.specs.declared.requests.Request.TheVariants.{Enter, CreateThread, EndThread, SendPlan, ListPages, TellParent, AddRegion, ServeThread, GiveName, TellReply, TellSteps, BeginUnordered, BeginFinally, StateRule}
 use Rattle.l4_determined.specs.Inside.InOrder.{IsInOrder}
 use Rattle.l4_shell.specs.Lacking.{lacks_by_code, LacksNothing}
-use Rattle.l4_shell.specs.Inside.Alike.{AreAlike}
+use Rattle.l4_shell.specs.Alike.{AreAlike}
 use Rattle.l4_commands.specs.declared.requests.Which.{Which}
 use Rattle.l4_commands.specs.declared.requests.Which.TheVariants.{Only, Message}
 use Rattle.l4_commands.specs.declared.partners.Partner.{Partner}

@@ -1,4 +1,3 @@
-pub mod Alike
 pub mod Scripts
 pub mod Telling
 pub mod Entering

@@ -1,3 +1,4 @@
+pub mod Alike
 pub mod ByLines
 pub mod Delegations
 pub mod Histories

@@ -1,4 +1,5 @@
 //! Laws of all scripts.
+ghost use Rattle.l4_shell.specs.Alike.{LeadsToOne};
 ghost use Rattle.l4_shell.specs.Room.{NeverFull};
 ghost use Rattle.l4_shell.specs.Sizes.{SizeStays};
 
@@ -12,4 +13,10 @@ pub fn the_size_of_pages_stays()
 /// answers without L1 that a script can have, it can also have if its history is handed out. It compiles to nothing.
 pub fn the_history_never_fills_up()
     ensures { NeverFull }
+{}
+
+/// Ghost function: gives a proof that a line leads to one machine, and to the same servers, seats and names, if no answer says that memory
+/// ran out or that the history is full. It compiles to nothing.
+pub fn a_line_leads_to_one_state()
+    ensures { LeadsToOne }
 {}

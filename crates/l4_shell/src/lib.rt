@@ -15,6 +15,6 @@ mod session;
 
 pub use by_lines::ScriptRun;
 pub use l4_text::RunFault;
-pub use laws::{the_history_never_fills_up, the_size_of_pages_stays};
+pub use laws::{a_line_leads_to_one_state, the_history_never_fills_up, the_size_of_pages_stays};
 pub use recording::record;
 pub use running::run;

@@ -14,7 +14,7 @@ use Rattle.l4_expectations.specs.declared.outcomes.Failure.{Failure}
 use Rattle.l4_expectations.specs.declared.outcomes.Failure.TheVariants.{Differs, Refused, NoExpectations, Malformed, Stopped}
 use Rattle.l4_expectations.specs.declared.outcomes.Passed.{Passed}
 use Rattle.l4_expectations.specs.declared.testing.Tested.{Tested}
-use Rattle.l4_expectations.specs.Expectations.{is_marked, expected_in, is_rest, expected_by, expected_below, refusal_in, HasAnswers, AreAsExpected}
+use Rattle.l4_expectations.specs.Expectations.{is_marked, expected_in, is_rest, compared_by, expected_by, expected_below, refusal_in, HasAnswers, AreAsExpected}
 use Rattle.l4_expectations.specs.declared.outcomes.Fault.TheVariants.{NoLine, AfterRest}
 use Rattle.l4_expectations.specs.Tests.{AgreesSoFar, Differ, EndsInput, FailsAt, FailsNext, IsClosed, IsWrong, is_ended, is_test}
 
@@ -63,7 +63,7 @@ pub record Compared (old : Tested) (answer : List ℕ) (new : Tested) : Type 0 w
   pub is : new.due ≡ Some after
   pub not_ended : is_ended before.stage ≡ false
   pub takes : Takes before answer after true
-  pub one_more : new.expectations ≡ old.expectations + 1
+  pub counted : new.expectations ≡ old.expectations + length (compared_by (Some answer))
   pub lenient : new.lenient ≡ old.lenient
 
 -- why an expected answer fails
@@ -150,7 +150,7 @@ pub record PassesAll (lenient : Bool) (first : State) (old new : Option (List �
   pub expectations : passed.expectations ≡ length (expected_by (lines_of all.read))
   pub some : is_test lenient passed.expectations ≡ true
 
--- but none expects anything
+-- but no answer was compared
 pub record NothingExpected (lenient : Bool) (first : State) (old new : Option (List ℕ)) : Type 0 where
   pub all : AllAsExpected lenient first old new
   pub strict : lenient ≡ false

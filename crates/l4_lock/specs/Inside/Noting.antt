@@ -3,7 +3,6 @@ use Rattle.std.specs.Prelude.{ℕ, ◌+◌, if◌then◌else◌, List, [], ◌�
 use Rattle.std.specs.Option.{option_map, option_map_or}
 use Rattle.l4_threads.specs.declared.Reply.{Reply}
 use Rattle.l4_threads.specs.declared.Reply.TheVariants.{Gone}
-use Rattle.l4_ipc.specs.declared.calls.Call.{Call}
 use Rattle.l4_ipc.specs.declared.steps.NextStep.{NextStep}
 use Rattle.l4_ipc.specs.NextSteps.{answer_of}
 use Rattle.l4_ipc.specs.Machine.{Machine}
@@ -27,10 +26,6 @@ noted_call m ended place number o =
 
 abbrev pub noted : Machine → List ℕ → ℕ → Book → Book
 noted m ended place b = record b { pending = option_map (noted_call m ended place b.number) b.pending }
-
--- the call that the seat passed, or the lock's copy if it passed none
-abbrev pub own_call : Option Call → Call → Call
-own_call own call = option_map_or (λ c. c) own call
 
 -- the books after the next steps are recorded in them; the entries of the steps begin at this place
 abbrev pub noted_steps : Machine → ℕ → List NextStep → List Book → List Book

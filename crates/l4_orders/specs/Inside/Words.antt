@@ -1,20 +1,12 @@
--- The words by which a state of a plan is recognized (this profile's own).
+-- The words of a state determine it (this profile's own).
 use Rattle.std.proofs.Common.{◌≡◌, ℕ, List, [], ◌++◌, sym, ◌∙◌, append-nil}
-use Rattle.l4_keys.specs.Keys.{AreOfKernel, AreOfServers}
 use Rattle.l4_keys.specs.Words.{counted, counts_words, names_words}
 use Rattle.l4_keys.proofs.Prefixes.{ends_counted, ends_counts, apart}
 use Rattle.l4_keys.proofs.Ends.{ends_names}
 use Rattle.l4_keys.proofs.Same.{same_kernel, same_servers}
 use Rattle.l4_orders.specs.Turns.{PlanPoint}
+use Rattle.l4_orders.specs.Words.{HasWords}
 use Rattle.l4_orders.specs.Inside.Laws.{AreAkin}
-
--- how many lines each thread has executed, the kernel, the servers, the numbers that have their seats, and the names
-pub record HasWords (p : PlanPoint) (key : List ℕ) : Type 0 where
-  pub kernel : List ℕ
-  pub of_kernel : AreOfKernel p.machine kernel
-  pub servers : List ℕ
-  pub of_servers : AreOfServers p.servers servers
-  pub are : key ≡ counts_words p.gone ++ kernel ++ servers ++ counted p.numbers ++ names_words p.names
 
 -- two states of one plan with the same words are one
 pub one_point : (p q : PlanPoint) (key : List ℕ) → AreAkin p q → HasWords p key → HasWords q key → p ≡ q

@@ -1,6 +1,5 @@
 use Rattle.std.proofs.Common.{None, ◌++◌, ◌∷◌, [], sym, ap, ◌∙◌}
-use Rattle.l4_ipc.specs.declared.calls.Call.{Call}
-use Rattle.l4_lock.specs.Books.{Book, book, receipt, receipt_of}
+use Rattle.l4_lock.specs.Books.{Book, book, receipt_of}
 use Rattle.l4_lock.proofs.seats.settle.Goals as goal
 
 pub returns-clause-some : goal.returns-clause-some
@@ -14,7 +13,6 @@ returns-clause-some c = record {
       ∙ ap (λ (b : Book). record b { pending = None; receipts = b.receipts ++ receipt_of c.in-Some.open c.in-Some-ended.ended ∷ [] }) c.account.view_is;
   number = c.receive.ensures.waiting.1;
   waiting = c.receive.ensures.waiting.0;
-  receipts = c.receive.ensures.receipts
-      ∙ ap (λ (call : Call). c.args.seat.now.receipts ++ receipt call c.in-Some.open.start c.in-Some-ended.ended ∷ []) c.known.ensures;
+  receipts = c.receive.ensures.receipts;
   kept_from = c.receive.ensures.kept_from;
 }

@@ -1,5 +1,6 @@
 use Rattle.std.proofs.Common.{◌≡◌, ℕ, ◌+◌, ◌<◌, length}
 use Rattle.l4_merges.specs.Graphs.{AreExplored, Grows, IsPlacedAt}
+use Rattle.l4_merges.specs.Inside.Tables.{IsIndexed, IsNotKnown}
 use Rattle.l4_merges.specs.Orders.{FindsOn}
 use Rattle.l4_merges.proofs.Covering.{FindsFrom}
 use Rattle.l4_merges.proofs.Counting.{CountsBelow}
@@ -23,5 +24,7 @@ invariant-loop-thread g l =
       from : (k : ℕ) → k < l.thread → FindsFrom enabled Turns HasOutcome l.state k l.search.found.items;
       edges : EdgesBelow enabled Turns g.M.Machine.name (IsPlacedAt HasKey l.search.seen.items) l.state l.thread l.edges.items;
       grows : Grows enabled Turns HasKey l.state l.fn.search.seen.items l.search.seen.items;
+      indexed : IsIndexed l.search.table l.search.seen.items;
+      new : IsNotKnown l.search.seen.items l.key.items;
       budget : l.search.budget + length l.search.seen.items + 1 ≡ l.fn.search.budget + length l.fn.search.seen.items;
     }

@@ -5,10 +5,11 @@ use Rattle.l4_options.proofs.Lines.{described, more}
 use Rattle.l4_options.proofs.commands.of_list.Goals as goal
 
 pub returns : goal.returns
-returns c = IfOk-weaker c.arg-6.result _ _ (λ new adds. more _ _ _ new _ (more _ _ _ _ _ (more _ _ _ _ _ (more _ _ _ _ _ (more _ _ _ _ _ (more _ _ _ _ _ (described (new_shape (codes "judge")) c.about.result c.after_help.result _ (described (new_shape (codes "judge")) c.new.result c.about.result _ (c.new.ensures.app, c.new.ensures.local) c.about.ensures refl refl) c.after_help.ensures refl refl)
+returns c = IfOk-weaker c.arg-7.result _ _ (λ new adds. more _ _ _ new _ (more _ _ _ _ _ (more _ _ _ _ _ (more _ _ _ _ _ (more _ _ _ _ _ (more _ _ _ _ _ (more _ _ _ _ _ (described (new_shape (codes "judge")) c.about.result c.after_help.result _ (described (new_shape (codes "judge")) c.new.result c.about.result _ (c.new.ensures.app, c.new.ensures.local) c.about.ensures refl refl) c.after_help.ensures refl refl)
     c.file_argument.ensures c.in_ok-arg.ensures)
     c.frames_option.ensures c.in_ok-arg-2.ensures)
     c.size_option.ensures c.in_ok-arg-3.ensures)
     c.against_option.ensures c.in_ok-arg-4.ensures)
     c.partial_option.ensures c.in_ok-arg-5.ensures)
-    c.all_option.ensures adds) c.arg-6.ensures
+    c.all_option.ensures c.in_ok-arg-6.ensures)
+    c.follow_option.ensures adds) c.arg-7.ensures

@@ -20,5 +20,5 @@ loop-place-preserved c = (
 pub returns-in_err-execute : goal.returns-in_err-execute
 returns-in_err-execute c =
     err_on c.from_residual.result _ _ _ c.from_residual.ensures.1
-    (λ full. full_turn c.args.plan.now _ _ _ _ _ _ c.args.order.now _ c.loop-place.place-index c.in-Some.line.now _ c.as_slice-in-Some.ensures.value c.loop-place.invariant.0 c.loop-place.invariant.1
+    (λ full. full_turn c.args.plan.now _ _ _ _ _ _ c.args.order.now _ c.loop-place.place-index c.in-Some.line.now _ c.loop-place-test.true c.as_slice-in-Some.ensures.value c.loop-place.invariant.0 c.loop-place.invariant.1
     (c.in-Some.ensures ∙ ap (λ g. line_at c.args.plan.now.blocks.items g (get_or c.args.order.now c.loop-place.place-index 0)) c.as_slice.ensures.value) (c.in_err-execute.ensures full))

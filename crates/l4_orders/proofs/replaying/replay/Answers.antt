@@ -9,4 +9,4 @@ pub returns : goal.returns
 returns c =
     MatchResult-weaker c.replayed.result c.replayed.ensures
     (λ text run. run_from_boot c.args.frames c.args.size c.args.plan.now c.in_ok-script.script.value (state_of c.deref_mut.result.now) c.args.order.now text.items c.in_ok-script.ensures (ap state_of c.deref_mut.ensures.value) run)
-    (λ why fills full. full_from_boot c.args.frames c.args.size c.args.plan.now c.in_ok-script.script.value (state_of c.deref_mut.result.now) c.in_ok-script.ensures (ap state_of c.deref_mut.ensures.value) (fills full))
+    (λ why fills full. full_from_boot c.args.frames c.args.size c.args.plan.now c.args.order.now c.in_ok-script.script.value (state_of c.deref_mut.result.now) c.in_ok-script.ensures (ap state_of c.deref_mut.ensures.value) (fills full))

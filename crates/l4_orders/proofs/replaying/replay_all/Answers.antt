@@ -1,6 +1,7 @@
-use Rattle.std.proofs.Common.{◌≡◌, refl, sym, ◌∙◌}
+use Rattle.std.proofs.Common.{◌≡◌, ℕ, List, refl, sym, subst, ◌∙◌}
 use Rattle.std.proofs.lemmas.Bool.Decides.{Decides-eqb}
 use Rattle.std.proofs.lemmas.Slice.Eq.{slice_eq-Decides}
+use Rattle.l4_orders.specs.Filling.{FillsBy}
 use Rattle.l4_orders.proofs.Filled.{err_on}
 use Rattle.l4_orders.proofs.Stepping.{witness_of, witness_more, witness_all}
 use Rattle.l4_orders.proofs.replaying.replay_all.Goals as goal
@@ -15,4 +16,6 @@ pub returns : goal.returns
 returns c = witness_all _ _ _ c.args.found.now c.loop-one.one-index c.loop-one-test.false c.loop-one.invariant
 
 pub returns-in_err-outcome : goal.returns-in_err-outcome
-returns-in_err-outcome c = err_on c.from_residual.result _ _ _ c.from_residual.ensures.1 c.in_err-outcome.ensures
+returns-in_err-outcome c =
+    err_on c.from_residual.result _ _ _ c.from_residual.ensures.1
+    (λ full. (c.one-item.result, (c.loop-one.one-index, c.loop-one-test.true, sym c.one-item.is), subst (λ (order : List ℕ). FillsBy c.args.frames c.args.size c.args.plan.now order) c.as_slice.ensures.value (c.in_err-outcome.ensures full)))

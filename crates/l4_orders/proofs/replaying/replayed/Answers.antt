@@ -16,8 +16,8 @@ returns-in-Ok c =
     c.in_ok-text.ensures.1 c.in_ok-text.ensures.2 (c.in-Ok.ensures ∙ (λ i. c.in_ok-text.text.items ++ stuck_lines (c.as_slice-blocks.ensures.value i) (c.as_slice-3.ensures.value i)))
 
 pub returns-in_err-first : goal.returns-in_err-first
-returns-in_err-first c = err_on c.from_residual.result _ _ _ c.from_residual.ensures.1 (λ full. full_first c.args.plan.now _ _ c.as_slice.ensures.value (c.in_err-first.ensures full))
+returns-in_err-first c = err_on c.from_residual.result _ _ _ c.from_residual.ensures.1 (λ full. full_first c.args.plan.now _ _ c.args.order.now c.as_slice.ensures.value (c.in_err-first.ensures full))
 
 pub returns-in_err-line : goal.returns-in_err-line
 returns-in_err-line c =
-    err_on c.from_residual-in_err-line.result _ _ _ c.from_residual-in_err-line.ensures.1 (λ full. full_order c.args.plan.now _ _ _ _ c.as_slice.ensures.value c.in_ok-first.ensures (c.in_err-line.ensures full))
+    err_on c.from_residual-in_err-line.result _ _ _ c.from_residual-in_err-line.ensures.1 (λ full. full_order c.args.plan.now _ _ _ _ c.args.order.now c.as_slice.ensures.value c.in_ok-first.ensures (c.in_err-line.ensures full))

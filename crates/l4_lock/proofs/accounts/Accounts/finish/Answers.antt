@@ -1,6 +1,4 @@
 use Rattle.std.proofs.Common.{arith}
-use Rattle.std.specs.Option.{option_copied}
-use Rattle.l4_lock.specs.Inside.Noting.{own_call}
 use Rattle.l4_lock.proofs.Counting.{settled_some, settled_told, unsettled_told}
 use Rattle.l4_lock.proofs.accounts.Accounts.finish.Goals as goal
 
@@ -9,13 +7,13 @@ returns-in_default-clause-none c = unsettled_told c.self.inside.items.items c.ar
 
 pub overflow_sub-self : goal.overflow_sub-self
 overflow_sub-self c =
-    let one = settled_some c.self.inside.items.items c.args.self.now c.self.view_is c.args.at c.index_mut.result.now c.requires.at c.index_mut.ensures.value c.settle.new.account c.self.inside.replies c.args.seat.now c.settle.new.seat (own_call (option_copied c.args.own)) c.in-Some.reply c.self.invariant c.in-Some.ensures.some in
+    let one = settled_some c.self.inside.items.items c.args.self.now c.self.view_is c.args.at c.index_mut.result.now c.requires.at c.index_mut.ensures.value c.settle.new.account c.self.inside.replies c.args.seat.now c.settle.new.seat c.in-Some.reply c.self.invariant c.in-Some.ensures.some in
     omega (arith, one)
 
 pub invariant_of-self-2 : goal.invariant_of-self-2
 invariant_of-self-2 c =
-    let one = settled_some c.self.inside.items.items c.args.self.now c.self.view_is c.args.at c.index_mut.result.now c.requires.at c.index_mut.ensures.value c.settle.new.account c.self.inside.replies c.args.seat.now c.settle.new.seat (own_call (option_copied c.args.own)) c.in-Some.reply c.self.invariant c.in-Some.ensures.some in
+    let one = settled_some c.self.inside.items.items c.args.self.now c.self.view_is c.args.at c.index_mut.result.now c.requires.at c.index_mut.ensures.value c.settle.new.account c.self.inside.replies c.args.seat.now c.settle.new.seat c.in-Some.reply c.self.invariant c.in-Some.ensures.some in
     omega (arith, one)
 
 pub returns-clause-some : goal.returns-clause-some
-returns-clause-some c = settled_told c.self.inside.items.items c.args.self.now c.self.view_is c.args.at c.index_mut.result.now c.requires.at c.index_mut.ensures.value c.settle.new.account c.args.seat.now c.settle.new.seat (own_call (option_copied c.args.own)) c.in-Some.reply c.in-Some.ensures.some
+returns-clause-some c = settled_told c.self.inside.items.items c.args.self.now c.self.view_is c.args.at c.index_mut.result.now c.requires.at c.index_mut.ensures.value c.settle.new.account c.args.seat.now c.settle.new.seat c.in-Some.reply c.in-Some.ensures.some

@@ -25,7 +25,7 @@ finish-requires-clause-at c =
 
 pub invariant_of-self : goal.invariant_of-self
 invariant_of-self c =
-    finished _ _ _ _ c.self.inside.accounts.items c.finish.new.self.items _ _ c.in-Ok.at c.wait_more-has_room.new.self c.finish.new.seat (λ call. call) c.finish.result c.self.invariant c.finish.ensures.some c.finish.ensures.none
+    finished _ _ _ _ c.self.inside.accounts.items c.finish.new.self.items _ _ c.in-Ok.at c.wait_more-has_room.new.self c.finish.new.seat c.finish.result c.self.invariant c.finish.ensures.some c.finish.ensures.none
 
 pub returns-in-Some-clause-ok : goal.returns-in-Some-clause-ok
 returns-in-Some-clause-ok c =

@@ -1,6 +1,6 @@
 use Rattle.std.proofs.Common.{ap, subst, rules, ◌∙◌}
 use Rattle.l4_shell.specs.ByLines.{state_of}
-use Rattle.l4_orders.specs.Inside.Words.{HasWords}
+use Rattle.l4_orders.specs.Words.{HasWords}
 use Rattle.l4_orders.specs.Turns.{PlanPoint, point}
 use Rattle.l4_orders.proofs.Stepping.{made_words}
 use Rattle.l4_orders.proofs.states.PlanState.words.Goals as goal

@@ -1,0 +1,199 @@
+//! `l4 orders`: every outcome that some order of the threads' calls can have.
+ghost use Rattle.std.specs.Prelude.{◌≡◌, ◌⊎◌, if◌then◌else◌, IfErr, MatchResult};
+ghost use Rattle.l4_litmus.specs.Statuses.{found_status, witness_status};
+ghost use Rattle.l4_options.specs.Ranges.{IsFrameCount};
+
+use crate::faults::{not_searched, report_fault};
+use crate::first_line::{WRONG_OPTIONS, options_line, options_of};
+use crate::progress::Progress;
+use crate::reading::read_test;
+use crate::statuses::ruled_status;
+use l4_options::{OrdersOptions, ScriptOptions};
+use l4_orders::{
+    Explored, Plan, graph_text, orders_text, rules_text, watched_orders, witness_text,
+};
+use l4_programs::{NOT_UNDERSTOOD, WatchedReader, WatchedWriter, stopped};
+use l4_text::RunFault;
+use std::alloc::{AllocError, Global};
+use std::io;
+use std::io::{ErrorKind, Read, Write};
+use std::time::Clock;
+
+/// Returns the text of the outcomes, of the summary, and of the rules that an outcome breaks.
+fn found_text(
+    alloc: Global,
+    plan: &Plan,
+    explored: &Explored,
+    brief: bool,
+) -> Result<Vec<u8>, AllocError> {
+    let mut text = orders_text(alloc, plan, explored, brief)?;
+    let broken = rules_text(alloc, plan, explored.found.as_slice())?;
+    text.extend_from_slice(broken.as_slice())?;
+    Ok(text)
+}
+
+/// Reports that the test has no outcome of this number. Returns the exit status.
+fn no_outcome(rt: &impl Eprint, number: u32, count: usize) -> u8
+    ensures { result ≡ 2 }
+{
+    let name = if count == 1 { "outcome" } else { "outcomes" };
+    let _ = eprintln!(rt; "error: --witness: there is no outcome {number}: {count} {name} found");
+    NOT_UNDERSTOOD
+}
+
+/// Prints a text. Returns the status, or that of a write that failed.
+fn print_text<R: Print + Eprint>(rt: &R, text: Result<Vec<u8>, AllocError>, status: u8) -> u8
+    ensures lacks { MatchResult text (λ _. (result ≡ status) ⊎ (result ≡ 3)) (λ _. result ≡ 4) }
+    ensures either { (result ≡ status) ⊎ ((result ≡ 3) ⊎ (result ≡ 4)) }
+{
+    let Ok(text) = text else {
+        return stopped(rt, RunFault::Memory, None, None);
+    };
+    let mut writer = WatchedWriter::new(io::writer(rt));
+    if writer.write_all(text.as_slice()).is_err() || writer.flush().is_err() {
+        return stopped(rt, RunFault::Write, None, writer.error());
+    }
+    status
+}
+
+/// Prints the script of the outcome with this number. Returns the exit status, which is 0 even if the outcome breaks a rule.
+fn print_witness<R: AllocGlobal + Print + Eprint>(
+    rt: &R,
+    plan: &Plan,
+    explored: &Explored,
+    number: u32,
+) -> u8
+    ensures { (result ≡ witness_status explored.now.found.items number)
+        ⊎ ((result ≡ 3) ⊎ (result ≡ 4)) }
+{
+    let index = number as usize;
+    if index == 0 || index > explored.found.len() {
+        return no_outcome(rt, number, explored.found.len());
+    }
+    let order = explored.found[index - 1].order.as_slice();
+    print_text(rt, witness_text(rt.alloc(), plan, order), 0)
+}
+
+/// Prints what is requested of a search. Returns the exit status.
+fn print_found<R: AllocGlobal + Print + Eprint>(
+    rt: &R,
+    plan: &Plan,
+    explored: &Explored,
+    asked: &OrdersOptions,
+) -> u8
+    ensures { (result ≡ found_status asked.now.witness plan.now explored.now)
+        ⊎ ((result ≡ 3) ⊎ (result ≡ 4)) }
+{
+    if let Some(number) = asked.witness {
+        return print_witness(rt, plan, explored, number);
+    }
+    let text = if asked.dot {
+        graph_text(rt.alloc(), explored)
+    } else {
+        found_text(rt.alloc(), plan, explored, asked.brief)
+    };
+    print_text(rt, text, ruled_status(plan, explored))
+}
+
+/// Searches all orders of the litmus test in this text by these options, and prints what is requested.
+fn search_text<R: AllocGlobal + Print + Eprint + Clock>(
+    rt: &R,
+    asked: &OrdersOptions,
+    script: &ScriptOptions,
+    terminal: bool,
+    text: &[u8],
+) -> u8
+    requires { IsFrameCount script.now.frames }
+{
+    let plan = match read_test(rt.alloc(), script, asked.lenient, text) {
+        Ok(plan) => plan,
+        Err(fault) => return report_fault(rt, None, &fault),
+    };
+    let searched = watched_orders(
+        rt.alloc(),
+        script.frames,
+        script.size,
+        &plan,
+        u64::from(asked.most),
+        &mut Progress::new(rt, terminal),
+    );
+    match searched {
+        Ok(explored) => print_found(rt, &plan, &explored, asked),
+        Err(failure) => not_searched(rt, failure),
+    }
+}
+
+/// Returns the options of a search: those of the command line, and each that is left out there as the file's first line has it.
+fn joined(asked: &OrdersOptions, own: ScriptOptions) -> ScriptOptions
+    requires given { IsFrameCount asked.now.test.frames }
+    requires own { IsFrameCount own.frames }
+    ensures range { IsFrameCount result.frames }
+    ensures frames { result.frames
+        ≡ (if asked.now.has_frames then asked.now.test.frames else own.frames) }
+    ensures size { result.size ≡ (if asked.now.has_size then asked.now.test.size else own.size) }
+{
+    ScriptOptions {
+        frames: if asked.has_frames {
+            asked.test.frames
+        } else {
+            own.frames
+        },
+        size: if asked.has_size {
+            asked.test.size
+        } else {
+            own.size
+        },
+        file: None,
+    }
+}
+
+/// Reads all bytes of a file. If a read fails, reports this and returns the exit status.
+fn whole_text<Q: Read, R: AllocGlobal + Eprint>(
+    rt: &R,
+    file: Option<&str>,
+    reader: &mut WatchedReader<Q>,
+) -> Result<Vec<u8>, u8>
+    ensures { IfErr result (λ status. (status ≡ 3) ⊎ (status ≡ 4)) }
+{
+    let mut text = Vec::new(rt.alloc());
+    match reader.read_to_end(&mut text) {
+        Ok(_) => Ok(text),
+        Err(error) => {
+            let fault = match error.kind() {
+                ErrorKind::OutOfMemory => RunFault::Memory,
+                _ => RunFault::Read,
+            };
+            Err(stopped(rt, fault, file, reader.error()))
+        }
+    }
+}
+
+/// Searches all orders of the litmus test that a reader gives, and prints what is requested, and the progress of the search if `terminal`,
+/// which says whether standard error is a terminal. Returns the exit status.
+#[inline(never)]
+pub fn print_orders<Q: Read, R: AllocGlobal + Print + Eprint + Clock>(
+    rt: &R,
+    asked: &OrdersOptions,
+    terminal: bool,
+    reader: &mut WatchedReader<Q>,
+) -> u8
+    requires { IsFrameCount asked.now.test.frames }
+{
+    let file = asked.test.file.as_deref();
+    let text = match whole_text(rt, file, reader) {
+        Ok(text) => text,
+        Err(status) => return status,
+    };
+    match options_of(rt.alloc(), text.as_slice()) {
+        Ok(Some(own)) => {
+            let script = joined(asked, own);
+            search_text(rt, asked, &script, terminal, text.as_slice())
+        }
+        Ok(None) => {
+            let number = options_line(text.as_slice());
+            let _ = eprintln!(rt; "error: line {number}: {WRONG_OPTIONS}");
+            NOT_UNDERSTOOD
+        }
+        Err(fault) => stopped(rt, fault, file, None),
+    }
+}

@@ -1,0 +1,121 @@
+//! Reads litmus tests: as `l4_orders` does, with the reasons why lines are refused.
+ghost use Rattle.std.specs.Prelude.{◌≤◌};
+ghost use Rattle.l4_options.specs.Ranges.{IsFrameCount};
+
+use crate::faults::TestFault;
+use l4_answers::{first_line, later_lines};
+use l4_fpage::PageSize;
+use l4_options::ScriptOptions;
+use l4_orders::{LineFault, Plan, PlanFault, PlanLine, read_plan};
+use l4_reasons::Reason;
+use l4_sinks::record_script;
+use l4_text::{RunFault, next_token};
+use std::alloc::{AllocError, Global};
+use std::io::Read;
+
+/// The command that gives a name.
+const NAME: &[u8] = b"name";
+
+/// Returns the reason why the first refused line of a script is refused. None if no line is.
+fn refusal_in<Q: Read>(
+    alloc: Global,
+    frames: u32,
+    size: PageSize,
+    reader: &mut Q,
+) -> Result<Option<Reason>, RunFault>
+    requires { IsFrameCount frames }
+{
+    let Some((_history, read)) = record_script(alloc, frames, size, true, reader) else {
+        return Err(RunFault::Memory);
+    };
+    match read {
+        Ok(ended) => Ok(ended.refused),
+        Err(fault) => Err(fault),
+    }
+}
+
+/// Appends the line of this number behind as many lines as there are before it, which only give names.
+fn put_alone(text: &[u8], number: u64, out: &mut Vec<u8>) -> Result<(), AllocError> {
+    let mut rest = text;
+    for _ in 1..number {
+        let line = first_line(rest);
+        if let Some((NAME, _)) = next_token(line) {
+            out.extend_from_slice(line)?;
+        }
+        out.extend_from_slice(b"\n")?;
+        rest = later_lines(rest);
+    }
+    let line = first_line(rest);
+    out.extend_from_slice(line)?;
+    if line.len() < rest.len() {
+        return out.extend_from_slice(b"\n");
+    }
+    Ok(())
+}
+
+/// Returns why the line of this number cannot be read: the token that is wrong, and what is expected. Lines before it give the names that it
+/// may use.
+fn unread(alloc: Global, size: PageSize, text: &[u8], number: u64) -> TestFault {
+    let mut alone = Vec::new(alloc);
+    if put_alone(text, number, &mut alone).is_err() {
+        return TestFault::Stopped(RunFault::Memory);
+    }
+    let mut reader = alone.as_slice();
+    match refusal_in(alloc, 1, size, &mut reader) {
+        Ok(Some(reason)) => TestFault::Refused(reason),
+        Ok(None) => TestFault::Malformed(number, LineFault::Unread),
+        Err(fault) => TestFault::Stopped(fault),
+    }
+}
+
+/// Returns the lines of a text up to the last one of these.
+fn up_to<'a>(lines: &[PlanLine], text: &'a [u8]) -> &'a [u8] {
+    let Some(last) = lines.last() else {
+        return &text[..0];
+    };
+    let mut rest = text;
+    for _ in 0..last.number {
+        rest = later_lines(rest);
+    }
+    &text[..text.len().saturating_sub(rest.len())]
+}
+
+/// Checks that no line before `unordered` is refused.
+fn check_setup(
+    alloc: Global,
+    script: &ScriptOptions,
+    plan: &Plan,
+    text: &[u8],
+) -> Result<(), TestFault>
+    requires { IsFrameCount script.now.frames }
+{
+    let mut setup = up_to(plan.first.as_slice(), text);
+    match refusal_in(alloc, script.frames, script.size, &mut setup) {
+        Ok(Some(reason)) => Err(TestFault::Refused(reason)),
+        Ok(None) => Ok(()),
+        Err(fault) => Err(TestFault::Stopped(fault)),
+    }
+}
+
+/// Reads a litmus test. A line before `unordered` may be refused if the search is lenient.
+pub fn read_test(
+    alloc: Global,
+    script: &ScriptOptions,
+    lenient: bool,
+    text: &[u8],
+) -> Result<Plan, TestFault>
+    requires { IsFrameCount script.now.frames }
+{
+    let mut reader = text;
+    let plan = match read_plan(alloc, script.size, &mut reader) {
+        Ok(plan) => plan,
+        Err(PlanFault::Malformed(number, LineFault::Unread)) => {
+            return Err(unread(alloc, script.size, text, number));
+        }
+        Err(fault) => return Err(TestFault::from(fault)),
+    };
+    if !lenient {
+        check_setup(alloc, script, &plan, text)?;
+    }
+    Ok(plan)
+}

@@ -1,0 +1,7 @@
+//! Natural numbers of any size.
+#![tactic(auto)]
+
+mod digits;
+mod naturals;
+
+pub use naturals::Natural;
