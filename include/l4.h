@@ -147,7 +147,7 @@ uint32_t l4_version(void);
 #define L4_B3 UINT32_C(0x4233) /* the kind of call is unknown */
 #define L4_B4 UINT32_C(0x4234) /* the page size must be 4,096 or 1,024 bytes */
 #define L4_B5 UINT32_C(0x4235) /* the line is not a step or query of a step list */
-#define L4_B6 UINT32_C(0x4236) /* the bytes are not a checkpoint */
+#define L4_B6 UINT32_C(0x4236) /* the bytes cannot be read as a checkpoint */
 #define L4_K1 UINT32_C(0x4B31) /* the step is not enabled: this transfer or expiry cannot happen now */
 #define L4_K2 UINT32_C(0x4B32) /* there is no thread with this number */
 #define L4_K3 UINT32_C(0x4B33) /* the thread's previous call has not ended yet */

@@ -13,7 +13,7 @@ kernel_texts =
     ∷ (codes "B3", codes "the kind of call is unknown")
     ∷ (codes "B4", codes "the page size must be 4,096 or 1,024 bytes")
     ∷ (codes "B5", codes "the line is not a step or query of a step list")
-    ∷ (codes "B6", codes "the bytes are not a checkpoint")
+    ∷ (codes "B6", codes "the bytes cannot be read as a checkpoint")
     ∷ (codes "K1", codes "the step is not enabled: this transfer or expiry cannot happen now")
     ∷ (codes "K2", codes "there is no thread with this number")
     ∷ (codes "K3", codes "the thread's previous call has not ended yet")

@@ -34,7 +34,7 @@ fn kernel_texts() -> [Text; 12]
         meaning(b"B3", b"the kind of call is unknown"),
         meaning(b"B4", b"the page size must be 4,096 or 1,024 bytes"),
         meaning(b"B5", b"the line is not a step or query of a step list"),
-        meaning(b"B6", b"the bytes are not a checkpoint"),
+        meaning(b"B6", b"the bytes cannot be read as a checkpoint"),
         meaning(
             b"K1",
             b"the step is not enabled: this transfer or expiry cannot happen now",
