@@ -90,15 +90,19 @@ table_texts =
 -- the codes of litmus tests, each with a line that says what it means
 abbrev pub order_texts : List (List ℕ × List ℕ)
 order_texts =
-    (codes "S2", codes "the line has too few tokens, too many, or an invalid one")
+    (codes "S1", codes "the command is unknown")
+    ∷ (codes "S2", codes "the line has too few tokens, too many, or an invalid one")
     ∷ (codes "S3", codes "the line is longer than 4,096 bytes")
     ∷ (codes "S4", codes "the line does not end with a newline")
+    ∷ (codes "S5", codes "the script already has 64 names")
     ∷ (codes "O1", codes "a litmus test has one unordered line, and after it at most one finally line")
     ∷ (codes "O2", codes "a query or a rule is allowed only after the finally line, and a name only before the unordered line")
     ∷ (codes "O3", codes "after the finally line, only show, parent, reply, never and always are allowed")
     ∷ (codes "O4", codes "steps is not allowed, because its answer depends on the whole order")
     ∷ (codes "O5", codes "no line creates the thread whose call this is")
     ∷ (codes "O6", codes "the litmus test has no unordered line")
+    ∷ (codes "O7", codes "no outcome can have the line that the rule names")
+    ∷ (codes "O8", codes "an expectation is not allowed in a litmus test: state a rule instead")
     ∷ []
 
 -- all codes

@@ -206,16 +206,18 @@ fn table_texts() -> [Text; 13]
 }
 
 /// Returns the refusals of a litmus test, by its lines.
-fn order_texts() -> [Text; 9]
+fn order_texts() -> [Text; 13]
     ensures { map bytes_of result ≡ order_texts }
 {
     [
+        meaning(b"S1", b"the command is unknown"),
         meaning(
             b"S2",
             b"the line has too few tokens, too many, or an invalid one",
         ),
         meaning(b"S3", b"the line is longer than 4,096 bytes"),
         meaning(b"S4", b"the line does not end with a newline"),
+        meaning(b"S5", b"the script already has 64 names"),
         meaning(
             b"O1",
             b"a litmus test has one unordered line, and after it at most one finally line",
@@ -234,6 +236,11 @@ fn order_texts() -> [Text; 9]
         ),
         meaning(b"O5", b"no line creates the thread whose call this is"),
         meaning(b"O6", b"the litmus test has no unordered line"),
+        meaning(b"O7", b"no outcome can have the line that the rule names"),
+        meaning(
+            b"O8",
+            b"an expectation is not allowed in a litmus test: state a rule instead",
+        ),
     ]
 }
 
