@@ -19,7 +19,7 @@ fn meaning(code: &'static [u8], line: &'static [u8]) -> Text
 }
 
 /// Returns the refusals of the library and of the kernel, and a failed allocation.
-fn kernel_texts() -> [Text; 12]
+fn kernel_texts() -> [Text; 13]
     ensures { map bytes_of result ≡ kernel_texts }
 {
     [
@@ -31,10 +31,14 @@ fn kernel_texts() -> [Text; 12]
             b"B2",
             b"the handle is not empty: free it before you use it again",
         ),
-        meaning(b"B3", b"the kind of call is unknown"),
+        meaning(
+            b"B3",
+            b"the kind of call is unknown, or a reserved member is not 0",
+        ),
         meaning(b"B4", b"the page size must be 4,096 or 1,024 bytes"),
         meaning(b"B5", b"the line is not a step or query of a step list"),
         meaning(b"B6", b"the bytes cannot be read as a checkpoint"),
+        meaning(b"B7", b"a number of entries exceeds 2^63"),
         meaning(
             b"K1",
             b"the step is not enabled: this transfer or expiry cannot happen now",
