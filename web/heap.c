@@ -31,10 +31,13 @@ static size grow(size pages) {
     return __builtin_wasm_memory_grow(0, pages);
 }
 
-// Grows the memory by at least this number of pages, and by more if it can.
+static size larger(size one, size other) { return one > other ? one : other; }
+
+// Grows the memory by at least this number of pages, and by a quarter of its size if it can: Firefox copies all of it each time.
 static size grown(size *pages) {
-    size asked = *pages, before;
-    if (*pages < STEP) *pages = STEP;
+    size asked = *pages, there = __builtin_wasm_memory_size(0), before;
+    *pages = larger(larger(asked, STEP), there / 4);
+    if (there + *pages > MOST_PAGES) *pages = larger(asked, MOST_PAGES - there);
     before = grow(*pages);
     if (before != NONE) return before;
     *pages = asked;

@@ -1,5 +1,6 @@
 // Random allocations by web/heap.c, in a memory that grows as that of a WebAssembly module does: some growths fail, and the host takes pages
-// in between. After each call, blocks that were given out must hold what was written to them. Prints the number of calls, or aborts.
+// in between. After each call, blocks that were given out must hold what was written to them. Then small blocks fill the memory to its limit,
+// in few growths. Prints the number of calls, or aborts.
 #define _GNU_SOURCE
 #include <stdio.h>
 #include <stdlib.h>
@@ -10,6 +11,7 @@
 static const unsigned long base = 1 << 16;
 static unsigned long page_count = 16;
 static int fails_now;
+static int growths;
 
 static unsigned long memory_size(int memory) {
     (void)memory;
@@ -20,6 +22,7 @@ static unsigned long memory_grow(int memory, unsigned long pages) {
     (void)memory;
     if (fails_now || page_count + pages > 1 << 14) return -1;
     page_count += pages;
+    growths += 1;
     return base + page_count - pages;
 }
 
@@ -87,11 +90,19 @@ static void call(void) {
     take(k, it, bytes);
 }
 
+// A growth may cost as much as the memory has bytes, so there may be few: with a quarter more each time, fewer than 40 from 1 MiB to 1 GiB.
+static void fill(void) {
+    fails_now = growths = 0;
+    while (rattle_alloc(100000, 1).ok) {}
+    test(page_count == MOST_PAGES, "memory below the limit that is never used");
+    test(growths < 40, "the memory grows in small steps");
+}
+
 int main(void) {
     void *memory = mmap((void *)(base * PAGE), (1ul << 14) * PAGE, PROT_READ | PROT_WRITE, MAP_PRIVATE | MAP_ANONYMOUS | MAP_NORESERVE | MAP_FIXED_NOREPLACE, -1, 0);
     test(memory == (void *)(base * PAGE), "no memory for the test");
     for (int i = 0; i < CALLS; i += 1) call();
-    fails_now = 1;
+    fill();
     test(!rattle_alloc(1ul << 50, 1).ok && !rattle_alloc(-1ul, 1).ok, "a block that no memory has");
     printf("%d calls\n", CALLS);
     return 0;
