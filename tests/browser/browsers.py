@@ -9,7 +9,8 @@ import subprocess
 import time
 import urllib.request
 
-WAIT = 60
+# after so many seconds a browser or a program hangs: far more than either takes on a slow and busy machine
+WAIT = 600
 MARGIN = 8
 NAMES = {"chromium": ("chromium", "chromium-browser", "google-chrome"), "firefox": ("firefox-esr", "firefox")}
 
@@ -56,7 +57,7 @@ class Socket:
                 return told
 
 
-def until(ask, *faults):
+def until(ask, *faults, what="an answer"):
     """The first answer that isn't a fault or nothing."""
     end = time.monotonic() + WAIT
     while time.monotonic() < end:
@@ -67,22 +68,24 @@ def until(ask, *faults):
         if answer:
             return answer
         time.sleep(0.02)
-    raise TimeoutError("the browser gives no answer")
+    raise TimeoutError(f"the browser hangs: {what} did not come within {WAIT} seconds")
 
 
 class Page:
-    """What both browsers do with a page, over `evaluate`."""
+    """What both browsers do with a page, over `evaluate`. Times are measured in all, and tested if `is_timed`."""
+
+    is_timed = False
 
     def open(self, address):
         self.visit("about:blank")
         self.visit(address)
-        until(lambda: self.evaluate("document.body?.dataset.shown"))
+        until(lambda: self.evaluate("document.body?.dataset.shown"), what=f"the first view of {address[:200]}")
 
     def does(self, action, counter="shown"):
         """Does what changes the page, and waits until it shows that."""
         before = self.evaluate(f"document.body.dataset.{counter} ?? '0'")
         self.evaluate(action)
-        until(lambda: self.evaluate(f"document.body.dataset.{counter}") not in (before, None))
+        until(lambda: self.evaluate(f"document.body.dataset.{counter}") not in (before, None), what=f"another {counter} after {action[:200]}")
 
     def click(self, place, counter="shown"):
         self.does(f"document.querySelector({json.dumps(place)}).dispatchEvent(new MouseEvent('click', {{bubbles: true}}))", counter)
