@@ -125,8 +125,8 @@ def run(words, given="", out=None, seconds=SECONDS, **settings):
     return Result(done.returncode, (done.stdout or b"").decode("latin-1"), done.stderr.decode("latin-1"))
 
 
-def run_open(words, given, seconds=5):
-    """Runs a program on a text, with its input left open behind it."""
+def run_open(words, given, seconds=SECONDS):
+    """Runs a program on a text, with its input left open behind it. One that waits for more input is ended after this time."""
     with subprocess.Popen([program(words[0]), *words[1:]], stdin=subprocess.PIPE, stdout=subprocess.PIPE, stderr=subprocess.PIPE, cwd=TOP) as process:
         process.stdin.write(given.encode("latin-1"))
         process.stdin.flush()

@@ -28,7 +28,7 @@ class Labs(unittest.TestCase):
 
     def send(self, method, path, body=None, **headers):
         """The status and the body of what is answered."""
-        connection = http.client.HTTPConnection("127.0.0.1", self.lab.server_port, timeout=60)
+        connection = http.client.HTTPConnection("127.0.0.1", self.lab.server_port, timeout=600)
         named = {name.replace("_", "-"): value for name, value in headers.items()}
         connection.request(method, path, body, named)
         answer = connection.getresponse()
