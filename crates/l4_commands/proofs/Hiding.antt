@@ -13,10 +13,10 @@ use Rattle.l4_fpage.specs.Rights.{RightsSet}
 use Rattle.l4_fpage.specs.declared.sizes.PageSize.{PageSize}
 use Rattle.l4_names.specs.Names.{Names, is_letter, is_name_byte, begins_with_letter, is_name}
 use Rattle.l4_symbols.specs.Computed.{fpage_word_in, window_word_in}
-use Rattle.l4_symbols.specs.Spelling.{cut_at, fpage_in, run_in, window_in, timeout_in, timeouts_in}
-use Rattle.l4_symbols.specs.Words.{timeouts_word}
+use Rattle.l4_symbols.specs.Spelling.{cut_at, control_in, fpage_in, id_in, id_number_in, run_in, window_in, timeout_in, timeouts_in}
+use Rattle.l4_symbols.specs.Words.{control_word, id_word, timeouts_word}
 use Rattle.l4_symbols.specs.declared.words.WordKind.{WordKind}
-use Rattle.l4_symbols.specs.declared.words.WordKind.TheVariants.{Fpage, Window, Timeouts}
+use Rattle.l4_symbols.specs.declared.words.WordKind.TheVariants.{Fpage, Window, Timeouts, Control, Id}
 use Rattle.l4_text.specs.Grammar.{◌>>=◌}
 use Rattle.l4_text.specs.Numbers.{number_of, decimal_of, hex_of, is_hex, digit_of, value_from, below}
 use Rattle.l4_commands.specs.declared.commands.ScriptFault.TheVariants.{UnknownCommand, BadTokens}
@@ -143,11 +143,21 @@ no_timeouts : (token : List ℕ) → IsNew token → result_ok (timeouts_word to
 unfolding timeouts_in timeout_in
 no_timeouts token new = rw (no_cut 44 token refl new, other (codes "never") token new refl, other (codes "zero") token new refl) refl
 
+no_control : (token : List ℕ) → IsNew token → result_ok (control_word token) ≡ None
+unfolding control_word control_in
+no_control token new = rw (no_cut 58 token refl new) refl
+
+no_id : (token : List ℕ) → IsNew token → result_ok (id_word token) ≡ None
+unfolding id_word id_in id_number_in
+no_id token new = rw (other (codes "nil") token new refl, other (codes "any") token new refl, no_cut 44 token refl new, no_number token new.letter) refl
+
 no_symbol : (kind : WordKind) (size : PageSize) (token : List ℕ) → IsNew token → symbol_of kind size token ≡ None
 unfolding symbol_of
 no_symbol Fpage size token new = rw (no_number token new.letter) (no_fpage size token new)
 no_symbol Window size token new = rw (no_number token new.letter) (no_window size token new)
 no_symbol Timeouts size token new = rw (no_number token new.letter) (no_timeouts token new)
+no_symbol Control size token new = rw (no_number token new.letter) (no_control token new)
+no_symbol Id size token new = rw (no_number token new.letter) (no_id token new)
 
 -- ---- rights
 

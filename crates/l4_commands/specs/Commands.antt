@@ -1,7 +1,7 @@
 -- The commands of a script, from the tokens of a line (this profile's own).
-use Rattle.std.specs.Prelude.{ℕ, ◌==◌, Bool, true, false, List, [], ◌∷◌, length, map, nat_le, slice_index, Option, Some, None, Result, Err, ok_or, if◌then◌else◌, codes}
+use Rattle.std.specs.Prelude.{ℕ, ◌==◌, ◌||◌, Bool, true, false, List, [], ◌∷◌, length, map, nat_le, slice_index, Option, Some, None, is_some, Result, Err, ok_or, if◌then◌else◌, codes}
 use Rattle.std.specs.Str.{bytes_eq}
-use Rattle.std.specs.List.{list_any}
+use Rattle.std.specs.List.{list_all, list_any}
 use Rattle.std.specs.Option.{option_map_or, option_or}
 use Rattle.std.specs.Result.{result_ok}
 use Rattle.l4_fpage.specs.Rights.{RightsSet}
@@ -25,9 +25,10 @@ use Rattle.l4_commands.specs.declared.commands.ScriptFault.TheVariants.{UnknownC
 use Rattle.l4_symbols.specs.Computed.{word_in}
 use Rattle.l4_symbols.specs.Rows.{message_words_in}
 use Rattle.l4_symbols.specs.declared.words.WordKind.{WordKind}
-use Rattle.l4_symbols.specs.declared.words.WordKind.TheVariants.{Fpage, Window, Timeouts}
+use Rattle.l4_symbols.specs.declared.words.WordKind.TheVariants.{Fpage, Window, Timeouts, Control}
 use Rattle.l4_text.specs.Grammar.{◌>>=◌}
 use Rattle.l4_text.specs.Numbers.{below, number_of}
+use Rattle.l4_unmap.specs.Unmap.{fpage_count}
 
 -- whether a token is this word
 abbrev pub is_word : List ℕ → List ℕ → Bool
@@ -73,6 +74,19 @@ each_fpage size (token ∷ tokens) = symbol_of Fpage size token >>= λ word. eac
 -- the words of fpages, at most as many as there are message registers
 unfoldable pub fpages_of : PageSize → List (List ℕ) → Option (List ℕ)
 fpages_of size tokens = if nat_le (length tokens) max_words then each_fpage size tokens else None
+
+-- whether a token is a number, and so the word itself
+abbrev pub is_number : List ℕ → Bool
+is_number token = is_some (number_of token)
+
+-- the control word and the fpages of an Unmap: if one of the tokens is symbolic, there are as many fpages as the control word counts
+abbrev pub counted : Bool → ℕ → List ℕ → Option (ℕ × List ℕ)
+counted plain control fpages = if plain || length fpages == fpage_count control then Some (control, fpages) else None
+
+unfoldable pub unmap_of : PageSize → List (List ℕ) → Option (ℕ × List ℕ)
+unmap_of size [] = None
+unmap_of size (token ∷ tokens) =
+    symbol_of Control size token >>= λ control. fpages_of size tokens >>= λ fpages. counted (list_all is_number (token ∷ tokens)) control fpages
 
 -- the words of a message: numbers, or symbolic tokens
 unfoldable pub words_of : PageSize → List (List ℕ) → Option (List ℕ)
@@ -145,7 +159,7 @@ commands_by new_name size names =
     -- part N TO K SOURCE TARGET COUNT RIGHTS: a thread sends the message with this number, from 0, of the region's plan to a partner
     ∷ (codes "part", (thread_of names ▹ partner_of names ▹ number_of ▹ all_by region_of) (λ n to k region. SendPlan n to (Message k) region))
     -- unmap N CONTROL FPAGE..: a thread revokes rights, by the control word and the fpages
-    ∷ (codes "unmap", (thread_of names ▹ number_of ▹ all_by (fpages_of size)) (λ n control words. Enter n (unmap_call control words)))
+    ∷ (codes "unmap", (thread_of names ▹ all_by (unmap_of size)) (λ n words. Enter n (unmap_call words.0 words.1)))
     -- show N FIRST COUNT: the present pages of a thread's space among this number of pages from a first one on
     ∷ (codes "show", (thread_of names ▹ number_of ▹ number_of ▹ no_more) ListPages)
     -- parent N PAGE: the parent of a page of a thread's space

@@ -11,7 +11,7 @@ use crate::naming::next_new_name;
 use crate::partners::{next_pager, next_partner, next_space, next_thread, next_word};
 use crate::regions::{last_rights, region};
 use crate::requests::{LentCall, ROOT, Request, Which, put_create, put_pager, put_unmap};
-use crate::symbols::read_fpages;
+use crate::symbols::read_unmap;
 use arrayvec::ArrayVec;
 use l4_fpage::PageSize;
 use l4_ipc::Call;
@@ -211,9 +211,8 @@ fn unmap<'a>(line: &[u8], size: PageSize, names: &Names, call: &'a mut Call) -> 
     ensures { result ≡ asked size names.now (codes "unmap") (tokens_of line.now) }
 {
     let (number, rest) = next_thread(line, names)?;
-    let (control, rest) = next_word(rest)?;
     let mut words = ArrayVec::new();
-    read_fpages(rest, size, &mut words)?;
+    let control = read_unmap(rest, size, &mut words)?;
     Some(Request::Enter(number, put_unmap(call, control, words)))
 }
 

@@ -19,3 +19,4 @@ pub use laws::{names_hide_no_word, names_stand_for_threads};
 pub use line_kinds::{LineKind, is_comment, read_kind};
 pub use partners::{NewSpace, Partner};
 pub use requests::{CallPlaces, LentCall, ROOT, Request, Which, delete_call, send_call};
+pub use symbols::{fpage_count, symbol};

@@ -1,9 +1,11 @@
 //! Reads words that may be symbolic tokens. A number is tried first.
 ghost use Rattle.std.specs.Prelude.{◌≡◌, [], MatchOption, option_map};
-ghost use Rattle.l4_commands.specs.Commands.{first_by, symbol_of, fpages_of, words_of};
+ghost use Rattle.std.specs.List.{list_all};
+ghost use Rattle.l4_commands.specs.Commands.{first_by, is_number, symbol_of, fpages_of, unmap_of, words_of};
 ghost use Rattle.l4_commands.specs.Inside.Symbols.{FirstFpage};
 ghost use Rattle.l4_symbols.specs.declared.words.WordKind.TheVariants.{Fpage};
 ghost use Rattle.l4_text.specs.Tokens.{tokens_of};
+ghost use Rattle.l4_unmap.specs.Unmap.{fpage_count};
 
 use arrayvec::ArrayVec;
 use l4_fpage::PageSize;
@@ -13,7 +15,7 @@ use l4_text::{next_number, next_token, number, quick_number};
 
 /// Reads a number, or the word that a symbolic token of this kind names.
 #[tactic(auto, unfolding(crate::specs::Commands::symbol_of))]
-pub(crate) fn symbol(kind: WordKind, token: &[u8], size: PageSize) -> Option<u32>
+pub fn symbol(kind: WordKind, token: &[u8], size: PageSize) -> Option<u32>
     ensures { result ≡ symbol_of kind size token.now }
 {
     if let Some(word) = number(token) {
@@ -132,11 +134,7 @@ fn next_fpage(line: &[u8], size: PageSize) -> Option<(Option<u32>, &[u8])>
 
 /// Reads fpages up to the end of the line into `fpages`, at most as many as there are message registers. Returns None if one cannot be read, or
 /// there are more.
-pub(crate) fn read_fpages(
-    line: &[u8],
-    size: PageSize,
-    fpages: &mut ArrayVec<u32, MAX_WORDS>,
-) -> Option<()>
+fn read_fpages(line: &[u8], size: PageSize, fpages: &mut ArrayVec<u32, MAX_WORDS>) -> Option<()>
     ensures { option_map (λ _. fpages.new.items) result ≡ fpages_of size (tokens_of line.now) }
 {
     fpages.clear();
@@ -156,4 +154,44 @@ pub(crate) fn read_fpages(
         None => Some(()),
         Some(_) => None,
     }
+}
+
+/// Returns whether each token of a line is a number.
+fn all_numbers(line: &[u8]) -> bool
+    ensures { result ≡ list_all is_number (tokens_of line.now) }
+{
+    let mut rest = line;
+    while let Some((token, after)) = next_token(rest) {
+        if number(token).is_none() {
+            return false;
+        }
+        rest = after;
+    }
+    true
+}
+
+/// Returns the number of fpages that the control word of an Unmap counts.
+pub fn fpage_count(control: u32) -> usize
+    ensures { result ≡ fpage_count control }
+{
+    (control % 64) as usize + 1
+}
+
+/// Reads the control word and the fpages of an Unmap up to the end of the line, the fpages into `fpages`. Returns None if a token cannot be
+/// read, if there are more fpages than message registers, or if a token is symbolic and there are not as many fpages as the control word counts.
+#[tactic(auto, unfolding(crate::specs::Commands::unmap_of))]
+pub(crate) fn read_unmap(
+    line: &[u8],
+    size: PageSize,
+    fpages: &mut ArrayVec<u32, MAX_WORDS>,
+) -> Option<u32>
+    ensures { option_map (λ control. (control, fpages.new.items)) result
+        ≡ unmap_of size (tokens_of line.now) }
+{
+    let (control, rest) = next_symbol(WordKind::Control, line, size)?;
+    read_fpages(rest, size, fpages)?;
+    if fpages.len() == fpage_count(control) || all_numbers(line) {
+        return Some(control);
+    }
+    None
 }

@@ -14,7 +14,7 @@ use Rattle.l4_decode.specs.Meanings.{Means}
 use Rattle.l4_decode.specs.declared.meanings.Meaning.{Meaning}
 use Rattle.l4_decode.specs.declared.meanings.Meaning.TheVariants.{Refused, Fault, Request, Plain}
 use Rattle.l4_decode.specs.declared.decoding.Reading.{Reading}
-use Rattle.l4_decode.specs.declared.decoding.Reading.TheVariants.{Each, Message, Fpage, Window, Id}
+use Rattle.l4_decode.specs.declared.decoding.Reading.TheVariants.{Each, Message, Fpage, Window, Id, Control}
 
 -- ---- one message is one fault, or one request
 
@@ -89,11 +89,13 @@ one_text size Each words s t a b = a ∙ sym b
 one_text size Fpage words s t a b = a ∙ sym b
 one_text size Window words s t a b = a ∙ sym b
 one_text size Id words s t a b = a ∙ sym b
+one_text size Control words s t a b = a ∙ sym b
 
 -- words that are read one by one
-pub alone : (size : PageSize) (reading : Reading) (words : List ℕ) → (reading ≡ Each) ⊎ ((reading ≡ Fpage) ⊎ ((reading ≡ Window) ⊎ (reading ≡ Id)))
+pub alone : (size : PageSize) (reading : Reading) (words : List ℕ) → (reading ≡ Each) ⊎ ((reading ≡ Fpage) ⊎ ((reading ≡ Window) ⊎ ((reading ≡ Id) ⊎ (reading ≡ Control))))
     → IsDecoded size reading words (words_text size reading words)
 alone size reading words (inl is) = subst (λ (r : Reading). IsDecoded size r words (words_text size r words)) (sym is) refl
 alone size reading words (inr (inl is)) = subst (λ (r : Reading). IsDecoded size r words (words_text size r words)) (sym is) refl
 alone size reading words (inr (inr (inl is))) = subst (λ (r : Reading). IsDecoded size r words (words_text size r words)) (sym is) refl
-alone size reading words (inr (inr (inr is))) = subst (λ (r : Reading). IsDecoded size r words (words_text size r words)) (sym is) refl
+alone size reading words (inr (inr (inr (inl is)))) = subst (λ (r : Reading). IsDecoded size r words (words_text size r words)) (sym is) refl
+alone size reading words (inr (inr (inr (inr is)))) = subst (λ (r : Reading). IsDecoded size r words (words_text size r words)) (sym is) refl

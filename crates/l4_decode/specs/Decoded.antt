@@ -4,6 +4,7 @@ use Rattle.l4_fpage.specs.declared.sizes.PageSize.{PageSize}
 use Rattle.l4_msg.specs.Messages.{tag_of}
 use Rattle.l4_msg.specs.Tags.{untyped_of, typed_of}
 use Rattle.l4_decode.specs.Spelling.{hex_text, each_text}
+use Rattle.l4_decode.specs.Controls.{control_line}
 use Rattle.l4_decode.specs.Fpages.{fpage_line, window_line}
 use Rattle.l4_decode.specs.Ids.{id_line}
 use Rattle.l4_decode.specs.Items.{item_line}
@@ -11,7 +12,7 @@ use Rattle.l4_decode.specs.Tags.{tag_line}
 use Rattle.l4_decode.specs.Meanings.{Means, whole_text}
 use Rattle.l4_decode.specs.declared.meanings.Meaning.{Meaning}
 use Rattle.l4_decode.specs.declared.decoding.Reading.{Reading}
-use Rattle.l4_decode.specs.declared.decoding.Reading.TheVariants.{Each, Message, Fpage, Window, Id}
+use Rattle.l4_decode.specs.declared.decoding.Reading.TheVariants.{Each, Message, Fpage, Window, Id, Control}
 
 -- The number of untyped words, of typed words, and of words after the message. If there are fewer words than the tag counts, the first of
 -- them are the untyped ones.
@@ -69,6 +70,7 @@ word_text size Message word = tag_line word
 word_text size Fpage word = fpage_line size word
 word_text size Window word = window_line size word
 word_text size Id word = id_line word
+word_text size Control word = control_line word
 
 -- the lines of words that are read one by one
 unfoldable pub words_text : PageSize → Reading → List ℕ → List ℕ
@@ -81,3 +83,4 @@ IsDecoded size Each words text = text ≡ words_text size Each words
 IsDecoded size Fpage words text = text ≡ words_text size Fpage words
 IsDecoded size Window words text = text ≡ words_text size Window words
 IsDecoded size Id words text = text ≡ words_text size Id words
+IsDecoded size Control words text = text ≡ words_text size Control words

@@ -1,3 +1,4 @@
+pub mod Controls
 pub mod Decoded
 pub mod Fpages
 pub mod Ids

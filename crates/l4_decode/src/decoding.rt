@@ -5,6 +5,7 @@ ghost use Rattle.l4_decode.specs.Decoded.{word_line, words_lines, items_lines, e
 ghost use Rattle.l4_decode.specs.Meanings.{Means, whole_text};
 ghost use Rattle.l4_text.specs.Streams.{Tells, WentOut};
 
+use crate::controls::control_line;
 use crate::fpages::{fpage_line, window_line};
 use crate::ids::id_line;
 use crate::items::tell_item;
@@ -29,6 +30,8 @@ pub enum Reading {
     Window,
     /// Each alone as a thread's id.
     Id,
+    /// Each alone as the control of an Unmap.
+    Control,
 }
 
 /// Returns the line of a word that is neither a tag nor part of an item, with its index among the words.
@@ -157,6 +160,7 @@ fn tell_word<W: Write>(
         Reading::Fpage => out.put(writer, &fpage_line(word, size)),
         Reading::Window => out.put(writer, &window_line(word, size)),
         Reading::Id => out.put(writer, &id_line(word)),
+        Reading::Control => out.put(writer, &control_line(word)),
     }
 }
 
@@ -184,9 +188,8 @@ fn tell<W: Write>(words: &[u32], reading: Reading, size: PageSize, out: &mut Out
 {
     match reading {
         Reading::Message => put_message(words, size, b"", out, writer),
-        Reading::Each | Reading::Fpage | Reading::Window | Reading::Id => {
-            tell_alone(words, reading, size, out, writer)
-        }
+        Reading::Each | Reading::Fpage | Reading::Window | Reading::Id | Reading::Control =>
+            tell_alone(words, reading, size, out, writer),
     }
 }
 

@@ -1,6 +1,7 @@
 //! The meaning of messages, fpages, receive windows and thread ids, as text.
 #![tactic(auto)]
 
+mod controls;
 mod decoding;
 mod fpages;
 mod ids;

@@ -175,7 +175,7 @@ Explains the words of a message, the tag first: one line for the tag, one for
 each untyped word and one for each item. The last line says what the message is
 as a whole. A single word is explained as a tag, as an fpage, as a receive window
 and as a thread id. With --as, the words are read as one message, or each of them
-as an fpage, a window or an id.
+as an fpage, a window, an id or the control of an Unmap.
 
   tag WORD: label L, flags F, untyped U, typed T
                              a tag: U untyped and T typed words follow it. The
@@ -194,6 +194,9 @@ as an fpage, a window or an id.
                              the number and version of a thread, or nilthread
                              or anythread. Local ids and anylocalthread are not
                              supported
+  control WORD: KIND, fpages K
+                             unmap, or flush if the caller's own pages lose the
+                             rights too, and the number of fpages; with --as only
   message: untyped U, items I
                              a message. A page fault is shown with its address,
                              instruction pointer and access instead, a request to
@@ -339,8 +342,7 @@ prefix. A shell takes > for a redirection, so put quotes around an item.
   grant:FIRST+COUNT>BASE:RIGHTS
                              a grant item
 
-With --as fpage, --as window or --as timeouts, each token stands for a word of its
-own (at most 64 tokens):
+With any other --as, each token stands for a word of its own (at most 64 tokens):
 
   --as fpage FIRST+COUNT:RIGHTS
                              an fpage, such as 16+4:rwx, for 'unmap'
@@ -349,6 +351,10 @@ own (at most 64 tokens):
   --as window FIRST+COUNT    accepts pages at COUNT pages that start at page FIRST
   --as timeouts SEND,RECEIVE the timeouts of a call, each of them never or zero. A
                              single never or zero sets both
+  --as control unmap:COUNT   the control of an Unmap with COUNT fpages (1 to 64)
+  --as control flush:COUNT   the same: the caller's own pages lose the rights too
+  --as id THREAD,VERSION     the id of a thread; THREAD alone has version 1
+  --as id nil, --as id any   nilthread, anythread
 
   l4 encode tag:7 1 2 'map:16+4>32:rwx' 'grant:3>0:r--'
   l4 encode --as window 32+4
@@ -396,9 +402,12 @@ lines that begin with #, are skipped.
   unmap N CONTROL FPAGE..
                          N revokes rights from the pages that were mapped from
                          its own. FPAGE is 16+4:rwx (4 pages from page 16 on,
-                         and the rights to revoke) or an fpage word. Bits 5 to 0
-                         of CONTROL are the number of fpages minus 1; bit 6
-                         revokes the rights from N's own pages too
+                         and the rights to revoke) or an fpage word. CONTROL is
+                         unmap:COUNT for COUNT fpages, or flush:COUNT to revoke
+                         the rights from N's own pages too. As a number, its bits
+                         5 to 0 are the number of fpages minus 1, and bit 6 is
+                         set for flush. If CONTROL or an FPAGE is no number,
+                         there must be COUNT fpages
   fault N ADDRESS IP RIGHTS
                          the instruction of N at IP accesses ADDRESS, both in
                          bytes. RIGHTS is the access (such as r--). If the page

@@ -14,9 +14,9 @@ use Rattle.l4_text.specs.Numbers.{below, digit_of, number_of, value_from}
 use Rattle.l4_symbols.specs.Messages.{IsMessageOf}
 use Rattle.l4_symbols.specs.Words.{NamesWord}
 use Rattle.l4_symbols.specs.declared.words.WordKind.{WordKind}
-use Rattle.l4_symbols.specs.declared.words.WordKind.TheVariants.{Fpage as AnFpage, Window as AWindow, Timeouts}
+use Rattle.l4_symbols.specs.declared.words.WordKind.TheVariants.{Fpage as AnFpage, Window as AWindow, Timeouts, Control as AControl, Id as AnId}
 use Rattle.l4_decode.specs.declared.decoding.Reading.{Reading}
-use Rattle.l4_decode.specs.declared.decoding.Reading.TheVariants.{Each, Message as AMessage, Fpage, Window, Id}
+use Rattle.l4_decode.specs.declared.decoding.Reading.TheVariants.{Each, Message as AMessage, Fpage, Window, Id, Control}
 use Rattle.l4_options.specs.declared.requests.ScriptOptions.{ScriptOptions}
 
 -- ---- words
@@ -74,7 +74,8 @@ reading_of word =
     if bytes_eq word (codes "message") then Some AMessage
     else (if bytes_eq word (codes "fpage") then Some Fpage
     else (if bytes_eq word (codes "window") then Some Window
-    else (if bytes_eq word (codes "id") then Some Id else None)))
+    else (if bytes_eq word (codes "id") then Some Id
+    else (if bytes_eq word (codes "control") then Some Control else None))))
 
 -- the name of what tokens are encoded as: words of this kind, or a message
 abbrev pub kind_of : Text → Option (Option WordKind)
@@ -82,7 +83,9 @@ kind_of word =
     if bytes_eq word (codes "message") then Some None
     else (if bytes_eq word (codes "fpage") then Some (Some AnFpage)
     else (if bytes_eq word (codes "window") then Some (Some AWindow)
-    else (if bytes_eq word (codes "timeouts") then Some (Some Timeouts) else None)))
+    else (if bytes_eq word (codes "timeouts") then Some (Some Timeouts)
+    else (if bytes_eq word (codes "control") then Some (Some AControl)
+    else (if bytes_eq word (codes "id") then Some (Some AnId) else None)))))
 
 -- the words spell these numbers, decimal or hexadecimal, one after another
 abbrev pub Spell : List Text → List ℕ → Type 0

@@ -22,7 +22,7 @@ fn kind_option<'a>(alloc: Global) -> Arg<'a>
     Arg::new(alloc, "as")
         .long("as")
         .value_name("KIND")
-        .help("What the tokens are: message, fpage, window or timeouts")
+        .help("What the tokens are: message, fpage, window, timeouts, control or id")
         .action(ArgAction::Set)
 }
 
@@ -131,6 +131,12 @@ fn kind_in(name: &str) -> Option<Option<WordKind>>
     }
     if is_word(name, "timeouts") {
         return Some(Some(WordKind::Timeouts));
+    }
+    if is_word(name, "control") {
+        return Some(Some(WordKind::Control));
+    }
+    if is_word(name, "id") {
+        return Some(Some(WordKind::Id));
     }
     None
 }

@@ -165,9 +165,9 @@ pub enum OptionFault {
     #[error("error: unexpected value '{0}' for '<TOKEN>...': at most 64 tokens are encoded")]
     TooManyTokens(String),
     /// The kind of word to encode is unknown.
-    #[error("error: invalid value '{0}' for '--as <KIND>': expected message, fpage, window or timeouts")]
+    #[error("error: invalid value '{0}' for '--as <KIND>': expected message, fpage, window, timeouts, control or id")]
     Kind(String),
     /// The reading is unknown.
-    #[error("error: invalid value '{0}' for '--as <READING>': expected message, fpage, window or id")]
+    #[error("error: invalid value '{0}' for '--as <READING>': expected message, fpage, window, id or control")]
     Reading(String),
 }

@@ -183,7 +183,7 @@ pub(crate) fn reading_option<'a>(alloc: Global) -> Arg<'a>
     Arg::new(alloc, "as")
         .long("as")
         .value_name("READING")
-        .help("How to read the words: message, fpage, window or id")
+        .help("How to read the words: message, fpage, window, id or control")
         .action(ArgAction::Set)
 }
 
@@ -569,6 +569,9 @@ fn reading_in(name: &str) -> Option<Reading>
     }
     if is_word(name, "id") {
         return Some(Reading::Id);
+    }
+    if is_word(name, "control") {
+        return Some(Reading::Control);
     }
     None
 }

@@ -1,9 +1,10 @@
 -- Where a line stops, and what that says of the commands.
-use Rattle.std.proofs.Common.{◌≡◌, ℕ, zero, suc, ◌+◌, Bool, true, false, ◌&&◌, cond, nat_le, List, [], ◌∷◌, ◌++◌, length, Option, Some, None, is_some, is_ok, Result, Ok, Err, ok_or, codes, refl, sym, ap, subst, ◌∙◌, arith}
+use Rattle.std.proofs.Common.{◌≡◌, ℕ, zero, suc, ◌+◌, ◌-◌, ◌≤◌, ◌<◌, Bool, true, false, not, ◌&&◌, ◌||◌, cond, nat_le, nat_lt, nat_eq, List, [], ◌∷◌, ◌++◌, length, Option, Some, None, is_some, is_ok, Result, Ok, Err, ok_or, codes, refl, sym, ap, subst, ◌∙◌, arith}
 use Rattle.std.proofs.lemmas.Bool.{false≢true}
 use Rattle.std.proofs.lemmas.Option.{same_Some}
 use mathlib.Core.List.{append_assoc}
 use Rattle.std.proofs.lemmas.Bool.Decides.{nat_tests}
+use Rattle.std.specs.List.{list_all}
 use Rattle.std.specs.Option.{option_and_then}
 use Rattle.std.specs.Result.{result_ok}
 use Rattle.l4_fpage.specs.Rights.{RightsSet}
@@ -15,17 +16,18 @@ use Rattle.l4_symbols.specs.Rows.{Row, row_begun, row_added, all_added, row_word
 use Rattle.l4_symbols.specs.Spelling.{◌>>=◌}
 use Rattle.l4_symbols.specs.declared.reasons.Reason.{Reason}
 use Rattle.l4_symbols.specs.declared.words.WordKind.{WordKind}
-use Rattle.l4_symbols.specs.declared.words.WordKind.TheVariants.{Fpage, Window, Timeouts}
+use Rattle.l4_symbols.specs.declared.words.WordKind.TheVariants.{Fpage, Window, Timeouts, Control}
 use Rattle.l4_text.specs.Numbers.{number_of, decimal_of}
 use Rattle.l4_commands.specs.declared.kinds.TokenKind.{TokenKind}
 use Rattle.l4_commands.specs.declared.kinds.TokenKind.TheVariants.{ThreadNumber, ThreadOrNew, ThreadOrNil, ThreadNilOrAny, Number, Symbol, Rights, NewName}
-use Rattle.l4_commands.specs.Commands.{thread_of, nil_or_thread_of, partner_of, new_space_of, rights_of, symbol_of, new_name_of, is_language_word, each_fpage, fpages_of, words_of, ◌▹◌, no_more, all_by, last_rights_of, region_of, rule_of, command_of, is_word}
+use Rattle.l4_commands.specs.Commands.{thread_of, nil_or_thread_of, partner_of, new_space_of, rights_of, symbol_of, new_name_of, is_language_word, is_number, each_fpage, fpages_of, counted as counted_fpages, unmap_of, words_of, ◌▹◌, no_more, all_by, last_rights_of, region_of, rule_of, command_of, is_word}
 use Rattle.l4_commands.specs.Kinds.{is_of}
 use Rattle.l4_sinks.specs.declared.stops.Expected.{Expected}
-use Rattle.l4_sinks.specs.declared.stops.Expected.TheVariants.{TagOrEnd, WordOrEnd, FpageOrEnd, LineEnd, AnyAnswer}
+use Rattle.l4_sinks.specs.declared.stops.Expected.TheVariants.{Token, TagOrEnd, WordOrEnd, FpageOrEnd, CountedFpage, CountedEnd, LineEnd, AnyAnswer}
 use Rattle.l4_sinks.specs.declared.stops.Rest.{Rest}
-use Rattle.l4_sinks.specs.declared.stops.Rest.TheVariants.{Nothing, Message, Fpages, Answer}
-use Rattle.l4_sinks.specs.Stops.{Shape, Place, wrong, shape_of, pager_shape_of, expected_for, expected_at, symbol_expected, end_stop, fpages_stop, row_or_stop, row_stop, message_stop, answer_stop, rest_stop, kinds_stop, shape_stop, stop_of, BeginsCommand, StopsThere, IsStop}
+use Rattle.l4_sinks.specs.declared.stops.Rest.TheVariants.{Nothing, Message, Unmap, Answer}
+use Rattle.l4_sinks.specs.Stops.{Shape, Place, wrong, missing, shape_of, pager_shape_of, expected_for, expected_at, symbol_expected, end_stop, fpage_wrong, short_stop, token_or_stop, is_symbolic, fpages_stop, control_or_stop, unmap_stop, row_or_stop, row_stop, message_stop, answer_stop, rest_stop, kinds_stop, shape_stop, stop_of, BeginsCommand, StopsThere, IsStop}
+use Rattle.l4_unmap.specs.Unmap.{fpage_count}
 
 -- READERS AND KINDS
 
@@ -74,36 +76,140 @@ and_false : (b : Bool) → (b && false) ≡ false
 and_false true = refl
 and_false false = refl
 
-one_fpage : (o : Option ℕ) (f le : Bool) (size : PageSize) (tokens : List (List ℕ)) (stop : Option Place) (other : Place) → is_some o ≡ f → (le && is_some (each_fpage size tokens)) ≡ ends stop
-    → (le && is_some (option_and_then (λ n. option_and_then (λ ns. Some (n ∷ ns)) (each_fpage size tokens)) o)) ≡ ends (cond f stop (Some other))
-one_fpage None f le size tokens stop other same rest = and_false le ∙ ap (λ b. ends (cond b stop (Some other))) same
-one_fpage (Some n) f le size tokens stop other same rest = ap (λ b. le && b) (made (each_fpage size tokens) (λ ns. n ∷ ns)) ∙ rest ∙ ap (λ b. ends (cond b stop (Some other))) same
+and_zero : (b c : Bool) → (b && false && c) ≡ false
+and_zero true c = refl
+and_zero false c = refl
+
+or_false : (b : Bool) → (b || false) ≡ b
+or_false true = refl
+or_false false = refl
 
 same_symbol : (kind : WordKind) (size : PageSize) (names : Names) (token : List ℕ) → is_some (symbol_of kind size token) ≡ is_of size names (Symbol kind) token
 unfolding is_of
 same_symbol kind size names token = refl
 
-counted : (size : PageSize) (names : Names) (most : ℕ) (tokens : List (List ℕ)) (number : ℕ) → (nat_le (length tokens) most && is_some (each_fpage size tokens)) ≡ ends (fpages_stop size names number most tokens)
-counted size names most [] number =
-    let t : nat_le 0 most ≡ true = grind (arith, nat_tests) in
-    ap (λ b. b && true) t
-counted size names zero (token ∷ tokens) number =
-    let f : nat_le (length (token ∷ tokens)) 0 ≡ false = grind (arith, nat_tests) in
-    ap (λ b. b && is_some (each_fpage size (token ∷ tokens))) f
-counted size names (suc most) (token ∷ tokens) number =
-    let e : nat_le (length (token ∷ tokens)) (suc most) ≡ nat_le (length tokens) most = grind (arith, nat_tests) in
-    ap (λ b. b && is_some (each_fpage size (token ∷ tokens))) e
-    ∙ one_fpage (symbol_of Fpage size token) (is_of size names (Symbol Fpage) token) (nat_le (length tokens) most) size tokens (fpages_stop size names (number + 1) most tokens)
-    (record { number = number; token = Some token; expected = symbol_expected FpageOrEnd (word_in Fpage size token) }) (same_symbol Fpage size names token) (counted size names most tokens (number + 1))
-
 if_some : {A : Type 0} (b : Bool) (o : Option A) → is_some (cond b o None) ≡ (b && is_some o)
 if_some true o = refl
 if_some false o = refl
 
-agrees_fpages : {B : Type 0} {size : PageSize} {names : Names} (make : List ℕ → B) → Agrees size names (all_by (fpages_of size) make) [] Fpages
+-- one fpage, where a token is symbolic or not, and the control word counts more fpages or not
+one_counted : (x all s num z e f : Bool) → (z ≡ true → (e ≡ false) × ((all || f) ≡ all)) → (z ≡ false → e ≡ f)
+    → (x && ((not s && (num && all)) || e)) ≡ cond ((s || not num) && z) false (x && ((not (s || not num) && all) || f))
+one_counted x all true num true e f last more = ap (λ b. x && b) (last refl).0 ∙ and_false x
+one_counted x all true num false e f last more = ap (λ b. x && b) (more refl)
+one_counted x all false true true e f last more = ap (λ b. x && (all || b)) (last refl).0 ∙ ap (λ b. x && b) (or_false all ∙ sym (last refl).1)
+one_counted x all false true false e f last more = ap (λ b. x && (all || b)) (more refl)
+one_counted x all false false true e f last more = ap (λ b. x && b) (last refl).0 ∙ and_false x
+one_counted x all false false false e f last more = ap (λ b. x && b) (more refl)
+
+-- what a token does, as a test
+token_ends : (f c : Bool) (number : ℕ) (token : List ℕ) (over other : Expected) (later : Option Place)
+    → ends (token_or_stop number token (cond f (cond c (Some over) None) (Some other)) later) ≡ (f && cond c false (ends later))
+token_ends true true number token over other later = refl
+token_ends true false number token over other later = refl
+token_ends false c number token over other later = refl
+
+each_some : (o : Option ℕ) (size : PageSize) (tokens : List (List ℕ)) → is_some (option_and_then (λ n. option_and_then (λ ns. Some (n ∷ ns)) (each_fpage size tokens)) o) ≡ (is_some o && is_some (each_fpage size tokens))
+each_some None size tokens = refl
+each_some (Some n) size tokens = made (each_fpage size tokens) (λ ns. n ∷ ns)
+
+turned : (le f each c : Bool) (y : Bool) → ((le && each) && y) ≡ c → ((le && (f && each)) && y) ≡ (f && c)
+turned le true each c y same = same
+turned le false each c y same = ap (λ b. b && y) (and_false le)
+
+and_true : (b : Bool) → (b && true) ≡ b
+and_true true = refl
+and_true false = refl
+
+no_words : (words : List ℕ) → ◌≡◌ {A = Option (List ℕ)} None (Some words) → ⊥
+no_words words is = false≢true (ap is_some is)
+
+none_left : (tokens : List (List ℕ)) (left : ℕ) → left ≡ 0 → (list_all is_number tokens || nat_eq (length tokens) left) ≡ list_all is_number tokens
+none_left [] left is = refl
+none_left (token ∷ tokens) left is =
+    let f : nat_eq (length (token ∷ tokens)) left ≡ false = grind (arith, nat_tests) in
+    ap (λ b. list_all is_number (token ∷ tokens) || b) f ∙ or_false (list_all is_number (token ∷ tokens))
+
+-- Of the fpages that a control word counts, this number is left. Nothing stops just where each token is an fpage, there are no more than may
+-- be, and either no token is symbolic or there are as many as are left.
+counted : (size : PageSize) (names : Names) (symbolic : Bool) (left most : ℕ) (tokens : List (List ℕ)) (number : ℕ)
+    → ((nat_le (length tokens) most && is_some (each_fpage size tokens)) && ((not symbolic && list_all is_number tokens) || nat_eq (length tokens) left))
+    ≡ ends (fpages_stop size names symbolic left number most tokens)
+counted size names true zero most [] number =
+    let t : nat_le 0 most ≡ true = grind (arith, nat_tests) in
+    ap (λ b. (b && true) && true) t
+counted size names true (suc left) most [] number =
+    let t : nat_eq 0 (suc left) ≡ false = grind (arith, nat_tests) in
+    let u : nat_lt 0 (suc left) ≡ true = grind (arith, nat_tests) in
+    ap (λ b. (nat_le 0 most && true) && b) t ∙ and_false (nat_le 0 most && true) ∙ ap (λ b. ends (cond b (missing number CountedFpage) None)) (sym u)
+counted size names false left most [] number =
+    let t : nat_le 0 most ≡ true = grind (arith, nat_tests) in
+    ap (λ b. (b && true) && true) t
+counted size names symbolic left zero (token ∷ tokens) number =
+    let f : nat_le (length (token ∷ tokens)) 0 ≡ false = grind (arith, nat_tests) in
+    ap (λ b. (b && is_some (each_fpage size (token ∷ tokens))) && ((not symbolic && list_all is_number (token ∷ tokens)) || nat_eq (length (token ∷ tokens)) left)) f
+counted size names symbolic left (suc most) (token ∷ tokens) number =
+    let s = is_symbolic symbolic token in
+    let rest = counted size names s (left - 1) most tokens (number + 1) in
+    let le : nat_le (length (token ∷ tokens)) (suc most) ≡ nat_le (length tokens) most = grind (arith, nat_tests) in
+    let more : nat_eq left 0 ≡ false → nat_eq (length (token ∷ tokens)) left ≡ nat_eq (length tokens) (left - 1) = λ h. grind (arith, nat_tests) in
+    let last : nat_eq left 0 ≡ true → nat_eq (length (token ∷ tokens)) left ≡ false = λ h. grind (arith, nat_tests) in
+    let whole : nat_eq left 0 ≡ true → (list_all is_number tokens || nat_eq (length tokens) (left - 1)) ≡ list_all is_number tokens = λ h. none_left tokens (left - 1) (grind (arith, nat_tests)) in
+    let one = one_counted (nat_le (length tokens) most && is_some (each_fpage size tokens)) (list_all is_number tokens) symbolic (is_number token) (nat_eq left 0)
+    (nat_eq (length (token ∷ tokens)) left) (nat_eq (length tokens) (left - 1)) (λ h. (last h, whole h)) more in
+    ap (λ b. (b && is_some (each_fpage size (token ∷ tokens))) && ((not symbolic && list_all is_number (token ∷ tokens)) || nat_eq (length (token ∷ tokens)) left)) le
+    ∙ ap (λ b. (nat_le (length tokens) most && b) && ((not symbolic && list_all is_number (token ∷ tokens)) || nat_eq (length (token ∷ tokens)) left)) (each_some (symbol_of Fpage size token) size tokens)
+    ∙ turned (nat_le (length tokens) most) (is_some (symbol_of Fpage size token)) (is_some (each_fpage size tokens)) _ _ (one ∙ ap (λ b. cond (s && nat_eq left 0) false b) rest)
+    ∙ ap (λ b. b && cond (s && nat_eq left 0) false (ends (fpages_stop size names s (left - 1) (number + 1) most tokens))) (same_symbol Fpage size names token)
+    ∙ sym (token_ends (is_of size names (Symbol Fpage) token) (s && nat_eq left 0) number token CountedEnd (symbol_expected FpageOrEnd (word_in Fpage size token)) _)
+
+-- as many words as tokens
+each_len : (size : PageSize) (tokens : List (List ℕ)) (words : List ℕ) → each_fpage size tokens ≡ Some words → length words ≡ length tokens
+each_len size [] words is = ap length (same_Some words [] (sym is))
+each_len size (token ∷ tokens) words is =
+    elim (symbol_of Fpage size token) as (λ (o : Option ℕ). option_and_then (λ n. option_and_then (λ ns. Some (n ∷ ns)) (each_fpage size tokens)) o ≡ Some words → length words ≡ length (token ∷ tokens)) [
+      | None ↦ λ e. absurd (no_words words e)
+      | Some n ↦ λ e. elim (each_fpage size tokens) as (λ (o : Option (List ℕ)). each_fpage size tokens ≡ o → option_and_then (λ ns. Some (n ∷ ns)) o ≡ Some words → length words ≡ length (token ∷ tokens)) [
+        | None ↦ λ f g. absurd (no_words words g)
+        | Some ns ↦ λ f g.
+            let h : words ≡ n ∷ ns = sym (same_Some _ _ g) in
+            let k : length ns ≡ length tokens = each_len size tokens ns f in
+            ap length h ∙ ap suc k
+      ] refl e
+    ] is
+
+fpages_len : (size : PageSize) (tokens : List (List ℕ)) (plain : Bool) (control : ℕ) → is_some (option_and_then (λ fpages. counted_fpages plain control fpages) (fpages_of size tokens))
+    ≡ ((nat_le (length tokens) 64 && is_some (each_fpage size tokens)) && (plain || nat_eq (length tokens) (fpage_count control)))
 unfolding fpages_of
-agrees_fpages {size} {names} make =
-    record { agrees = λ tokens number. made (fpages_of size tokens) make ∙ if_some (nat_le (length tokens) 64) (each_fpage size tokens) ∙ counted size names 64 tokens number }
+fpages_len size tokens plain control =
+    elim (nat_le (length tokens) 64) as (λ b. is_some (option_and_then (λ fpages. counted_fpages plain control fpages) (cond b (each_fpage size tokens) None)) ≡ ((b && is_some (each_fpage size tokens)) && (plain || nat_eq (length tokens) (fpage_count control)))) [
+      | false ↦ refl
+      | true ↦ elim (each_fpage size tokens) as (λ (o : Option (List ℕ)). each_fpage size tokens ≡ o → is_some (option_and_then (λ fpages. counted_fpages plain control fpages) o) ≡ ((true && is_some o) && (plain || nat_eq (length tokens) (fpage_count control)))) [
+        | None ↦ λ e. refl
+        | Some words ↦ λ e.
+            ap (λ n. is_some {T = ℕ × List ℕ} (cond (plain || nat_eq n (fpage_count control)) (Some (control, words)) None)) (each_len size tokens words e)
+            ∙ if_some {A = ℕ × List ℕ} (plain || nat_eq (length tokens) (fpage_count control)) (Some (control, words)) ∙ and_true (plain || nat_eq (length tokens) (fpage_count control))
+      ] refl
+    ]
+
+not_not : (b : Bool) → not (not b) ≡ b
+not_not true = refl
+not_not false = refl
+
+unmap_ends : (size : PageSize) (names : Names) (tokens : List (List ℕ)) (number : ℕ) → is_some (unmap_of size tokens) ≡ ends (unmap_stop size names number tokens)
+unfolding unmap_of
+unmap_ends size names [] number = refl
+unmap_ends size names (token ∷ tokens) number =
+    elim (symbol_of Control size token) as (λ (o : Option ℕ). is_some (option_and_then (λ control. option_and_then (λ fpages. counted_fpages (list_all is_number (token ∷ tokens)) control fpages) (fpages_of size tokens)) o) ≡ ends (control_or_stop size names number token tokens o)) [
+      | None ↦ refl
+      | Some control ↦
+          fpages_len size tokens (list_all is_number (token ∷ tokens)) control
+          ∙ ap (λ b. (nat_le (length tokens) 64 && is_some (each_fpage size tokens)) && ((b && list_all is_number tokens) || nat_eq (length tokens) (fpage_count control))) (sym (not_not (is_number token)))
+          ∙ counted size names (not (is_number token)) (fpage_count control) 64 tokens (number + 1)
+    ]
+
+agrees_unmap : {B : Type 0} {size : PageSize} {names : Names} (make : ℕ × List ℕ → B) → Agrees size names (all_by (unmap_of size) make) [] Unmap
+agrees_unmap {B} {size} {names} make = record { agrees = λ tokens number. made (unmap_of size tokens) make ∙ unmap_ends size names tokens number }
 
 -- MESSAGES
 
@@ -230,7 +336,7 @@ reads size names name tokens =
     (choose size names name tokens (is_word (codes "ipc") name) _ _ _ _ (one _ _ _ ((by_thread (by_partner (by_partner (by_symbol Timeouts (by_symbol Window agrees_message)))) _).agrees tokens 2))
     (choose size names name tokens (is_word (codes "delegate") name) _ _ _ _ (one _ _ _ ((by_thread (by_partner by_region) _).agrees tokens 2))
     (choose size names name tokens (is_word (codes "part") name) _ _ _ _ (one _ _ _ ((by_thread (by_partner (by_number by_region)) _).agrees tokens 2))
-    (choose size names name tokens (is_word (codes "unmap") name) _ _ _ _ (one _ _ _ ((by_thread (by_number agrees_fpages) _).agrees tokens 2))
+    (choose size names name tokens (is_word (codes "unmap") name) _ _ _ _ (one _ _ _ ((by_thread agrees_unmap _).agrees tokens 2))
     (choose size names name tokens (is_word (codes "show") name) _ _ _ _ (one _ _ _ ((by_thread (by_number (by_number (agrees_end size names))) _).agrees tokens 2))
     (choose size names name tokens (is_word (codes "parent") name) _ _ _ _ (one _ _ _ ((by_thread (by_number (agrees_end size names)) _).agrees tokens 2))
     (choose size names name tokens (is_word (codes "fault") name) _ _ _ _ (one _ _ _ ((by_thread (by_number (by_number by_rights)) _).agrees tokens 2))
@@ -257,11 +363,51 @@ abbrev AreFit : PageSize → Names → List TokenKind → Type 0
 AreFit size names [] = Unit {0}
 AreFit size names (kind ∷ kinds) = ((token : List ℕ) × (is_of size names kind token ≡ true)) × AreFit size names kinds
 
--- the rest may be left out, but for an answer
+fit_fpage : (size : PageSize) (names : Names) → is_of size names (Symbol Fpage) (codes "0") ≡ true
+unfolding is_of symbol_of number_of decimal_of
+fit_fpage size names = refl
+
+plain_zero : is_number (codes "0") ≡ true
+unfolding number_of decimal_of
+plain_zero = refl
+
+plain_control : (size : PageSize) → symbol_of Control size (codes "0") ≡ Some 0
+unfolding symbol_of number_of decimal_of
+plain_control size = refl
+
+-- a plain fpage where more are counted
+plain_step : (size : PageSize) (names : Names) (symbolic : Bool) (left number most : ℕ) (tokens : List (List ℕ))
+    → fpages_stop size names symbolic (suc left) number (suc most) (codes "0" ∷ tokens) ≡ fpages_stop size names symbolic left (number + 1) most tokens
+plain_step size names symbolic left number most tokens =
+    let s : is_symbolic symbolic (codes "0") ≡ symbolic = ap (λ b. symbolic || not b) plain_zero ∙ or_false symbolic in
+    let z : nat_eq (suc left) 0 ≡ false = grind (arith, nat_tests) in
+    let p : suc left - 1 ≡ left = omega arith in
+    ap (λ b. token_or_stop number (codes "0") (fpage_wrong size names b (suc left) (codes "0")) (fpages_stop size names b (suc left - 1) (number + 1) most tokens)) s
+    ∙ ap (λ n. token_or_stop number (codes "0") (fpage_wrong size names symbolic (suc left) (codes "0")) (fpages_stop size names symbolic n (number + 1) most tokens)) p
+    ∙ ap (λ b. token_or_stop number (codes "0") (cond (is_of size names (Symbol Fpage) (codes "0")) (cond (symbolic && b) (Some CountedEnd) None) (Some (symbol_expected FpageOrEnd (word_in Fpage size (codes "0"))))) (fpages_stop size names symbolic left (number + 1) most tokens)) z
+    ∙ ap (λ b. token_or_stop number (codes "0") (cond (is_of size names (Symbol Fpage) (codes "0")) (cond b (Some CountedEnd) None) (Some (symbol_expected FpageOrEnd (word_in Fpage size (codes "0"))))) (fpages_stop size names symbolic left (number + 1) most tokens)) (and_false symbolic)
+    ∙ ap (λ b. token_or_stop number (codes "0") (cond b None (Some (symbol_expected FpageOrEnd (word_in Fpage size (codes "0"))))) (fpages_stop size names symbolic left (number + 1) most tokens)) (fit_fpage size names)
+
+-- fpages that are right to the end: as many as are left
+fill_fpages : (size : PageSize) (names : Names) (symbolic : Bool) (left number most : ℕ) → left ≤ most → (more : List (List ℕ)) × (ends (fpages_stop size names symbolic left number most more) ≡ true)
+fill_fpages size names symbolic zero number most fits = ([], ap (λ b. ends (cond b (missing number CountedFpage) None)) (and_false symbolic))
+fill_fpages size names symbolic (suc left) number zero fits = absurd (omega (arith, fits))
+fill_fpages size names symbolic (suc left) number (suc most) fits =
+    let rest = fill_fpages size names symbolic left (number + 1) most (omega (arith, fits)) in
+    (codes "0" ∷ rest.0, ap ends (plain_step size names symbolic left number most rest.0) ∙ rest.1)
+
+fill_unmap : (size : PageSize) (names : Names) (number : ℕ) → (more : List (List ℕ)) × (ends (unmap_stop size names number more) ≡ true)
+fill_unmap size names number = (
+  codes "0" ∷ [],
+  ap (λ o. ends (control_or_stop size names number (codes "0") [] o)) (plain_control size)
+      ∙ ap (λ b. ends (short_stop (not b) (fpage_count 0) (number + 1))) plain_zero,
+)
+
+-- the rest may be left out, but for an answer and for an Unmap
 rest_fill : (size : PageSize) (names : Names) (number : ℕ) (last : Rest) → (more : List (List ℕ)) × (ends (rest_stop size names number last more) ≡ true)
 rest_fill size names number Nothing = ([], refl)
 rest_fill size names number Message = ([], refl)
-rest_fill size names number Fpages = ([], refl)
+rest_fill size names number Unmap = fill_unmap size names number
 rest_fill size names number Answer = (codes "none" ∷ [], refl)
 
 -- tokens that are right to the end
@@ -316,22 +462,52 @@ end_at : (first : ℕ) (tokens : List (List ℕ)) (place : Place) → end_stop f
 end_at first [] place is = absurd (no_stop place is)
 end_at first (token ∷ tokens) place is = stop_here (end_stop first) first token tokens LineEnd place is ([], refl) (λ more. refl)
 
-fpage_case : (b : Bool) (size : PageSize) (names : Names) (most first : ℕ) (token : List ℕ) (tokens : List (List ℕ)) (place : Place) → is_of size names (Symbol Fpage) token ≡ b
-    → cond b (fpages_stop size names (first + 1) most tokens) (wrong first token (symbol_expected FpageOrEnd (word_in Fpage size token))) ≡ Some place
-    → (fpages_stop size names (first + 1) most tokens ≡ Some place → IsAt place.token (fpages_stop size names (first + 1) most) (first + 1) tokens place)
-    → IsAt place.token (fpages_stop size names first (suc most)) first (token ∷ tokens) place
-fpage_case true size names most first token tokens place fit is rest =
-    later place.token (fpages_stop size names first (suc most)) (fpages_stop size names (first + 1) most) first token tokens place
-    (λ xs. ap (λ b. cond b (fpages_stop size names (first + 1) most xs) (wrong first token (symbol_expected FpageOrEnd (word_in Fpage size token)))) fit) (rest is)
-fpage_case false size names most first token tokens place fit is rest =
-    stop_here (fpages_stop size names first (suc most)) first token tokens _ place is ([], refl)
-    (λ more. ap (λ b. ends (cond b (fpages_stop size names (first + 1) most more) (wrong first token (symbol_expected FpageOrEnd (word_in Fpage size token))))) fit)
+-- a token that is an fpage, or is wrong
+fpage_case : (o : Option Expected) (size : PageSize) (names : Names) (symbolic : Bool) (left most first : ℕ) (token : List ℕ) (tokens : List (List ℕ)) (place : Place) → left ≤ suc most
+    → fpage_wrong size names (is_symbolic symbolic token) left token ≡ o
+    → token_or_stop first token o (fpages_stop size names (is_symbolic symbolic token) (left - 1) (first + 1) most tokens) ≡ Some place
+    → (fpages_stop size names (is_symbolic symbolic token) (left - 1) (first + 1) most tokens ≡ Some place
+    → IsAt place.token (fpages_stop size names (is_symbolic symbolic token) (left - 1) (first + 1) most) (first + 1) tokens place)
+    → IsAt place.token (fpages_stop size names symbolic left first (suc most)) first (token ∷ tokens) place
+fpage_case None size names symbolic left most first token tokens place fits fit is rest =
+    later place.token (fpages_stop size names symbolic left first (suc most)) (fpages_stop size names (is_symbolic symbolic token) (left - 1) (first + 1) most) first token tokens place
+    (λ xs. ap (λ (o : Option Expected). token_or_stop first token o (fpages_stop size names (is_symbolic symbolic token) (left - 1) (first + 1) most xs)) fit) (rest is)
+fpage_case (Some expected) size names symbolic left most first token tokens place fits fit is rest =
+    stop_here (fpages_stop size names symbolic left first (suc most)) first token tokens expected place is (fill_fpages size names symbolic left first (suc most) fits)
+    (λ more. ap (λ (o : Option Expected). ends (token_or_stop first token o (fpages_stop size names (is_symbolic symbolic token) (left - 1) (first + 1) most more))) fit)
 
-fpages_at : (size : PageSize) (names : Names) (most first : ℕ) (tokens : List (List ℕ)) (place : Place) → fpages_stop size names first most tokens ≡ Some place → IsAt place.token (fpages_stop size names first most) first tokens place
-fpages_at size names most first [] place is = absurd (no_stop place is)
-fpages_at size names zero first (token ∷ tokens) place is = stop_here (fpages_stop size names first zero) first token tokens LineEnd place is ([], refl) (λ more. refl)
-fpages_at size names (suc most) first (token ∷ tokens) place is =
-    fpage_case (is_of size names (Symbol Fpage) token) size names most first token tokens place refl is (λ h. fpages_at size names most (first + 1) tokens place h)
+short_case : (b : Bool) (size : PageSize) (names : Names) (symbolic : Bool) (left most first : ℕ) (place : Place) → left ≤ most → cond b (missing first CountedFpage) None ≡ Some place
+    → IsAt place.token (fpages_stop size names symbolic left first most) first [] place
+short_case true size names symbolic left most first place fits is =
+    let n : first ≡ first + length {A = List ℕ} [] = omega arith in
+    subst (λ (p : Place). IsAt p.token (fpages_stop size names symbolic left first most) first [] p) (same_Some _ _ is) (n, fill_fpages size names symbolic left first most fits)
+short_case false size names symbolic left most first place fits is = absurd (no_stop place is)
+
+fpages_at : (size : PageSize) (names : Names) (symbolic : Bool) (left most first : ℕ) (tokens : List (List ℕ)) (place : Place) → left ≤ most → fpages_stop size names symbolic left first most tokens ≡ Some place
+    → IsAt place.token (fpages_stop size names symbolic left first most) first tokens place
+fpages_at size names symbolic left most first [] place fits is = short_case (symbolic && nat_lt 0 left) size names symbolic left most first place fits is
+fpages_at size names symbolic left zero first (token ∷ tokens) place fits is =
+    stop_here (fpages_stop size names symbolic left first zero) first token tokens LineEnd place is (fill_fpages size names symbolic left first zero fits) (λ more. refl)
+fpages_at size names symbolic left (suc most) first (token ∷ tokens) place fits is =
+    fpage_case (fpage_wrong size names (is_symbolic symbolic token) left token) size names symbolic left most first token tokens place fits refl is
+    (λ h. fpages_at size names (is_symbolic symbolic token) (left - 1) most (first + 1) tokens place (omega (arith, fits)) h)
+
+control_case : (o : Option ℕ) (size : PageSize) (names : Names) (first : ℕ) (token : List ℕ) (tokens : List (List ℕ)) (place : Place) → symbol_of Control size token ≡ o
+    → control_or_stop size names first token tokens o ≡ Some place → IsAt place.token (unmap_stop size names first) first (token ∷ tokens) place
+control_case None size names first token tokens place fit is =
+    stop_here (unmap_stop size names first) first token tokens _ place is (fill_unmap size names first)
+    (λ more. ap (λ (o : Option ℕ). ends (control_or_stop size names first token more o)) fit)
+control_case (Some control) size names first token tokens place fit is =
+    let fits : fpage_count control ≤ 64 = omega arith in
+    later place.token (unmap_stop size names first) (fpages_stop size names (not (is_number token)) (fpage_count control) (first + 1) 64) first token tokens place
+    (λ xs. ap (λ (o : Option ℕ). control_or_stop size names first token xs o) fit)
+    (fpages_at size names (not (is_number token)) (fpage_count control) 64 (first + 1) tokens place fits is)
+
+unmap_at : (size : PageSize) (names : Names) (first : ℕ) (tokens : List (List ℕ)) (place : Place) → unmap_stop size names first tokens ≡ Some place → IsAt place.token (unmap_stop size names first) first tokens place
+unmap_at size names first [] place is =
+    let n : first ≡ first + length {A = List ℕ} [] = omega arith in
+    subst (λ (p : Place). IsAt p.token (unmap_stop size names first) first [] p) (same_Some _ _ is) (n, fill_unmap size names first)
+unmap_at size names first (token ∷ tokens) place is = control_case (symbol_of Control size token) size names first token tokens place refl is
 
 row_case : (r : Result Row Reason) (size : PageSize) (otherwise : Expected) (S : List (List ℕ) → Option Place) (first : ℕ) (token : List ℕ) (tokens : List (List ℕ)) (place : Place)
     → ((xs : List (List ℕ)) → S (token ∷ xs) ≡ row_or_stop first token otherwise r (λ next. row_stop size (first + 1) xs next))
@@ -361,7 +537,7 @@ answer_at first (token ∷ tokens) place is = absurd (no_stop place is)
 rest_at : (size : PageSize) (names : Names) (last : Rest) (first : ℕ) (tokens : List (List ℕ)) (place : Place) → rest_stop size names first last tokens ≡ Some place → IsAt place.token (rest_stop size names first last) first tokens place
 rest_at size names Nothing first tokens place is = end_at first tokens place is
 rest_at size names Message first tokens place is = message_at size first tokens place is
-rest_at size names Fpages first tokens place is = fpages_at size names 64 first tokens place is
+rest_at size names Unmap first tokens place is = unmap_at size names first tokens place is
 rest_at size names Answer first tokens place is = answer_at first tokens place is
 
 kind_case : (b : Bool) (size : PageSize) (names : Names) (kind : TokenKind) (kinds : List TokenKind) (last : Rest) (first : ℕ) (token : List ℕ) (tokens : List (List ℕ)) (place : Place) → AreFit size names (kind ∷ kinds) → is_of size names kind token ≡ b
@@ -452,7 +628,7 @@ all_fit size names name =
     (fit_choose size names (is_word (codes "ipc") name) _ _ (fit_thread size names, (fit_any size names, (fit_any size names, (fit_symbol Timeouts size names, (fit_symbol Window size names, tt)))))
     (fit_choose size names (is_word (codes "delegate") name) _ _ (fit_thread size names, (fit_any size names, (fit_number size names, (fit_number size names, (fit_number size names, (fit_rights size names, tt))))))
     (fit_choose size names (is_word (codes "part") name) _ _ (fit_thread size names, (fit_any size names, (fit_number size names, (fit_number size names, (fit_number size names, (fit_number size names, (fit_rights size names, tt)))))))
-    (fit_choose size names (is_word (codes "unmap") name) _ _ (fit_thread size names, (fit_number size names, tt))
+    (fit_choose size names (is_word (codes "unmap") name) _ _ (fit_thread size names, tt)
     (fit_choose size names (is_word (codes "show") name) _ _ (fit_thread size names, (fit_number size names, (fit_number size names, tt)))
     (fit_choose size names (is_word (codes "parent") name) _ _ (fit_thread size names, (fit_number size names, tt))
     (pager_fit size names name)))))))))))
@@ -508,29 +684,29 @@ stop_right size names tokens o is = stop_case size names tokens o (sym is)
 -- THE LOOPS
 
 -- an fpage more than there may be
-pub fpages_over : (size : PageSize) (names : Names) (first most : ℕ) (line rest : List (List ℕ)) (at left number : ℕ) → fpages_stop size names first most line ≡ fpages_stop size names at left rest → left ≡ 0 → at ≡ number
-    → end_stop number rest ≡ fpages_stop size names first most line
-fpages_over size names first most line [] at left number is none there = sym is
-fpages_over size names first most line (token ∷ tokens) at left number is none there =
-    sym (is ∙ ap (λ m. fpages_stop size names at m (token ∷ tokens)) none ∙ ap (λ (n : ℕ). wrong n token LineEnd) there)
+pub fpages_over : (size : PageSize) (names : Names) (symbolic any : Bool) (counted left first most : ℕ) (line rest : List (List ℕ)) (at few number : ℕ)
+    → fpages_stop size names symbolic counted first most line ≡ fpages_stop size names any left at few rest → left ≤ few → few ≡ 0 → at ≡ number
+    → end_stop number rest ≡ fpages_stop size names symbolic counted first most line
+fpages_over size names symbolic any counted left first most line [] at few number is fits none there =
+    let f : nat_lt 0 left ≡ false = grind (arith, nat_tests) in
+    sym (is ∙ ap (λ b. cond (any && b) (missing at CountedFpage) None) f ∙ ap (λ b. cond b (missing at CountedFpage) None) (and_false any))
+fpages_over size names symbolic any counted left first most line (token ∷ tokens) at few number is fits none there =
+    sym (is ∙ ap (λ m. fpages_stop size names any left at m (token ∷ tokens)) none ∙ ap (λ (n : ℕ). wrong n token LineEnd) there)
 
--- a token that is no fpage
-pub fpages_wrong : (size : PageSize) (names : Names) (first most : ℕ) (line rest tokens : List (List ℕ)) (token : List ℕ) (at left more number : ℕ) → fpages_stop size names first most line ≡ fpages_stop size names at left rest → rest ≡ token ∷ tokens → left ≡ suc more
-    → at ≡ number → is_of size names (Symbol Fpage) token ≡ false → wrong number token (symbol_expected FpageOrEnd (word_in Fpage size token)) ≡ fpages_stop size names first most line
-fpages_wrong size names first most line rest tokens token at left more number is parts some there not =
-    sym (
-    is ∙ ap (fpages_stop size names at left) parts ∙ ap (λ m. fpages_stop size names at m (token ∷ tokens)) some
-    ∙ ap (λ b. cond b (fpages_stop size names (at + 1) more tokens) (wrong at token (symbol_expected FpageOrEnd (word_in Fpage size token)))) not
-    ∙ ap (λ (n : ℕ). wrong n token (symbol_expected FpageOrEnd (word_in Fpage size token))) there
-    )
+-- the end of the fpages
+pub fpages_short : (size : PageSize) (names : Names) (symbolic any : Bool) (counted left first most : ℕ) (line rest : List (List ℕ)) (at few : ℕ)
+    → fpages_stop size names symbolic counted first most line ≡ fpages_stop size names any left at few rest → rest ≡ []
+    → short_stop any left at ≡ fpages_stop size names symbolic counted first most line
+fpages_short size names symbolic any counted left first most line rest at few is none = sym (is ∙ ap (fpages_stop size names any left at few) none)
 
--- an fpage
-pub fpages_next : (size : PageSize) (names : Names) (first most : ℕ) (line rest tokens : List (List ℕ)) (token : List ℕ) (at left more next : ℕ) → fpages_stop size names first most line ≡ fpages_stop size names at left rest → rest ≡ token ∷ tokens → left ≡ suc more
-    → at + 1 ≡ next → is_of size names (Symbol Fpage) token ≡ true → fpages_stop size names first most line ≡ fpages_stop size names next more tokens
-fpages_next size names first most line rest tokens token at left more next is parts some there fit =
-    is ∙ ap (fpages_stop size names at left) parts ∙ ap (λ m. fpages_stop size names at m (token ∷ tokens)) some
-    ∙ ap (λ b. cond b (fpages_stop size names (at + 1) more tokens) (wrong at token (symbol_expected FpageOrEnd (word_in Fpage size token)))) fit
-    ∙ ap (λ (n : ℕ). fpages_stop size names n more tokens) there
+-- a token in the place of the next fpage
+pub fpages_next : (size : PageSize) (names : Names) (symbolic any : Bool) (counted left first most : ℕ) (line rest tokens : List (List ℕ)) (token : List ℕ) (at few more : ℕ) (o : Option Expected)
+    → fpages_stop size names symbolic counted first most line ≡ fpages_stop size names any left at few rest → rest ≡ token ∷ tokens → few ≡ suc more
+    → o ≡ fpage_wrong size names (is_symbolic any token) left token
+    → fpages_stop size names symbolic counted first most line ≡ token_or_stop at token o (fpages_stop size names (is_symbolic any token) (left - 1) (at + 1) more tokens)
+fpages_next size names symbolic any counted left first most line rest tokens token at few more o is parts some fit =
+    is ∙ ap (fpages_stop size names any left at few) parts ∙ ap (λ m. fpages_stop size names any left at m (token ∷ tokens)) some
+    ∙ ap (λ (e : Option Expected). token_or_stop at token e (fpages_stop size names (is_symbolic any token) (left - 1) (at + 1) more tokens)) (sym fit)
 
 -- a token of a message
 pub row_next : (size : PageSize) (first number : ℕ) (begun row next : Row) (line rest tokens : List (List ℕ)) (token : List ℕ) → row_stop size first line begun ≡ row_stop size number rest row → rest ≡ token ∷ tokens

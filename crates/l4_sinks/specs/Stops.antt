@@ -1,23 +1,24 @@
 -- The token at which a line stops being a command, and what would be right there (this profile's own).
-use Rattle.std.specs.Prelude.{◌≡◌, ℕ, zero, suc, ◌+◌, List, [], ◌∷◌, ◌++◌, length, Option, Some, None, Result, Ok, Err, IsOk, option_map, if◌then◌else◌, codes}
+use Rattle.std.specs.Prelude.{◌≡◌, ℕ, zero, suc, ◌+◌, ◌-◌, ◌==◌, nat_lt, ◌&&◌, ◌||◌, Bool, not, List, [], ◌∷◌, ◌++◌, length, Option, Some, None, Result, Ok, Err, IsOk, option_map, if◌then◌else◌, codes}
 use Rattle.l4_fpage.specs.declared.sizes.PageSize.{PageSize}
 use Rattle.l4_msg.specs.Sizes.{max_words}
 use Rattle.l4_names.specs.Names.{Names, is_name}
 use Rattle.l4_symbols.specs.Computed.{word_in}
 use Rattle.l4_symbols.specs.Rows.{Row, row_begun, row_added}
 use Rattle.l4_symbols.specs.declared.reasons.Reason.{Reason}
-use Rattle.l4_symbols.specs.declared.reasons.Reason.TheVariants.{NoTag, Unknown, Window as NoWindow, Fpage as NoFpage, Timeouts as NoTimeouts}
-use Rattle.l4_symbols.specs.declared.words.WordKind.TheVariants.{Fpage, Window, Timeouts}
+use Rattle.l4_symbols.specs.declared.reasons.Reason.TheVariants.{NoTag, Unknown, Window as NoWindow, Fpage as NoFpage, Timeouts as NoTimeouts, Control as NoControl}
+use Rattle.l4_symbols.specs.declared.words.WordKind.TheVariants.{Fpage, Window, Timeouts, Control}
 use Rattle.l4_commands.specs.declared.kinds.TokenKind.{TokenKind}
 use Rattle.l4_commands.specs.declared.kinds.TokenKind.TheVariants.{ThreadNumber, ThreadOrNew, ThreadOrNil, ThreadNilOrAny, Number, Symbol, Rights, NewName}
-use Rattle.l4_commands.specs.Commands.{is_word, command_of}
+use Rattle.l4_commands.specs.Commands.{is_number, is_word, symbol_of, command_of}
 use Rattle.l4_commands.specs.Kinds.{is_of}
 use Rattle.l4_sinks.specs.declared.stops.Expected.{Expected}
-use Rattle.l4_sinks.specs.declared.stops.Expected.TheVariants.{CommandName, Token, Because, OtherName, TagOrEnd, WordOrEnd, FpageOrEnd, LineEnd, AnyAnswer}
+use Rattle.l4_sinks.specs.declared.stops.Expected.TheVariants.{CommandName, Token, Because, OtherName, TagOrEnd, WordOrEnd, FpageOrEnd, CountedFpage, CountedEnd, LineEnd, AnyAnswer}
 use Rattle.l4_sinks.specs.declared.stops.Form.{Form}
 use Rattle.l4_sinks.specs.declared.stops.Rest.{Rest}
-use Rattle.l4_sinks.specs.declared.stops.Rest.TheVariants.{Nothing, Message, Fpages, Answer}
+use Rattle.l4_sinks.specs.declared.stops.Rest.TheVariants.{Nothing, Message, Unmap, Answer}
 use Rattle.l4_sinks.specs.declared.stops.Stop.{Stop}
+use Rattle.l4_unmap.specs.Unmap.{fpage_count}
 
 -- the tokens behind a command's name: these in turn, and then the rest
 pub record Shape : Type 0 where
@@ -63,7 +64,7 @@ shape_of name =
     else (if is_word (codes "ipc") name then with_rest (ThreadNumber ∷ ThreadNilOrAny ∷ ThreadNilOrAny ∷ Symbol Timeouts ∷ Symbol Window ∷ []) Message
     else (if is_word (codes "delegate") name then just (ThreadNumber ∷ ThreadNilOrAny ∷ Number ∷ Number ∷ Number ∷ Rights ∷ [])
     else (if is_word (codes "part") name then just (ThreadNumber ∷ ThreadNilOrAny ∷ Number ∷ Number ∷ Number ∷ Number ∷ Rights ∷ [])
-    else (if is_word (codes "unmap") name then with_rest (ThreadNumber ∷ Number ∷ []) Fpages
+    else (if is_word (codes "unmap") name then with_rest (ThreadNumber ∷ []) Unmap
     else (if is_word (codes "show") name then just (ThreadNumber ∷ Number ∷ Number ∷ [])
     else (if is_word (codes "parent") name then just (ThreadNumber ∷ Number ∷ [])
     else pager_shape_of name))))))))))
@@ -84,6 +85,7 @@ expected_for otherwise Unknown = otherwise
 expected_for otherwise NoWindow = otherwise
 expected_for otherwise NoFpage = otherwise
 expected_for otherwise NoTimeouts = otherwise
+expected_for otherwise NoControl = otherwise
 expected_for otherwise reason = Because reason
 
 abbrev pub symbol_expected : Expected → Result ℕ Reason → Expected
@@ -105,13 +107,45 @@ abbrev pub end_stop : ℕ → List (List ℕ) → Option Place
 end_stop number [] = None
 end_stop number (token ∷ tokens) = wrong number token LineEnd
 
+-- A control word counts fpages. If it or one of the fpages is symbolic, the line has as many as it counts: `left` more of them.
+
+-- what would be right in place of a token that is not the next fpage, where `symbolic` says whether it or a token before it is symbolic
+abbrev pub fpage_wrong : PageSize → Names → Bool → ℕ → List ℕ → Option Expected
+fpage_wrong size names symbolic left token =
+    if is_of size names (Symbol Fpage) token then (if symbolic && left == 0 then Some CountedEnd else None)
+    else Some (symbol_expected FpageOrEnd (word_in Fpage size token))
+
+-- the end of the fpages
+abbrev pub short_stop : Bool → ℕ → ℕ → Option Place
+short_stop symbolic left number = if symbolic && nat_lt 0 left then missing number CountedFpage else None
+
+-- a token of this number is wrong, or else what follows it
+abbrev pub token_or_stop : ℕ → List ℕ → Option Expected → Option Place → Option Place
+token_or_stop number token (Some expected) later = wrong number token expected
+token_or_stop number token None later = later
+
+-- whether this token or one before it is symbolic
+abbrev pub is_symbolic : Bool → List ℕ → Bool
+is_symbolic symbolic token = symbolic || not (is_number token)
+
 -- at most this number of fpages, the first of which is the token of this number; None if that is right to the end
-abbrev pub fpages_stop : PageSize → Names → ℕ → ℕ → List (List ℕ) → Option Place
-fpages_stop size names number most [] = None
-fpages_stop size names number zero (token ∷ tokens) = wrong number token LineEnd
-fpages_stop size names number (suc most) (token ∷ tokens) =
-    if is_of size names (Symbol Fpage) token then fpages_stop size names (number + 1) most tokens
-    else wrong number token (symbol_expected FpageOrEnd (word_in Fpage size token))
+abbrev pub fpages_stop : PageSize → Names → Bool → ℕ → ℕ → ℕ → List (List ℕ) → Option Place
+fpages_stop size names symbolic left number most [] = short_stop symbolic left number
+fpages_stop size names symbolic left number zero (token ∷ tokens) = wrong number token LineEnd
+fpages_stop size names symbolic left number (suc most) (token ∷ tokens) =
+    token_or_stop number token (fpage_wrong size names (is_symbolic symbolic token) left token)
+    (fpages_stop size names (is_symbolic symbolic token) (left - 1) (number + 1) most tokens)
+
+-- behind a token in the place of a control word: the fpages, or that the token is wrong
+abbrev pub control_or_stop : PageSize → Names → ℕ → List ℕ → List (List ℕ) → Option ℕ → Option Place
+control_or_stop size names number token tokens None = wrong number token (expected_at size (Symbol Control) token)
+control_or_stop size names number token tokens (Some control) =
+    fpages_stop size names (not (is_number token)) (fpage_count control) (number + 1) max_words tokens
+
+-- a control word, and the fpages
+abbrev pub unmap_stop : PageSize → Names → ℕ → List (List ℕ) → Option Place
+unmap_stop size names number [] = missing number (Token (Symbol Control))
+unmap_stop size names number (token ∷ tokens) = control_or_stop size names number token tokens (symbol_of Control size token)
 
 -- behind a token of this number: what follows it, or that it is wrong
 abbrev pub row_or_stop : ℕ → List ℕ → Expected → Result Row Reason → (Row → Option Place) → Option Place
@@ -136,7 +170,7 @@ answer_stop number (token ∷ tokens) = None
 abbrev pub rest_stop : PageSize → Names → ℕ → Rest → List (List ℕ) → Option Place
 rest_stop size names number Nothing tokens = end_stop number tokens
 rest_stop size names number Message tokens = message_stop size number tokens
-rest_stop size names number Fpages tokens = fpages_stop size names number max_words tokens
+rest_stop size names number Unmap tokens = unmap_stop size names number tokens
 rest_stop size names number Answer tokens = answer_stop number tokens
 
 -- tokens of these kinds, and then the rest

@@ -14,12 +14,12 @@ use Rattle.l4_names.specs.Names.{Names}
 use Rattle.l4_refusals.specs.Texts.{texts, text_in, spelled}
 use Rattle.l4_reasons.specs.Reasons.{line_says, token_says, symbol_says, missing_says}
 use Rattle.l4_symbols.specs.Reasons.{reason_text}
-use Rattle.l4_symbols.specs.declared.words.WordKind.TheVariants.{Fpage, Window, Timeouts}
+use Rattle.l4_symbols.specs.declared.words.WordKind.TheVariants.{Fpage, Window, Timeouts, Control, Id}
 use Rattle.l4_text.specs.Tokens.{tokens_of}
 use Rattle.l4_commands.specs.declared.kinds.TokenKind.{TokenKind}
 use Rattle.l4_commands.specs.declared.kinds.TokenKind.TheVariants.{ThreadNumber, ThreadOrNew, ThreadOrNil, ThreadNilOrAny, Number, Symbol, Rights, NewName}
 use Rattle.l4_sinks.specs.declared.stops.Expected.{Expected}
-use Rattle.l4_sinks.specs.declared.stops.Expected.TheVariants.{CommandName, Token, Because, OtherName, TagOrEnd, WordOrEnd, FpageOrEnd, LineEnd, AnyAnswer}
+use Rattle.l4_sinks.specs.declared.stops.Expected.TheVariants.{CommandName, Token, Because, OtherName, TagOrEnd, WordOrEnd, FpageOrEnd, CountedFpage, CountedEnd, LineEnd, AnyAnswer}
 use Rattle.l4_sinks.specs.Stops.{Place as Stopped, stop_of}
 
 unfoldable pub transfer_says : Outcome → List ℕ
@@ -130,6 +130,8 @@ kind_says Number = codes "a number from 0 to 0xffffffff"
 kind_says (Symbol Window) = codes "a number, \"all\", \"none\" or pages, as \"32+4\""
 kind_says (Symbol Timeouts) = codes "a number, \"never\", \"zero\" or two of these, as \"zero,never\""
 kind_says (Symbol Fpage) = codes "a number or an fpage, as \"16+4:rwx\""
+kind_says (Symbol Control) = codes "a number, or a count of fpages, as \"unmap:2\" or \"flush:2\""
+kind_says (Symbol Id) = codes "a number or a thread id, as \"3,1\""
 kind_says Rights = codes "rights, as \"rwx\" or \"r--\""
 kind_says NewName = codes "a name: a letter, then letters, digits or hyphens, at most 24 in all"
 
@@ -142,6 +144,8 @@ expected_says OtherName = codes "a name that is not a word of the language"
 expected_says TagOrEnd = codes "a number from 0 to 0xffffffff, a tag, as \"tag:7\", or the end of the line"
 expected_says WordOrEnd = codes "a number from 0 to 0xffffffff, an item, as \"map:16+4>32:rwx\", or the end of the line"
 expected_says FpageOrEnd = codes "a number from 0 to 0xffffffff, an fpage, as \"16+4:rwx\", or the end of the line"
+expected_says CountedFpage = codes "an fpage, because CONTROL counts more of them"
+expected_says CountedEnd = codes "the end of the line, because CONTROL counts fewer fpages"
 expected_says LineEnd = codes "the end of the line"
 expected_says AnyAnswer = codes "an answer, as \"3 waits\" or \"stuck 4 9\""
 

@@ -221,6 +221,10 @@ fn kind_says(kind: TokenKind) -> &'static [u8]
             b"a number, \"never\", \"zero\" or two of these, as \"zero,never\""
         }
         TokenKind::Symbol(WordKind::Fpage) => b"a number or an fpage, as \"16+4:rwx\"",
+        TokenKind::Symbol(WordKind::Control) => {
+            b"a number, or a count of fpages, as \"unmap:2\" or \"flush:2\""
+        }
+        TokenKind::Symbol(WordKind::Id) => b"a number or a thread id, as \"3,1\"",
         TokenKind::Rights => b"rights, as \"rwx\" or \"r--\"",
         TokenKind::NewName => {
             b"a name: a letter, then letters, digits or hyphens, at most 24 in all"
@@ -248,6 +252,8 @@ pub(crate) fn expected_says(expected: Expected) -> &'static [u8]
         Expected::FpageOrEnd => {
             b"a number from 0 to 0xffffffff, an fpage, as \"16+4:rwx\", or the end of the line"
         }
+        Expected::CountedFpage => b"an fpage, because CONTROL counts more of them",
+        Expected::CountedEnd => b"the end of the line, because CONTROL counts fewer fpages",
         Expected::LineEnd => b"the end of the line",
         Expected::AnyAnswer => b"an answer, as \"3 waits\" or \"stuck 4 9\"",
     }

@@ -4,15 +4,15 @@ ghost use Rattle.l4_msg.specs.Sizes.{max_words};
 ghost use Rattle.l4_symbols.specs.Computed.{word_in};
 ghost use Rattle.l4_symbols.specs.Rows.{row_in};
 ghost use Rattle.l4_text.specs.Tokens.{tokens_of};
-ghost use Rattle.l4_sinks.specs.Stops.{with_rest, pager_shape_of, shape_of, shape_in, expected_for, expected_at, symbol_expected, expected_name, end_stop, fpages_stop, row_stop, message_stop, answer_stop, rest_stop, kinds_stop, stop_of, place_in, IsStop};
+ghost use Rattle.l4_sinks.specs.Stops.{with_rest, pager_shape_of, shape_of, shape_in, expected_for, expected_at, symbol_expected, expected_name, end_stop, fpage_wrong, short_stop, is_symbolic, fpages_stop, unmap_stop, row_stop, message_stop, answer_stop, rest_stop, kinds_stop, stop_of, place_in, IsStop};
 
 use crate::sentences::is;
-use l4_commands::{TokenKind, is_of_kind};
+use l4_commands::{TokenKind, fpage_count, is_of_kind, symbol};
 use l4_fpage::PageSize;
 use l4_msg::MAX_WORDS;
 use l4_names::{Names, is_name};
 use l4_symbols::{MessageTokens, Reason, WordKind, word_of};
-use l4_text::next_token;
+use l4_text::{next_token, number};
 
 /// What is right at a place of a line.
 #[derive(Clone, Copy)]
@@ -31,6 +31,10 @@ pub enum Expected {
     WordOrEnd,
     /// A number, an fpage, or the end of the line.
     FpageOrEnd,
+    /// One more fpage: the control word counts more of them.
+    CountedFpage,
+    /// The end of the line: the control word counts fewer fpages.
+    CountedEnd,
     /// The end of the line.
     LineEnd,
     /// An answer: one token or more, of any kind.
@@ -44,8 +48,8 @@ pub(crate) enum Rest {
     Nothing,
     /// The tokens of a message.
     Message,
-    /// Fpages.
-    Fpages,
+    /// The control word and the fpages of an Unmap.
+    Unmap,
     /// An answer: one token or more, of any kind.
     Answer,
 }
@@ -102,7 +106,7 @@ const PART_KINDS: &[TokenKind] = &[
     TokenKind::Rights,
 ];
 
-const UNMAP_KINDS: &[TokenKind] = &[TokenKind::ThreadNumber, TokenKind::Number];
+const PARENT_KINDS: &[TokenKind] = &[TokenKind::ThreadNumber, TokenKind::Number];
 
 const SHOW_KINDS: &[TokenKind] = &[
     TokenKind::ThreadNumber,
@@ -215,13 +219,13 @@ fn form_of(name: &[u8]) -> Option<Form>
         return of_kinds(PART_KINDS, Rest::Nothing);
     }
     if is(name, b"unmap") {
-        return of_kinds(UNMAP_KINDS, Rest::Fpages);
+        return of_kinds(ONE_THREAD, Rest::Unmap);
     }
     if is(name, b"show") {
         return of_kinds(SHOW_KINDS, Rest::Nothing);
     }
     if is(name, b"parent") {
-        return of_kinds(UNMAP_KINDS, Rest::Nothing);
+        return of_kinds(PARENT_KINDS, Rest::Nothing);
     }
     pager_form(name)
 }
@@ -236,6 +240,7 @@ fn expected_for(otherwise: Expected, reason: Reason) -> Expected
         Reason::Window => otherwise,
         Reason::Fpage => otherwise,
         Reason::Timeouts => otherwise,
+        Reason::Control => otherwise,
         _ => Expected::Because(reason),
     }
 }
@@ -286,26 +291,113 @@ fn end_stop(number: u64, line: &[u8]) -> Option<Stop<'_>>
     })
 }
 
-/// Where a text stops that has fpages, at most as many as there are message registers, and no more. Its first token has this number.
-fn fpages_stop<'a>(first: u64, line: &'a [u8], size: PageSize, names: &Names) -> Option<Stop<'a>>
-    requires { first ≤ 100 }
-    ensures { option_map place_in result ≡ fpages_stop size names.now first max_words (tokens_of line.now) }
+/// What would be right in place of a token that is not the next fpage of an Unmap. The control word counts `left` more fpages, and `symbolic`
+/// says whether the token or one before it is symbolic.
+fn fpage_wrong(
+    token: &[u8],
+    size: PageSize,
+    names: &Names,
+    left: usize,
+    symbolic: bool,
+) -> Option<Expected>
+    ensures { result ≡ fpage_wrong size names.now symbolic left token.now }
+{
+    if !is_of_kind(TokenKind::Symbol(WordKind::Fpage), token, size, names) {
+        return Some(symbol_expected(Expected::FpageOrEnd, WordKind::Fpage, token, size));
+    }
+    if symbolic && left == 0 {
+        return Some(Expected::CountedEnd);
+    }
+    None
+}
+
+/// Where a line stops that ends behind fpages of an Unmap, if it ends too early.
+fn short_stop(number: u64, left: usize, symbolic: bool) -> Option<Stop<'static>>
+    ensures { option_map place_in result ≡ short_stop symbolic left number }
+{
+    if symbolic && left > 0 {
+        return Some(Stop {
+            number,
+            token: None,
+            expected: Expected::CountedFpage,
+        });
+    }
+    None
+}
+
+/// Returns whether this token or one before it is symbolic.
+fn is_symbolic(symbolic: bool, token: &[u8]) -> bool
+    ensures { result ≡ is_symbolic symbolic token.now }
+{
+    symbolic || number(token).is_none()
+}
+
+/// Where a text stops that has fpages, at most as many as there are message registers, and no more. Its first token has this number. The
+/// control word counts `counted` fpages, and `symbolic` says whether it is symbolic.
+fn fpages_stop<'a>(
+    first: u64,
+    line: &'a [u8],
+    size: PageSize,
+    names: &Names,
+    counted: usize,
+    symbolic: bool,
+) -> Option<Stop<'a>>
+    requires few { first ≤ 100 }
+    requires fit { counted ≤ max_words }
+    ensures { option_map place_in result
+        ≡ fpages_stop size names.now symbolic counted first max_words (tokens_of line.now) }
 {
     let mut rest = line;
+    let mut left = counted;
+    let mut is_any = symbolic;
     for count in 0..MAX_WORDS {
+        let number = first + count as u64;
         let Some((token, after)) = next_token(rest) else {
-            return None;
+            return short_stop(number, left, is_any);
         };
-        if !is_of_kind(TokenKind::Symbol(WordKind::Fpage), token, size, names) {
+        is_any = is_symbolic(is_any, token);
+        if let Some(expected) = fpage_wrong(token, size, names, left, is_any) {
             return Some(Stop {
-                number: first + count as u64,
+                number,
                 token: Some(token),
-                expected: symbol_expected(Expected::FpageOrEnd, WordKind::Fpage, token, size),
+                expected,
             });
         }
         rest = after;
+        left = left.saturating_sub(1);
     }
     end_stop(first + MAX_WORDS as u64, rest)
+}
+
+/// Where a text stops that has the control word and the fpages of an Unmap, and no more. Its first token has this number.
+fn unmap_stop<'a>(first: u64, line: &'a [u8], size: PageSize, names: &Names) -> Option<Stop<'a>>
+    requires { first ≤ 50 }
+    ensures { option_map place_in result ≡ unmap_stop size names.now first (tokens_of line.now) }
+{
+    let kind = TokenKind::Symbol(WordKind::Control);
+    let Some((token, rest)) = next_token(line) else {
+        return Some(Stop {
+            number: first,
+            token: None,
+            expected: Expected::Token(kind),
+        });
+    };
+    let Some(control) = symbol(WordKind::Control, token, size) else {
+        return Some(Stop {
+            number: first,
+            token: Some(token),
+            expected: expected_at(kind, token, size),
+        });
+    };
+    let counted = fpage_count(control);
+    fpages_stop(
+        first + 1,
+        rest,
+        size,
+        names,
+        counted,
+        is_symbolic(false, token),
+    )
 }
 
 /// Where a text stops that has the tokens of a message behind those that were read, and no more. Its first token has this number.
@@ -377,7 +469,7 @@ fn rest_stop<'a>(
     match rest {
         Rest::Nothing => end_stop(number, line),
         Rest::Message => message_stop(number, line, size),
-        Rest::Fpages => fpages_stop(number, line, size, names),
+        Rest::Unmap => unmap_stop(number, line, size, names),
         Rest::Answer => answer_stop(number, line),
     }
 }

@@ -1,4 +1,5 @@
 pub mod Computed
+pub mod Controls
 pub mod Cuts
 pub mod Examples
 pub mod Named

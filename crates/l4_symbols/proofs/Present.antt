@@ -33,7 +33,7 @@ use Rattle.l4_symbols.specs.declared.spelling.Pages.{Pages}
 use Rattle.l4_symbols.specs.declared.spelling.WindowParts.{WindowParts}
 use Rattle.l4_symbols.specs.declared.spelling.WindowParts.TheVariants.{All, Nothing, Run}
 use Rattle.l4_symbols.specs.declared.words.WordKind.{WordKind}
-use Rattle.l4_symbols.specs.declared.words.WordKind.TheVariants.{Fpage as AnFpage, Window, Timeouts}
+use Rattle.l4_symbols.specs.declared.words.WordKind.TheVariants.{Fpage as AnFpage, Window, Timeouts, Control, Id}
 use Rattle.l4_text.specs.Numbers.{number_of}
 use Rattle.l4_symbols.proofs.Computed.{pages_are, item_is}
 use Rattle.l4_symbols.proofs.Named.{log_within}
@@ -151,6 +151,8 @@ pub word_named : (kind : WordKind) (size : PageSize) (token : List ℕ) (word : 
 word_named AnFpage size token word is = fpage_named size token word is
 word_named Window size token word is = window_named size token word is
 word_named Timeouts size token word is = is
+word_named Control size token word is = is
+word_named Id size token word is = is
 
 -- ---- items
 

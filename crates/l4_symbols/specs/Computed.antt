@@ -4,7 +4,7 @@ use Rattle.l4_fpage.specs.Pages.{page_log, page_bytes, space_log, space_pages}
 use Rattle.l4_fpage.specs.Rights.{RightsSet, no_rights, bits_of}
 use Rattle.l4_fpage.specs.declared.sizes.PageSize.{PageSize}
 use Rattle.l4_symbols.specs.Spelling.{◌>>=◌, item_in, fpage_in, window_in}
-use Rattle.l4_symbols.specs.Words.{timeouts_word}
+use Rattle.l4_symbols.specs.Words.{control_word, id_word, timeouts_word}
 use Rattle.l4_symbols.specs.declared.reasons.Reason.{Reason}
 use Rattle.l4_symbols.specs.declared.reasons.Reason.TheVariants.{Count, Beyond, Unaligned, Base}
 use Rattle.l4_symbols.specs.declared.spelling.Pages.{Pages}
@@ -12,7 +12,7 @@ use Rattle.l4_symbols.specs.declared.spelling.ItemParts.{ItemParts}
 use Rattle.l4_symbols.specs.declared.spelling.WindowParts.{WindowParts}
 use Rattle.l4_symbols.specs.declared.spelling.WindowParts.TheVariants.{All, Nothing, Run}
 use Rattle.l4_symbols.specs.declared.words.WordKind.{WordKind}
-use Rattle.l4_symbols.specs.declared.words.WordKind.TheVariants.{Fpage as AnFpage, Window, Timeouts}
+use Rattle.l4_symbols.specs.declared.words.WordKind.TheVariants.{Fpage as AnFpage, Window, Timeouts, Control, Id}
 
 -- the binary logarithm of a number, if it is one of the first n powers of two
 abbrev pub log_below : ℕ → ℕ → Option ℕ
@@ -58,6 +58,8 @@ abbrev pub word_in : WordKind → PageSize → List ℕ → Result ℕ Reason
 word_in AnFpage size token = fpage_word_in size token
 word_in Window size token = window_word_in size token
 word_in Timeouts size token = timeouts_word token
+word_in Control size token = control_word token
+word_in Id size token = id_word token
 
 -- the first word of an item after which none follows: the send base, and the kind
 abbrev pub first_word : PageSize → ItemParts → ℕ

@@ -1,7 +1,7 @@
 -- What would be right in place of a token, as text (this profile's own).
 use Rattle.std.specs.Prelude.{ℕ, List, codes}
 use Rattle.l4_symbols.specs.declared.reasons.Reason.{Reason}
-use Rattle.l4_symbols.specs.declared.reasons.Reason.TheVariants.{NoTag, Label, Unknown, NoBase, NoRights, Window, Fpage, Timeouts, Number, Rights, Count, Beyond, Unaligned, Base, Behind, Full}
+use Rattle.l4_symbols.specs.declared.reasons.Reason.TheVariants.{NoTag, Label, Unknown, NoBase, NoRights, Window, Fpage, Timeouts, Number, Rights, Count, Beyond, Unaligned, Base, Behind, Full, Control, FpageCount, Id, BadId}
 
 unfoldable pub reason_text : Reason → List ℕ
 reason_text NoTag = codes "the first token must be tag:LABEL"
@@ -20,3 +20,7 @@ reason_text Unaligned = codes "the first page must be a multiple of the number o
 reason_text Base = codes "the send base must be a page of the space, which ends at page 1048575, or at page 4194303 with pages of 1024 bytes"
 reason_text Behind = codes "untyped words must come before the items"
 reason_text Full = codes "a message has at most 63 words after its tag; an item takes two"
+reason_text Control = codes "expected unmap:COUNT or flush:COUNT, as in flush:1"
+reason_text FpageCount = codes "the number of fpages must be from 1 to 64"
+reason_text Id = codes "expected nil, any, THREAD or THREAD,VERSION, as in 3 or 3,1"
+reason_text BadId = codes "no thread can have this id: its number is from 1 to 262143, and its version from 1 to 16383 and no multiple of 64"

@@ -1,5 +1,5 @@
 -- How symbolic tokens are spelled (this profile's own).
-use Rattle.std.specs.Prelude.{ℕ, ◌+◌, ◌==◌, Bool, true, false, List, length, slice_index, take, drop, Option, Some, None, option_map, Result, Ok, Err, ok_or, if◌then◌else◌, codes}
+use Rattle.std.specs.Prelude.{ℕ, ◌+◌, ◌*◌, ◌%◌, ◌==◌, ◌&&◌, nat_lt, nat_le, Bool, true, false, not, List, length, slice_index, take, drop, Option, Some, None, option_map, Result, Ok, Err, ok_or, if◌then◌else◌, codes}
 use Rattle.std.specs.List.{position}
 use Rattle.std.specs.Str.{bytes_eq}
 use Rattle.l4_fpage.specs.Rights.{RightsSet}
@@ -7,7 +7,7 @@ use Rattle.l4_ipc.specs.declared.constructors.Timeout.{Timeout}
 use Rattle.l4_ipc.specs.declared.constructors.Timeout.TheVariants.{Never, Zero}
 use Rattle.l4_text.specs.Numbers.{number_of, below}
 use Rattle.l4_symbols.specs.declared.reasons.Reason.{Reason}
-use Rattle.l4_symbols.specs.declared.reasons.Reason.TheVariants.{NoTag, Label, Unknown, NoBase, NoRights, Number, Rights, Window, Fpage, Timeouts}
+use Rattle.l4_symbols.specs.declared.reasons.Reason.TheVariants.{NoTag, Label, Unknown, NoBase, NoRights, Number, Rights, Window, Fpage, Timeouts, Control, FpageCount, Id, BadId}
 use Rattle.l4_symbols.specs.declared.spelling.Pages.{Pages}
 use Rattle.l4_symbols.specs.declared.spelling.ItemParts.{ItemParts}
 use Rattle.l4_symbols.specs.declared.spelling.FpageParts.{FpageParts}
@@ -116,3 +116,38 @@ timeouts_of text (Some parts) = do
 -- BOTH, or SEND,RECEIVE
 unfoldable pub timeouts_in : List ℕ → Result (Timeout × Timeout) Reason
 timeouts_in token = timeouts_of token (cut_at 44 token)
+
+-- the name of a control word: whether the caller's own pages lose the rights too
+abbrev pub is_flush_in : List ℕ → Result Bool Reason
+is_flush_in name = if bytes_eq name (codes "unmap") then Ok false else (if bytes_eq name (codes "flush") then Ok true else Err Control)
+
+-- a number of fpages: there are 1 to 64 of them
+abbrev pub fpage_count_of : Option ℕ → Result ℕ Reason
+fpage_count_of None = Err FpageCount
+fpage_count_of (Some count) = if nat_lt 0 count && nat_le count 64 then Ok count else Err FpageCount
+
+-- unmap:COUNT or flush:COUNT: whether the caller's own pages lose the rights too, and the number of fpages
+unfoldable pub control_in : List ℕ → Result (Bool × ℕ) Reason
+control_in token = do
+  named ← ok_or (cut_at 58 token) Control
+  flush ← is_flush_in named.0
+  count ← fpage_count_of (number_of named.1)
+  Ok (flush, count)
+
+-- a number of a thread or a version
+unfoldable pub id_number_in : List ℕ → Result ℕ Reason
+id_number_in text = ok_or (number_of text) Id
+
+-- THREAD alone, whose version is 1, or THREAD and VERSION
+abbrev pub id_parts : List ℕ → Option (List ℕ × List ℕ) → Result (ℕ × ℕ) Reason
+id_parts text None = do
+  number ← id_number_in text
+  Ok (number, 1)
+id_parts text (Some parts) = do
+  number ← id_number_in parts.0
+  version ← id_number_in parts.1
+  Ok (number, version)
+
+-- THREAD or THREAD,VERSION
+unfoldable pub id_in : List ℕ → Result (ℕ × ℕ) Reason
+id_in token = id_parts token (cut_at 44 token)

@@ -1,5 +1,5 @@
 //! What the words of symbolic tokens mean.
-ghost use Rattle.std.specs.Prelude.{◌≡◌, ◌↔◌, ℕ, List, ◌∷◌, Bool, false, None, Ok};
+ghost use Rattle.std.specs.Prelude.{◌≡◌, ◌↔◌, ◌⊎◌, ℕ, List, ◌∷◌, Bool, false, None, Ok};
 ghost use Rattle.l4_fpage.specs.Fpages.{HoldsPage, ReadsAs};
 ghost use Rattle.l4_fpage.specs.Rights.{RightsSet};
 ghost use Rattle.l4_fpage.specs.declared.fpages.Fpage.{Fpage as AnFpage};
@@ -16,18 +16,23 @@ ghost use Rattle.l4_symbols.specs.Computed.{word_in};
 ghost use Rattle.l4_symbols.specs.Items.{IsFpageOf, IsOneOf, NamesItem};
 ghost use Rattle.l4_symbols.specs.Messages.{IsMessageOf};
 ghost use Rattle.l4_symbols.specs.Rows.{message_words_in};
-ghost use Rattle.l4_symbols.specs.Spelling.{timeouts_in};
-ghost use Rattle.l4_symbols.specs.Words.{FpageWord, IsInWindow, IsWindowOf, NamesFpage, NamesWindow, NamesWord, WindowWord, timeouts_word};
+ghost use Rattle.l4_symbols.specs.Spelling.{control_in, id_in, timeouts_in};
+ghost use Rattle.l4_symbols.specs.Words.{FpageWord, IsInWindow, IsWindowOf, NamesFpage, NamesWindow, NamesWord, WindowWord, control_word, id_word, timeouts_word};
 ghost use Rattle.l4_symbols.specs.declared.spelling.Pages.{Pages as SomePages};
 ghost use Rattle.l4_symbols.specs.declared.spelling.WindowParts.{WindowParts as SomeWindow};
 ghost use Rattle.l4_symbols.specs.declared.words.WordKind.{WordKind as AWordKind};
 ghost use Rattle.l4_text.specs.Numbers.{number_of};
+ghost use Rattle.l4_threads.specs.Control.{IsGlobalId};
+ghost use Rattle.l4_threads.specs.Threads.{nilthread, anythread};
+ghost use Rattle.l4_unmap.specs.Unmap.{fpage_count, with_own};
 
 /// Ghost function: gives a proof that the words of a token are read as what the token names. It compiles to nothing.
 ///
 /// The words of an item are read as an item with its kind, send base, pages and rights. The word of an fpage is read as an fpage with its
 /// pages and rights, and the word of a window as a window with its pages and without rights. The pages of each are those of the token. A call
-/// with the timeouts word of a token has the token's send timeout and receive timeout, and is not refused for them. A word that is computed from a
+/// with the timeouts word of a token has the token's send timeout and receive timeout, and is not refused for them. The control word of a token is
+/// read as its number of fpages, and as a flush if it is one. The word of an id is that of nilthread, of anythread, or of the global id with the
+/// number and the version of the token, which a thread can have. A word that is computed from a
 /// token is one that the token names, and the words that are computed from the tokens of a message with a label are those of a message that the
 /// tokens name.
 pub fn read_as_named()
@@ -53,4 +58,10 @@ pub fn read_as_named()
         → (timeouts : Timeout × Timeout) × (timeouts_in token ≡ Ok timeouts)
         × (send_timeout call ≡ timeout_bits timeouts.0)
         × (receive_timeout call ≡ timeout_bits timeouts.1) × (has_bad_timeout call ≡ false) }
+    ensures control { (token : List ℕ) (word : ℕ) → control_word token ≡ Ok word
+        → (control : Bool × ℕ) × (control_in token ≡ Ok control)
+        × (with_own word ≡ control.0) × (fpage_count word ≡ control.1) }
+    ensures id { (token : List ℕ) (word : ℕ) → id_word token ≡ Ok word
+        → (word ≡ nilthread.0) ⊎ ((word ≡ anythread.0) ⊎ ((parts : ℕ × ℕ) × (id_in token ≡ Ok parts)
+        × IsGlobalId parts.0 parts.1 (record { 0 = word }))) }
 {}

@@ -40,6 +40,14 @@ pub enum Reason {
     Behind,
     /// A word or an item for which the message has no room.
     Full,
+    /// A token that does not name the control of Unmap.
+    Control,
+    /// A number of fpages that is not from 1 to 64.
+    FpageCount,
+    /// A token that does not name a thread's id.
+    Id,
+    /// The number and the version of an id that no thread can have.
+    BadId,
 }
 
 impl Reason {
@@ -82,6 +90,12 @@ impl Reason {
             }
             Reason::Behind => b"untyped words must come before the items",
             Reason::Full => b"a message has at most 63 words after its tag; an item takes two",
+            Reason::Control => b"expected unmap:COUNT or flush:COUNT, as in flush:1",
+            Reason::FpageCount => b"the number of fpages must be from 1 to 64",
+            Reason::Id => b"expected nil, any, THREAD or THREAD,VERSION, as in 3 or 3,1",
+            Reason::BadId => {
+                b"no thread can have this id: its number is from 1 to 262143, and its version from 1 to 16383 and no multiple of 64"
+            }
         }
     }
 }

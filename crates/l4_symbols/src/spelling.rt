@@ -1,7 +1,7 @@
 //! Reads the parts of symbolic tokens.
-ghost use Rattle.std.specs.Prelude.{◌≡◌, ◌==◌, option_map};
+ghost use Rattle.std.specs.Prelude.{◌≡◌, ◌==◌, ◌≤◌, IfOk, option_map};
 ghost use Rattle.std.specs.List.{position};
-ghost use Rattle.l4_symbols.specs.Spelling.{cut_at, number_in, right_in, rights_in, counted_in, pages_in, is_grant_in, item_in, label_in, fpage_in, run_in, window_in, timeout_in, timeouts_in};
+ghost use Rattle.l4_symbols.specs.Spelling.{cut_at, number_in, right_in, rights_in, counted_in, pages_in, is_grant_in, item_in, label_in, fpage_in, run_in, window_in, timeout_in, timeouts_in, is_flush_in, fpage_count_of, control_in, id_number_in, id_in};
 
 use crate::reasons::Reason;
 use l4_fpage::Rights;
@@ -21,6 +21,13 @@ const NONE: &[u8] = b"none";
 const NEVER: &[u8] = b"never";
 
 const ZERO: &[u8] = b"zero";
+
+const UNMAP: &[u8] = b"unmap";
+
+const FLUSH: &[u8] = b"flush";
+
+/// The most fpages of an Unmap.
+const MOST_FPAGES: u32 = 64;
 
 /// The pages in a token: the first one, and their number.
 #[derive(Clone, Copy)]
@@ -246,4 +253,62 @@ pub(crate) fn timeouts_in(token: &[u8]) -> Result<(Timeout, Timeout), Reason>
     let send = timeout_in(send)?;
     let receive = timeout_in(receive)?;
     Ok((send, receive))
+}
+
+/// Returns whether the name of a control word is that of a flush.
+fn is_flush_in(name: &[u8]) -> Result<bool, Reason>
+    ensures { result ≡ is_flush_in name.now }
+{
+    if name == UNMAP {
+        return Ok(false);
+    }
+    if name == FLUSH {
+        return Ok(true);
+    }
+    Err(Reason::Control)
+}
+
+/// Returns a number of fpages, if there can be as many.
+fn fpage_count(number: Option<u32>) -> Result<u32, Reason>
+    ensures value { result ≡ fpage_count_of number }
+    ensures few { IfOk result (λ count. count ≤ 64) }
+{
+    match number {
+        Some(count) if count > 0 && count <= MOST_FPAGES => Ok(count),
+        _ => Err(Reason::FpageCount),
+    }
+}
+
+/// Reads `unmap:COUNT` or `flush:COUNT`. Returns whether it is a flush, with the number of fpages.
+#[tactic(auto, unfolding(crate::specs::Spelling::control_in))]
+pub(crate) fn control_in(token: &[u8]) -> Result<(bool, u32), Reason>
+    ensures value { result ≡ control_in token.now }
+    ensures few { IfOk result (λ control. control.1 ≤ 64) }
+{
+    let (name, count) = cut_at(token, b':').ok_or(Reason::Control)?;
+    let flush = is_flush_in(name)?;
+    let count = fpage_count(number(count))?;
+    Ok((flush, count))
+}
+
+/// Reads the number of a thread or a version.
+#[tactic(auto, unfolding(crate::specs::Spelling::id_number_in))]
+fn id_number_in(text: &[u8]) -> Result<u32, Reason>
+    ensures { result ≡ id_number_in text.now }
+{
+    number(text).ok_or(Reason::Id)
+}
+
+/// Reads `THREAD`, whose version is 1, or `THREAD,VERSION`.
+#[tactic(auto, unfolding(crate::specs::Spelling::id_in))]
+pub(crate) fn id_in(token: &[u8]) -> Result<(u32, u32), Reason>
+    ensures { result ≡ id_in token.now }
+{
+    let Some((thread, version)) = cut_at(token, b',') else {
+        let number = id_number_in(token)?;
+        return Ok((number, 1));
+    };
+    let number = id_number_in(thread)?;
+    let version = id_number_in(version)?;
+    Ok((number, version))
 }

@@ -1,14 +1,14 @@
-//! Words in symbolic tokens: receive windows, fpages and timeouts.
-ghost use Rattle.std.specs.Prelude.{◌≡◌, ℕ, ◌+◌, ◌*◌, IfOk, IfErr};
+//! Words in symbolic tokens: receive windows, fpages, timeouts, the control of Unmap, and ids of threads.
+ghost use Rattle.std.specs.Prelude.{◌≡◌, ℕ, ◌+◌, ◌*◌, ◌≤◌, IfOk, IfErr};
 ghost use Rattle.std.specs.Result.{result_map_both};
 ghost use Rattle.l4_fpage.specs.Fpages.{fpage_word};
 ghost use Rattle.l4_ipc.specs.Constructors.{timeout_bits};
 ghost use Rattle.l4_symbols.specs.Computed.{fpage_word_in, window_word_of, window_word_in, word_in};
-ghost use Rattle.l4_symbols.specs.Words.{FpageWord, FpageRefused, IsWindowOf, NamesWord, WindowFails, WindowWord, WindowRefused, WordRefused, timeouts_word};
+ghost use Rattle.l4_symbols.specs.Words.{FpageWord, FpageRefused, IsWindowOf, NamesWord, WindowFails, WindowWord, WindowRefused, WordRefused, control_word, id_with, id_word, timeouts_word, word_of_control};
 
 use crate::pages::fpage_of;
 use crate::reasons::Reason;
-use crate::spelling::{WindowParts, fpage_in, timeouts_in, window_in};
+use crate::spelling::{WindowParts, control_in, fpage_in, id_in, timeouts_in, window_in};
 use l4_fpage::{Fpage, PageSize, Rights};
 use l4_ipc::Timeout;
 
@@ -21,7 +21,25 @@ pub enum WordKind {
     Window,
     /// A send timeout and a receive timeout.
     Timeouts,
+    /// The control of an Unmap.
+    Control,
+    /// The id of a thread.
+    Id,
 }
+
+/// The number of values of a thread number, of a version, and of the part of a version that is 0 in a local id.
+const NUMBERS: u32 = 1 << 18;
+
+const VERSIONS: u32 = 1 << 14;
+
+const LOCAL_MARKS: u32 = 1 << 6;
+
+/// The word of anythread.
+const ANY_THREAD: u32 = 0xffff_ffff;
+
+const NIL: &[u8] = b"nil";
+
+const ANY: &[u8] = b"any";
 
 /// Reads the fpage in a token, `FIRST+COUNT:RIGHTS`, in pages of this size, and returns its word. COUNT is a power of two, and FIRST a
 /// multiple of it. `+COUNT` may be omitted for one page. RIGHTS are r, w and x in this order, with a hyphen for each missing right.
@@ -98,10 +116,53 @@ fn timeouts_word(token: &[u8]) -> Result<u32, Reason>
     Ok(bits_of(send) * 0x10000 + bits_of(receive))
 }
 
+/// Reads the control of an Unmap in a token, `unmap:COUNT` or `flush:COUNT`, and returns the control word for this number of fpages. With
+/// `flush`, the caller's own pages lose the rights too.
+///
+/// Returns `Control` if the token has not this form, and `FpageCount` if COUNT is not from 1 to 64.
+#[tactic(auto, unfolding(crate::specs::Words::control_word))]
+fn control_word(token: &[u8]) -> Result<u32, Reason>
+    ensures { result ≡ control_word token.now }
+{
+    let (flush, count) = control_in(token)?;
+    Ok(count.saturating_sub(1) + if flush { 64 } else { 0 })
+}
+
+/// Returns the word of the id with this number and this version, if a thread can have it.
+fn id_with(number: u32, version: u32) -> Result<u32, Reason>
+    ensures { result ≡ id_with (number, version) }
+{
+    if number == 0 || number >= NUMBERS || version >= VERSIONS || version % LOCAL_MARKS == 0 {
+        return Err(Reason::BadId);
+    }
+    let word = number * VERSIONS + version;
+    if word == ANY_THREAD {
+        return Err(Reason::BadId);
+    }
+    Ok(word)
+}
+
+/// Reads the id of a thread in a token, and returns its word: `nil`, `any`, `THREAD`, whose version is 1, or `THREAD,VERSION`.
+///
+/// Returns `Id` if the token has not this form, and `BadId` if no thread can have the id.
+#[tactic(auto, unfolding(crate::specs::Words::id_word))]
+fn id_word(token: &[u8]) -> Result<u32, Reason>
+    ensures { result ≡ id_word token.now }
+{
+    if token == NIL {
+        return Ok(0);
+    }
+    if token == ANY {
+        return Ok(ANY_THREAD);
+    }
+    let (number, version) = id_in(token)?;
+    id_with(number, version)
+}
+
 /// Reads the word of this kind in a token, in pages of this size.
 ///
-/// Returns the first reason why the token does not name such a word: `Timeouts` if it is no timeouts; `Window` or `Fpage` if it has not the form
-/// of one; otherwise what is wrong with its numbers, its pages or its rights.
+/// Returns the first reason why the token does not name such a word: `Timeouts` if it is no timeouts; `Window`, `Fpage`, `Control` or `Id` if it
+/// has not the form of one; otherwise what is wrong with its numbers, its pages or its rights.
 pub fn word_of(kind: WordKind, token: &[u8], size: PageSize) -> Result<u32, Reason>
     ensures ok { IfOk result (NamesWord kind size token.now) }
     ensures err { IfErr result (WordRefused kind size token.now) }
@@ -112,5 +173,7 @@ pub fn word_of(kind: WordKind, token: &[u8], size: PageSize) -> Result<u32, Reas
         WordKind::Fpage => fpage_word(token, size),
         WordKind::Window => window_word(token, size),
         WordKind::Timeouts => timeouts_word(token),
+        WordKind::Control => control_word(token),
+        WordKind::Id => id_word(token),
     }
 }

@@ -507,7 +507,8 @@ class ScriptMaker(Maker):
         if command == "send":
             return tokens[:3] + symbols.message_tokens(words, self.page_log, labelled)
         if command == "unmap":
-            return tokens[:3] + [symbols.fpage_text(word, self.page_log) for word in words]
+            control = symbols.control_text(int(tokens[2], 0)) if self.random.random() < 0.5 else tokens[2]
+            return [*tokens[:2], control, *(symbols.fpage_text(word, self.page_log) for word in words)]
         if command == "ipc" and len(words) > 1:
             texts = [symbols.timeouts_text(words[0]), symbols.window_text(words[1], self.page_log)]
             return tokens[:4] + texts + symbols.message_tokens(words[2:], self.page_log, labelled)

@@ -185,10 +185,10 @@ class Tokens:
     def words(self):
         return tuple(self.symbol(symbols.words, self.left, self.page_log))
 
-    def fpages(self):
-        if len(self.left) > WORDS:
+    def revoked(self):
+        if not 1 <= len(self.left) <= 1 + WORDS:
             raise BadTokens
-        return tuple(self.symbol(symbols.fpage, token, self.page_log) for token in self.left)
+        return self.symbol(symbols.revoked, self.left, self.page_log)
 
     def end(self):
         if self.left:
@@ -259,8 +259,8 @@ class Shell:
         self.enter(number, ("ipc", to, partner, timeouts, window, tokens.words()))
 
     def do_unmap(self, tokens):
-        number, control = tokens.thread(), tokens.number()
-        self.enter(number, ("unmap", control, tokens.fpages()))
+        number = tokens.thread()
+        self.enter(number, ("unmap", *tokens.revoked()))
 
     def do_setpager(self, tokens):
         number, pager = tokens.thread(), tokens.pager()

@@ -8,6 +8,7 @@ RUN = re.compile(rf"{NUMBER}(?:\+{NUMBER})?")
 WINDOWS = {"all": 0x10, "none": 0}
 TIMEOUTS = {"never": 0, "zero": 0x400}
 KINDS = {"map": 8, "grant": 10}
+CONTROLS = {"unmap": 0, "flush": 64}
 LABELS = 1 << 16
 
 
@@ -74,6 +75,24 @@ def timeouts(token):
     return TIMEOUTS[send] << 16 | TIMEOUTS[receive if comma else send]
 
 
+def control(token):
+    """The control word of unmap:COUNT or flush:COUNT."""
+    if is_number(token):
+        return number(token)
+    name, colon, count = token.partition(":")
+    if name not in CONTROLS or not 1 <= number(count) <= 64:
+        raise Misspelled
+    return number(count) - 1 | CONTROLS[name]
+
+
+def revoked(tokens, page_log):
+    """The control word and the fpages of an Unmap: as many as the word counts, unless all tokens are numbers."""
+    word, fpages = control(tokens[0]), [fpage(token, page_log) for token in tokens[1:]]
+    if not all(map(is_number, tokens)) and len(fpages) != (word & 63) + 1:
+        raise Misspelled
+    return word, tuple(fpages)
+
+
 def item(token, page_log):
     """The two words of an item after which none follows."""
     found = re.fullmatch("(map|grant):([^>]*)>([^:]*):(.*)", token, re.DOTALL)
@@ -132,6 +151,11 @@ def run_text(word, page_log):
 def fpage_text(word, page_log):
     run = run_text(word, page_log)
     return f"{word:#x}" if run is None else f"{run}:{rights_text(word & FULL_RIGHTS)}"
+
+
+def control_text(word):
+    texts = {value: text for text, value in CONTROLS.items()}
+    return f"{texts[word & 64]}:{(word & 63) + 1}" if word < 128 else f"{word:#x}"
 
 
 def window_text(word, page_log):

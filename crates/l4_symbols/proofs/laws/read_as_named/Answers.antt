@@ -1,6 +1,7 @@
 use Rattle.l4_symbols.proofs.Named.{read_is_named, names_pages}
 use Rattle.l4_symbols.proofs.Reread.{fpage_read, window_read, window_pages, timeouts_kept}
 use Rattle.l4_symbols.proofs.Present.{word_named, message_named}
+use Rattle.l4_symbols.proofs.Controls.{control_kept, id_kept}
 use Rattle.l4_symbols.proofs.laws.read_as_named.Goals as goal
 
 pub returns-clause-item : goal.returns-clause-item
@@ -26,3 +27,9 @@ returns-clause-computed c = word_named
 
 pub returns-clause-words : goal.returns-clause-words
 returns-clause-words c = message_named
+
+pub returns-clause-control : goal.returns-clause-control
+returns-clause-control c = control_kept
+
+pub returns-clause-id : goal.returns-clause-id
+returns-clause-id c = id_kept
