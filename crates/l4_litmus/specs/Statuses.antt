@@ -7,10 +7,12 @@ use Rattle.l4_merges.specs.declared.found.Found.{Found}
 use Rattle.l4_merges.specs.declared.exploring.GaveUp.{GaveUp}
 use Rattle.l4_merges.specs.declared.exploring.GaveUp.TheVariants.{Bound, Memory, Full}
 use Rattle.l4_litmus.specs.declared.faults.TestFault.{TestFault}
-use Rattle.l4_litmus.specs.declared.faults.TestFault.TheVariants.{Stopped}
+use Rattle.l4_litmus.specs.declared.faults.TestFault.TheVariants.{Refused, Stopped}
 use Rattle.l4_orders.specs.Rules.{breaks_any}
 use Rattle.l4_orders.specs.declared.plans.Plan.{Plan}
 use Rattle.l4_programs.specs.Statuses.{run_status}
+use Rattle.l4_sinks.specs.declared.reasons.LineRefusal.{LineRefusal}
+use Rattle.l4_text.specs.declared.faults.RunFault.TheVariants.{Memory as NoMemory}
 
 -- 1 where not every order was followed, 4 where memory ran out
 abbrev pub orders_status : Result (Unit {0}) GaveUp → ℕ
@@ -37,6 +39,10 @@ found_status None plan explored = ruled_status (breaks_any plan explored.found.i
 abbrev pub failure_status : Failure → ℕ
 failure_status LacksMemory = 4
 failure_status IsFull = 1
+
+-- why a file with a refused line is not searched: memory that ran out is no fault of the line
+abbrev pub refusal_fault : LineRefusal → TestFault
+refusal_fault refusal = if refusal.lacks_memory then Stopped NoMemory else Refused refusal.reason
 
 -- a file that is not searched: 4 where memory ran out, else 2
 abbrev pub fault_status : TestFault → ℕ

@@ -1,12 +1,13 @@
 //! Why a file is not searched as a litmus test.
 ghost use Rattle.std.specs.Prelude.{◌≡◌};
-ghost use Rattle.l4_litmus.specs.Statuses.{failure_status, fault_status};
+ghost use Rattle.l4_litmus.specs.Statuses.{failure_status, fault_status, refusal_fault};
 
 use l4_merges::Failure;
 use l4_orders::{LineFault, PlanFault, line_code};
 use l4_programs::{NOT_UNDERSTOOD, stopped};
 use l4_reasons::Reason;
 use l4_refusals::{number_of, text_of};
+use l4_sinks::LineRefusal;
 use l4_text::RunFault;
 use std::fmt::{Display, Formatter};
 use std::{fmt, str};
@@ -66,6 +67,16 @@ impl Display for TestFault {
             TestFault::Stopped(_) => f.write_str("out of memory"),
         }
     }
+}
+
+/// Returns why a file with a refused line is not searched. If memory ran out, the line is not to blame.
+pub(crate) fn refusal_fault(refusal: LineRefusal) -> TestFault
+    ensures { result ≡ refusal_fault refusal }
+{
+    if refusal.lacks_memory {
+        return TestFault::Stopped(RunFault::Memory);
+    }
+    TestFault::Refused(refusal.reason)
 }
 
 /// Reports why a file is not searched, with its name if it has one. Returns the exit status.

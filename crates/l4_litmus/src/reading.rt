@@ -2,37 +2,17 @@
 ghost use Rattle.std.specs.Prelude.{◌≤◌};
 ghost use Rattle.l4_options.specs.Ranges.{IsFrameCount};
 
-use crate::faults::TestFault;
+use crate::faults::{TestFault, refusal_fault};
 use l4_answers::{first_line, later_lines};
 use l4_fpage::PageSize;
 use l4_options::ScriptOptions;
 use l4_orders::{LineFault, Plan, PlanFault, PlanLine, read_plan};
-use l4_reasons::Reason;
-use l4_sinks::record_script;
+use l4_sinks::first_refusal;
 use l4_text::{RunFault, next_token};
 use std::alloc::{AllocError, Global};
-use std::io::Read;
 
 /// The command that gives a name.
 const NAME: &[u8] = b"name";
-
-/// Returns the reason why the first refused line of a script is refused. None if no line is.
-fn refusal_in<Q: Read>(
-    alloc: Global,
-    frames: u32,
-    size: PageSize,
-    reader: &mut Q,
-) -> Result<Option<Reason>, RunFault>
-    requires { IsFrameCount frames }
-{
-    let Some((_history, read)) = record_script(alloc, frames, size, true, reader) else {
-        return Err(RunFault::Memory);
-    };
-    match read {
-        Ok(ended) => Ok(ended.refused),
-        Err(fault) => Err(fault),
-    }
-}
 
 /// Appends the line of this number behind as many lines as there are before it, which only give names.
 fn put_alone(text: &[u8], number: u64, out: &mut Vec<u8>) -> Result<(), AllocError> {
@@ -61,8 +41,8 @@ fn unread(alloc: Global, size: PageSize, text: &[u8], number: u64) -> TestFault 
         return TestFault::Stopped(RunFault::Memory);
     }
     let mut reader = alone.as_slice();
-    match refusal_in(alloc, 1, size, &mut reader) {
-        Ok(Some(reason)) => TestFault::Refused(reason),
+    match first_refusal(alloc, 1, size, &mut reader) {
+        Ok(Some(refusal)) => refusal_fault(refusal),
         Ok(None) => TestFault::Malformed(number, LineFault::Unread),
         Err(fault) => TestFault::Stopped(fault),
     }
@@ -90,8 +70,8 @@ fn check_setup(
     requires { IsFrameCount script.now.frames }
 {
     let mut setup = up_to(plan.first.as_slice(), text);
-    match refusal_in(alloc, script.frames, script.size, &mut setup) {
-        Ok(Some(reason)) => Err(TestFault::Refused(reason)),
+    match first_refusal(alloc, script.frames, script.size, &mut setup) {
+        Ok(Some(refusal)) => Err(refusal_fault(refusal)),
         Ok(None) => Ok(()),
         Err(fault) => Err(TestFault::Stopped(fault)),
     }

@@ -9,8 +9,9 @@ use Rattle.l4_text.specs.Grammar.{TextLine, lines_of}
 use Rattle.l4_record.specs.declared.segments.Segment.{Segment}
 use Rattle.l4_shell.specs.Sessions.{IsAnswered}
 use Rattle.l4_shell.specs.Scripts.{KeepsFirst, KeepsHistory}
+use Rattle.l4_sinks.specs.declared.reasons.LineRefusal.{LineRefusal}
 use Rattle.l4_sinks.specs.declared.scripts.Ended.{Ended}
-use Rattle.l4_sinks.specs.Texts.{AreAnswerTexts, last_refusal}
+use Rattle.l4_sinks.specs.Texts.{AreAnswerTexts, last_refusal, last_refused}
 use Rattle.l4_text.specs.Streams.{WentOut}
 use Rattle.l4_text.specs.declared.faults.RunFault.{RunFault}
 use Rattle.l4_text.specs.declared.faults.RunFault.TheVariants.{Read, Write, Memory}
@@ -73,3 +74,13 @@ RecordsScript frames size strict old new history (Err Read) =
     (a : AnswersFirst false frames size strict old new) × (history ≡ a.is_answered.last.session.history) × (a.lines ≡ filter (λ line. line.whole) (lines_of a.read))
 RecordsScript frames size strict old new history (Err Write) = ⊥
 RecordsScript frames size strict old new history (Err Memory) = ⊥
+
+-- THE FIRST REFUSED LINE OF A SCRIPT, if there is one: the lines up to it were answered, or all of them. Where a read failed, no whole line
+-- before that is refused.
+abbrev pub FindsRefusal : ℕ → PageSize → Option (List ℕ) → Option (List ℕ) → Result (Option LineRefusal) RunFault → Type 0
+FindsRefusal frames size old new (Ok found) =
+    (a : AnswersFirst false frames size true old new) × (found ≡ last_refused None a.told)
+    × ((IsAtEnd new × (a.lines ≡ lines_of a.read)) ⊎ (is_some found ≡ true))
+FindsRefusal frames size old new (Err Read) = (a : AnswersFirst false frames size true old new) × (a.lines ≡ filter (λ line. line.whole) (lines_of a.read))
+FindsRefusal frames size old new (Err Write) = ⊥
+FindsRefusal frames size old new (Err Memory) = new ≡ old

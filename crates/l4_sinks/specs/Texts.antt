@@ -1,10 +1,13 @@
 -- The text of answers, with or without what each means (this profile's own).
-use Rattle.std.specs.Prelude.{ℕ, ◌≡◌, List, [], ◌∷◌, ◌++◌, Option, None, Some, is_some, MatchOption, if◌then◌else◌}
+use Rattle.std.specs.Prelude.{ℕ, ◌≡◌, Bool, false, List, [], ◌∷◌, ◌++◌, Option, None, Some, is_some, MatchOption, if◌then◌else◌, codes}
+use Rattle.std.specs.Str.{bytes_eq}
 use Rattle.l4_fpage.specs.declared.sizes.PageSize.{PageSize}
 use Rattle.l4_threads.specs.declared.Reply.{Reply}
-use Rattle.l4_answers.specs.Reports.{Report, Ended, report_text, refused_line}
+use Rattle.l4_answers.specs.Refusals.{Refusal}
+use Rattle.l4_answers.specs.Reports.{Report, Ended, RefusedLine, UnreadLine, report_text, refused_line}
 use Rattle.l4_decode.specs.Decoded.{IsMessageText}
 use Rattle.l4_sinks.specs.Words.{says, reply_says, received}
+use Rattle.l4_sinks.specs.declared.reasons.LineRefusal.{LineRefusal}
 
 -- `# `
 abbrev pub mark : List ℕ
@@ -37,6 +40,25 @@ IsAnswerText (Some size) report text = (words : List ℕ) × Explains size repor
 abbrev pub last_refusal : Option (List ℕ) → List Report → Option (List ℕ)
 last_refusal before [] = before
 last_refusal before (report ∷ reports) = last_refusal (if is_some (refused_line report) then Some (says report) else before) reports
+
+-- whether memory ran out
+abbrev pub is_lack : Refusal → Bool
+is_lack refusal = bytes_eq refusal.name (codes "NoMemory")
+
+-- whether an answer refuses a line because memory ran out
+abbrev pub lacks_memory : Report → Bool
+lacks_memory (RefusedLine line refusal) = is_lack refusal
+lacks_memory (UnreadLine size names line refusal bytes) = is_lack refusal
+lacks_memory report = false
+
+-- what an answer says that refuses a line, and whether memory ran out
+abbrev pub why_refused : Report → LineRefusal
+why_refused report = record { reason = says report; lacks_memory = lacks_memory report }
+
+-- the same of the last of these answers that refuses a line; before them it was this
+abbrev pub last_refused : Option LineRefusal → List Report → Option LineRefusal
+last_refused before [] = before
+last_refused before (report ∷ reports) = last_refused (if is_some (refused_line report) then Some (why_refused report) else before) reports
 
 -- the text of answers, one after another
 abbrev pub AreAnswerTexts : Option PageSize → List Report → List ℕ → Type 0

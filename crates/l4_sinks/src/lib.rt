@@ -8,6 +8,7 @@ mod silent;
 mod stops;
 mod teller;
 
-pub use scripts::{Ended, Outputs, Style, answer_script, record_script};
+pub use reasons::LineRefusal;
+pub use scripts::{Ended, Outputs, Style, answer_script, first_refusal, record_script};
 pub use stops::{Expected, Stop, stop_of};
 pub use teller::Teller;

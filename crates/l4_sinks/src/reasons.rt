@@ -3,6 +3,7 @@ ghost use Rattle.std.specs.Prelude.{◌≡◌, ◌≤◌, ◌+◌, ◌++◌, len
 ghost use Rattle.l4_reasons.specs.Sizes.{reason_bytes};
 ghost use Rattle.l4_text.specs.Tokens.{tokens_of};
 ghost use Rattle.l4_sinks.specs.Stops.{stop_of, place_in};
+ghost use Rattle.l4_sinks.specs.Texts.{is_lack};
 ghost use Rattle.l4_sinks.specs.Words.{number_says, refusal_says, line_refusal_says, wrong_says, stop_says, stopped_says, unread_says};
 
 use crate::sentences::{code_says, expected_says, number_name};
@@ -11,6 +12,25 @@ use l4_answers::Code;
 use l4_fpage::PageSize;
 use l4_names::Names;
 use l4_reasons::{Reason, line_reason, missing_reason, symbol_reason, token_reason};
+
+/// Why a line is refused.
+#[derive(Drop)]
+pub struct LineRefusal {
+    /// The line, and why it is refused, as text.
+    pub reason: Reason,
+    /// Whether it is refused because memory ran out.
+    pub lacks_memory: bool,
+}
+
+/// The code of a refusal for lack of memory.
+const NO_MEMORY: &[u8] = b"NoMemory";
+
+/// Returns whether a line is refused because memory ran out.
+pub(crate) fn is_lack(code: &Code) -> bool
+    ensures { result ≡ is_lack code.now }
+{
+    code.name() == NO_MEMORY
+}
 
 /// Adds the meaning of the number that a code carries.
 #[tactic(auto, unfolding(crate::specs::Words::number_says))]

@@ -1,8 +1,9 @@
 //! Scripts from a reader to a writer, or to the history that they leave.
-ghost use Rattle.std.specs.Prelude.{◌≡◌, ◌≤◌, MatchOption};
+ghost use Rattle.std.specs.Prelude.{◌≡◌, ◌≤◌, MatchOption, option_map};
 ghost use Rattle.l4_fpage.specs.Pages.{max_frames};
-ghost use Rattle.l4_sinks.specs.Scripts.{explains_by, RunsScript, RecordsScript};
+ghost use Rattle.l4_sinks.specs.Scripts.{explains_by, FindsRefusal, RunsScript, RecordsScript};
 
+use crate::reasons::LineRefusal;
 use crate::silent::Silent;
 use crate::teller::Teller;
 use l4_fpage::PageSize;
@@ -76,6 +77,16 @@ pub fn answer_script<R: Read, W: Write, K: SegmentSink>(
     }
 }
 
+/// Returns the text of why a line is refused.
+fn reason_of(refused: Option<LineRefusal>) -> Option<Reason>
+    ensures { result ≡ option_map (λ r. r.reason) refused }
+{
+    match refused {
+        Some(refusal) => Some(refusal.reason),
+        None => None,
+    }
+}
+
 /// Executes the script that the reader gives as `answer_script` does, without writing its answers. A strict run ends at the first refused
 /// line. Returns the history of the lines that were answered, and how the script ended. Returns None if there is no memory for a kernel;
 /// then nothing was read.
@@ -97,9 +108,34 @@ pub fn record_script<R: Read>(
     let Some((history, answered)) = record(alloc, frames, size, reader, &mut silent) else {
         return None;
     };
-    let refused = silent.into_refused();
+    let refused = reason_of(silent.into_refused());
     match answered {
         Ok(lines) => Some((history, Ok(Ended { lines, refused }))),
         Err(fault) => Some((history, Err(fault))),
+    }
+}
+
+/// Executes the script that the reader gives as a strict `record_script` does. Returns why the first refused line is refused, or None if no line
+/// is.
+///
+/// `Memory`: there is no memory for a kernel; then nothing was read. `Read`: a read failed, and no line before that is refused.
+pub fn first_refusal<R: Read>(
+    alloc: Global,
+    frames: u32,
+    size: PageSize,
+    reader: &mut R,
+) -> Result<Option<LineRefusal>, RunFault>
+    requires some { 1 ≤ frames }
+    requires fit { frames ≤ max_frames }
+    ensures { FindsRefusal frames size (R.remaining reader.old) (R.remaining reader.new) result }
+{
+    let mut silent = Silent::new(true);
+    let Some((_history, answered)) = record(alloc, frames, size, reader, &mut silent) else {
+        return Err(RunFault::Memory);
+    };
+    let refused = silent.into_refused();
+    match answered {
+        Ok(_) => Ok(refused),
+        Err(fault) => Err(fault),
     }
 }

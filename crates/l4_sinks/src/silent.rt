@@ -1,15 +1,15 @@
 //! A sink that writes nothing.
 ghost use Rattle.std.specs.Prelude.{◌≡◌, None, Some, is_some, if◌then◌else◌};
 ghost use Rattle.l4_sinks.specs.Inside.Silents.{HasHeard, is_stopped};
+ghost use Rattle.l4_sinks.specs.Texts.{is_lack};
 ghost use Rattle.l4_sinks.specs.Words.{line_refusal_says, unread_says};
 
-use crate::reasons::{refusal_reason, unread_reason};
+use crate::reasons::{LineRefusal, is_lack, refusal_reason, unread_reason};
 use l4_answers::{Code, Sink};
 use l4_fpage::PageSize;
 use l4_ipc::Outcome;
 use l4_mapdb::Mapping;
 use l4_names::Names;
-use l4_reasons::Reason;
 use l4_text::{LineReader, RunFault};
 use l4_threads::Reply;
 
@@ -18,7 +18,7 @@ use l4_threads::Reply;
 #[derive(Drop)]
 pub(crate) struct Silent {
     strict: bool,
-    refused: Option<Reason>,
+    refused: Option<LineRefusal>,
 }
 
 impl Silent {
@@ -34,7 +34,7 @@ impl Silent {
     }
 
     /// Returns why the line was refused that ended a strict run.
-    pub(crate) fn into_refused(self) -> Option<Reason>
+    pub(crate) fn into_refused(self) -> Option<LineRefusal>
         ensures { result ≡ self.refused }
     {
         let Silent { strict: _, refused } = self;
@@ -46,9 +46,13 @@ impl Silent {
     #[inline(never)]
     fn keep_unread(&mut self, line: u64, code: &Code, bytes: &[u8], size: PageSize, names: &Names)
         ensures strict { self.new.strict ≡ self.old.strict }
-        ensures refused { self.new.refused ≡ Some (unread_says size names.now line code.now bytes.now) }
+        ensures refused { self.new.refused
+            ≡ Some (record { reason = unread_says size names.now line code.now bytes.now; lacks_memory = is_lack code.now }) }
     {
-        self.refused = Some(unread_reason(line, code, bytes, size, names));
+        self.refused = Some(LineRefusal {
+            reason: unread_reason(line, code, bytes, size, names),
+            lacks_memory: is_lack(code),
+        });
     }
 
     /// Keeps why a line is refused.
@@ -56,9 +60,13 @@ impl Silent {
     #[inline(never)]
     fn keep_refused(&mut self, line: u64, code: &Code)
         ensures strict { self.new.strict ≡ self.old.strict }
-        ensures refused { self.new.refused ≡ Some (line_refusal_says line code.now) }
+        ensures refused { self.new.refused
+            ≡ Some (record { reason = line_refusal_says line code.now; lacks_memory = is_lack code.now }) }
     {
-        self.refused = Some(refusal_reason(line, code));
+        self.refused = Some(LineRefusal {
+            reason: refusal_reason(line, code),
+            lacks_memory: is_lack(code),
+        });
     }
 }
 
