@@ -27,16 +27,20 @@ const offered = new Set();
 // whether the source is asked, and is to be asked again; how often the page was shown
 let isAsking = false, isWanted = false, shownCount = 0;
 
-/** How an error is announced beside what caused it, or that there is none any more. */
+/** How an error is announced beside what caused it and brought into view, or that there is none any more. */
 const sayErrorAt = (id) => (text) => {
   it(id).textContent = text;
   it(id).hidden = text === "";
+  if (text) it(id).scrollIntoView({ block: "nearest" });
 };
 
 const sayError = sayErrorAt("error"), sayPlanError = sayErrorAt("plan-error"), sayTextError = sayErrorAt("text-error"), sayOrdersError = sayErrorAt("orders-error");
 
 /** Announces what has been done. */
 const sayDone = (text) => { it("status").textContent = text; };
+
+/** Says to readers of screens what is shown elsewhere. */
+const sayUnseen = (text) => { it("announced").textContent = text; };
 
 /** Shows that the source is working, with a button that stops it, if it takes long. */
 async function busy(work) {
@@ -117,7 +121,7 @@ function showRun(view) {
 function announce(view) {
   const changes = [...view.threadChanges, ...view.changes.slice(0, MOST_ANNOUNCED)].map(({ text }) => text).join("; ");
   const text = view.at === 0 ? "At boot" : `Step ${view.at} of ${view.count}, line ${view.line}: ${view.said}`;
-  it("announced").textContent = changes ? `${text}. ${changes}` : text;
+  sayUnseen(changes ? `${text}. ${changes}` : text);
 }
 
 function takeView(view) {
@@ -299,12 +303,13 @@ function listenToViews() {
   on("plan", "click", () => plan(source, sayPlanError));
   REGION_FIELDS.forEach((id) => on(id, "input", clearPlan));
   on("search", "click", () => busy(search(source, sayOrdersError)));
-  on("tell", "click", () => tell(source, sayTextError, sayDone));
-  on("words", "keydown", (event) => { if (event.key === "Enter") tell(source, sayTextError, sayDone); });
+  on("tell", "click", () => tell(source, sayTextError, sayUnseen));
+  on("words", "keydown", (event) => { if (event.key === "Enter") tell(source, sayTextError, sayUnseen); });
   on("kind", "change", showFields);
   on("ask-why", "click", askWhy);
   on("asked-page", "keydown", (event) => { if (event.key === "Enter") askWhy(); });
-  on("find", "keydown", (event) => { if (event.key === "Enter") sayDone(find(it("find").value, shown.view, { choose, chooseSpace, focusThread })); });
+  on("find", "keydown", (event) => { if (event.key === "Enter") it("found").textContent = find(it("find").value, shown.view, { choose, chooseSpace, focusThread }); });
+  on("find", "input", () => { it("found").textContent = ""; });
 }
 
 function listenToFiles() {
