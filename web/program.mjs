@@ -8,8 +8,8 @@ const TOLD_BYTES = 64, ROOM = 1 << 16, MOST_TEXT = 128 << 20;
 const SEARCH_ROOM = 1 << 22, LENGTHS = 1 << 13;
 
 export const RIGHTS = { x: 1, w: 2, r: 4 };
-/** How words are read: as a message, each alone, as an fpage, as a window, as a thread id. */
-export const READINGS = { message: 0, each: 1, fpage: 2, window: 3, id: 4 };
+/** How words are read: as a message, each alone, as an fpage, as a window, as a thread id, as the control of an Unmap. */
+export const READINGS = { message: 0, each: 1, fpage: 2, window: 3, id: 4, control: 5 };
 
 const REFUSALS = {
   B4: "A page has 4,096 or 1,024 bytes.",

@@ -6,7 +6,7 @@ use Rattle.l4_fpage.specs.declared.sizes.PageSize.{PageSize}
 use Rattle.l4_refusals.specs.Texts.{spelled}
 use Rattle.l4_msg.specs.declared.regions.Region.{Region}
 use Rattle.l4_decode.specs.declared.decoding.Reading.{Reading}
-use Rattle.l4_decode.specs.declared.decoding.Reading.TheVariants.{Message, Each, Fpage, Window, Id}
+use Rattle.l4_decode.specs.declared.decoding.Reading.TheVariants.{Message, Each, Fpage, Window, Id, Control}
 use Rattle.l4_page.specs.declared.given.RegionGiven.{RegionGiven}
 
 abbrev pub region_of : RegionGiven → Region
@@ -15,7 +15,7 @@ region_of g = record { source = g.source; target = g.target; count = g.count; ri
 -- the reading with this number
 abbrev pub reading_of : ℕ → Reading
 reading_of n =
-    if nat_eq n 1 then Each else if nat_eq n 2 then Fpage else if nat_eq n 3 then Window else if nat_eq n 4 then Id else Message
+    if nat_eq n 1 then Each else if nat_eq n 2 then Fpage else if nat_eq n 3 then Window else if nat_eq n 4 then Id else if nat_eq n 5 then Control else Message
 
 -- no page has this number of bytes
 abbrev pub IsNoSize : ℕ → Type 0

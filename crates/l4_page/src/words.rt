@@ -19,6 +19,7 @@ fn reading_of(reading: u32) -> Reading
         2 => Reading::Fpage,
         3 => Reading::Window,
         4 => Reading::Id,
+        5 => Reading::Control,
         _ => Reading::Message,
     }
 }
@@ -35,7 +36,7 @@ fn decoded(alloc: Global, words: &[u32], reading: u32, size: PageSize, out: &mut
 }
 
 /// Writes what `l4 decode` writes for words. They are read as a message, or each alone as everything that it can be (1), as an fpage (2), as
-/// a window (3) or as a thread id (4).
+/// a window (3), as a thread id (4) or as the control of an Unmap (5).
 #[unsafe(no_mangle)]
 pub extern "C" fn page_decode(
     alloc: Global,

@@ -5,7 +5,7 @@
 const COMMANDS = {
   thread: "thread new|thread pager", setpager: "thread pager", delete: "thread", recv: "thread partner window", send: "thread partner message",
   ipc: "thread partner partner timeouts window message", delegate: "thread partner number number number rights", part: "thread partner number number number number rights",
-  unmap: "thread number fpages", fault: "thread number number rights", region: "thread number number number rights", serve: "thread",
+  unmap: "thread control fpages", fault: "thread number number rights", region: "thread number number number rights", serve: "thread",
   show: "thread number number", parent: "thread number", name: "name thread", reply: "thread", steps: "", unordered: "", finally: "",
   never: "answer", always: "answer",
 };
@@ -21,7 +21,7 @@ export const FORMS = [
   ["ipc N TO FROM TIMEOUTS WINDOW WORD..", "sends, then receives; TIMEOUTS `never`, `zero` or `zero,never`"],
   ["delegate N TO SOURCE TARGET COUNT RIGHTS", "maps a region of pages by its plan, in one message"],
   ["part N TO K SOURCE TARGET COUNT RIGHTS", "sends message K of the plan"],
-  ["unmap N CONTROL FPAGE..", "revokes rights on pages mapped from N's, such as `16+4:-w-`; with bit 6 of CONTROL, on N's own pages too"],
+  ["unmap N CONTROL FPAGE..", "revokes rights on pages mapped from N's, such as `16+4:-w-`; CONTROL `unmap:1` counts the fpages, and `flush:1` revokes rights on N's own pages too"],
   ["fault N ADDRESS IP RIGHTS", "tries an access"],
   ["region P FIRST SOURCE COUNT RIGHTS", "adds pages to P's table, from which it answers faults"],
   ["serve P", "makes P answer messages by itself"],
@@ -69,6 +69,11 @@ function isTag(token) {
   return name === "tag" && isNumber(label) && Number(label) < MOST_LABELS;
 }
 
+function isControl(token) {
+  const [name, count] = cut(token, ":");
+  return (name === "unmap" || name === "flush") && isNumber(count) && Number(count) > 0 && Number(count) <= MOST_WORDS;
+}
+
 function isItem(token) {
   const [kind, rest] = cut(token, ":"), [pages, placed] = cut(rest, ">"), [base, rights] = cut(placed, ":");
   return (kind === "map" || kind === "grant") && arePages(pages) && isNumber(base) && isRights(rights);
@@ -83,6 +88,7 @@ const KINDS = {
   number: [isNumber, "a number, decimal or after 0x"],
   window: [(token) => isNumber(token) || token === "all" || token === "none" || (token.includes("+") && arePages(token)), "a number, `all`, `none` or pages such as 32+4"],
   timeouts: [(token) => isNumber(token) || /^(never|zero)(,(never|zero))?$/.test(token), "a number, `never`, `zero` or two of these such as zero,never"],
+  control: [(token) => isNumber(token) || isControl(token), "a number, `unmap:COUNT` or `flush:COUNT`, where COUNT is the number of fpages"],
   fpage: [(token) => isNumber(token) || isFpage(token), "a number or an fpage such as 16+4:rwx"],
   tag: [(token) => isNumber(token) || isTag(token), "a number or a tag such as tag:7"],
   word: [(token) => isNumber(token) || isItem(token), "a number or an item such as map:16+4>32:rwx"],
@@ -141,7 +147,7 @@ function colourOf(token, kind) {
 // what can be written where a token of this kind is right; names of threads are added
 const OFFERS = {
   "new|thread": ["new"], pager: ["nil"], partner: ["any", "nil"], window: ["all", "none"], timeouts: ["never", "zero", "zero,never", "never,zero"],
-  tag: ["tag:0"], word: ["map:16>32:rwx", "map:16+4>32:rwx", "grant:16>32:rwx"], fpage: ["16+4:rwx", "16:rwx"], rights: ["rwx", "rw-", "r-x", "r--"],
+  tag: ["tag:0"], word: ["map:16>32:rwx", "map:16+4>32:rwx", "grant:16>32:rwx"], control: ["unmap:1", "flush:1"], fpage: ["16+4:rwx", "16:rwx"], rights: ["rwx", "rw-", "r-x", "r--"],
 };
 const OF_THREADS = ["thread", "new|thread", "pager", "partner"];
 
