@@ -6,10 +6,10 @@ import argparse
 import sys
 import webbrowser
 from contextlib import nullcontext
-from typing import List, Optional, Tuple
+from typing import BinaryIO, ContextManager, List, Optional, Tuple
 
 from . import draw
-from .judge import Adapter, Agreement, Difference, Uncompared, Unfit, judge, shrink, unanswered
+from .judge import Adapter, Agreement, Difference, Follower, Report, Uncompared, Unfit, requests, shrink, unanswered
 from .kernel import Kernel
 from .lab import Lab, read_script
 from .lab_answers import MOST_BYTES
@@ -38,6 +38,8 @@ def parse(words: Optional[List[str]]) -> argparse.Namespace:
     judged.add_argument("list", nargs="?", metavar="FILE", help="a step list with answers in lines that begin with '# ' [default: standard input]")
     judged.add_argument("--against", metavar="LIST", help="the steps and queries that the list must have, each with its answers")
     judged.add_argument("--partial", action="store_true", help="accept steps and queries without answers")
+    judged.add_argument("--all", action="store_true", help="print every difference, not only the first")
+    judged.add_argument("--follow", action="store_true", help="print the last calls of the threads concerned below each difference")
     judged.add_argument("--with", dest="command_line", metavar="COMMAND", help="judge what this command of the shell writes for the list, against the list")
     judged.add_argument("--shrink", action="store_true", help="leave out lines until the answers of COMMAND agree without any single one, and print that list")
     lab = commands.add_parser("lab", help="show the run of a script in a browser until interrupted")
@@ -50,26 +52,50 @@ def parse(words: Optional[List[str]]) -> argparse.Namespace:
         parser.error("--shrink needs --with COMMAND")
     if options.command == "judge" and options.against and options.command_line is not None:
         parser.error("--with COMMAND judges against the list itself, without --against")
+    if options.command == "judge" and (options.all or options.follow) and options.command_line is not None:
+        parser.error("--with COMMAND prints the first difference alone, without --all and --follow")
     if options.command == "lab" and options.segments and options.script:
         parser.error("the lab shows a script or, with --from, files of segments")
     return options
 
 
+def opened(name: Optional[str]) -> ContextManager[BinaryIO]:
+    """Opens a file, or standard input if no file is named."""
+    if name:
+        return open(name, "rb")
+    return nullcontext(sys.stdin.buffer)
+
+
 def lines_of(name: Optional[str]) -> List[bytes]:
     """Returns the lines of a file, or of standard input if no file is named."""
-    with open(name, "rb") if name else nullcontext(sys.stdin.buffer) as file:
+    with opened(name) as file:
         return file.readlines()
+
+
+def follow(options: argparse.Namespace) -> int:
+    """Judges a list, and prints each difference as soon as its line has been read. Returns the exit status."""
+    wanted = requests(lines_of(options.against)) if options.against else None
+
+    def show(reports: List[Report]) -> None:
+        for report in reports:
+            print(report if options.follow else report.difference, flush=True)
+
+    with Kernel(options.frames, options.page_size) as kernel, opened(options.list) as file:
+        follower = Follower(kernel, wanted, options.partial, options.all)
+        for line in file:
+            show(follower.read(line))
+        show(follower.end())
+    if not follower.differs:
+        print(follower.agreement())
+    return int(follower.differs)
 
 
 def pass_judgement(options: argparse.Namespace) -> int:
     """Judges a list, or the answers of a command to it. Returns the exit status."""
-    against, lines = lines_of(options.against) if options.against else None, lines_of(options.list)
     if options.command_line is None:
-        with Kernel(options.frames, options.page_size) as kernel:
-            verdict = judge(kernel, lines, against, options.partial)
-        print(verdict)
-        return int(not isinstance(verdict, Agreement))
-    adapter, given = Adapter(options.command_line, options.frames, options.page_size, options.partial), unanswered(lines)
+        return follow(options)
+    adapter = Adapter(options.command_line, options.frames, options.page_size, options.partial)
+    given = unanswered(lines_of(options.list))
     verdict, text = adapter.judge(given)
     if isinstance(verdict, Difference) and options.shrink:
         verdict, text = adapter.judge(shrink(adapter, given))

@@ -2,12 +2,13 @@
 from __future__ import annotations
 
 import subprocess
-from dataclasses import dataclass, replace
-from typing import Iterable, Iterator, List, NamedTuple, Optional, Sequence, Tuple, Union
+from collections import deque
+from dataclasses import dataclass
+from typing import Deque, Dict, Iterable, List, Optional, Sequence, Tuple, Union
 
 from ._library import L4_AGREES, L4_NOT_ENABLED
 from .kernel import Expire, Kernel, Transfer
-from .lists import Unread, enabled_line, whole_line
+from .lists import Unread, answers_to, enabled_line, threads_in, whole_line
 from .refusals import Refused
 from .shared import Start, step_line
 
@@ -136,95 +137,138 @@ class Judge:
         return Difference(line, told.place, expected or None, came, enabled_line(self.kernel) if told.verdict == L4_NOT_ENABLED else None)
 
 
-class _Listed(NamedTuple):
-    """A step or query of a list with its answer lines, and the numbers of these lines."""
-
-    number: int
-    line: str
-    answers: List[str]
-    numbers: List[int]
-
-    def number_of(self, place: int) -> int:
-        """Returns the number of the answer line at this place, or of the last line if there are fewer."""
-        numbers = self.numbers or [self.number]
-        return numbers[min(place, len(numbers) - 1)]
-
-
-def _entries(lines: Iterable[bytes]) -> Iterator[_Listed]:
-    """Yields the steps and queries of a list, each with its answers. Raises Unread for a line that is not whole, and for an answer without a
-    step."""
-    entry = None
-    for number, line in enumerate(lines, 1):
-        try:
-            text = whole_line(number, line).decode("latin-1")
-        except Unread:
-            if entry:
-                yield entry
-            raise
-        if text.startswith("# "):
-            if entry is None:
-                raise Unread(number, "is an answer without a step or query above it")
-            entry.answers.append(text[2:])
-            entry.numbers.append(number)
-        elif _is_step(text):
-            if entry:
-                yield entry
-            entry = _Listed(number, text, [], [])
-    if entry is not None:
-        yield entry
-
-
 def requests(lines: Iterable[bytes]) -> List[str]:
     """Returns the steps and queries of a list: its lines that are neither empty nor comments. Raises Unread for a line that is not whole."""
     texts = (whole_line(number, line).decode("latin-1") for number, line in enumerate(lines, 1))
     return [text for text in texts if _is_step(text)]
 
 
-class _Comparison:
-    """The comparison of a list, step by step, with the steps and queries that it must have, if any are given, and with the proved kernel's
-    answers."""
+@dataclass(frozen=True)
+class Report:
+    """A difference, and the last calls of the threads that its step names: the number of the line of each call, and the line."""
 
-    def __init__(self, kernel: Kernel, wanted: Optional[List[str]], partial: bool) -> None:
-        self.watch, self.wanted, self.partial = Judge(kernel), wanted, partial
-        self.steps = 0
-        #: The answers that the last step lacks. They are missing if another step or the end of the list follows.
-        self.lack: Optional[Difference] = None
+    difference: Union[Difference, OtherStep]
+    calls: Tuple[Tuple[int, str], ...] = ()
 
-    def wanted_next(self) -> Optional[str]:
-        return self.wanted[self.steps] if self.wanted and self.steps < len(self.wanted) else None
+    def __str__(self) -> str:
+        return "\n".join([str(self.difference), *(f"  line {number}: {line}" for number, line in self.calls)])
 
-    def step(self, entry: _Listed) -> Union[Difference, OtherStep, None]:
-        """Compares a step with its answers. Returns the first difference."""
-        try:
-            found = self.watch.compare(entry.line, entry.answers)
-        except ValueError:
-            raise Unread(entry.number, "is not a valid step or query") from None
-        expected, lack, self.lack = self.wanted_next(), self.lack, None
-        self.steps += 1
-        if lack is not None:
-            return lack
-        if self.wanted is not None and entry.line != expected:
-            return OtherStep(entry.number, expected, entry.line)
-        if found is None or self.partial and not entry.answers:
-            return None
-        found = replace(found, line=entry.number_of(found.place))
-        if found.found is not None:
-            return found
-        self.lack = found
-        return None
 
-    def end(self, number: int) -> Verdict:
-        """Compares the end of the list, which is before the line of this number."""
-        expected = self.wanted_next()
-        if self.lack is not None:
-            return self.lack
-        if expected is not None:
-            return OtherStep(number, expected, None)
-        if self.steps == 0:
-            raise NoSteps(number, "the list has no step or query")
-        if self.watch.answers == 0:
+@dataclass
+class _Request:
+    """A step or query that the proved kernel has executed: its answer, how many lines of it were compared, and the number of the last of these
+    lines."""
+
+    line: str
+    due: List[str]
+    last: int
+    calls: Tuple[Tuple[int, str], ...]
+    compared: int = 0
+
+    def lacks(self) -> bool:
+        return self.compared < len(self.due)
+
+
+class Follower:
+    """Judges a list as it arrives, line by line.
+
+    Pass each line to `read`, which returns the differences that this line shows, and call `end` after the last one. Unless `every` is set,
+    lines after the first difference are not compared. `against` has the steps and queries that the list must have; without it, any are
+    accepted. With `partial`, a step or query may have no answer. `differs` tells whether a difference was found. `lines` counts the lines that
+    were read, `steps` the steps that were executed, and `answers` the answer lines that were compared.
+
+    >>> follower = Follower(Kernel())
+    >>> follower.read(b"space 2\\n")
+    []
+    >>> print(*follower.read(b"# space 7\\n"))
+    line 2: space 2: expected space 1, found space 7
+    """
+
+    def __init__(self, kernel: Kernel, against: Optional[Iterable[str]] = None, partial: bool = False, every: bool = False) -> None:
+        self.kernel, self.partial, self.every = kernel, partial, every
+        self.lines = self.steps = self.answers = 0
+        self.differs = False
+        self._wanted: Optional[Deque[str]] = None if against is None else deque(against)
+        self._request: Optional[_Request] = None
+        #: The last call of each thread: the number of its line, and the line.
+        self._calls: Dict[int, Tuple[int, str]] = {}
+
+    def read(self, line: bytes) -> List[Report]:
+        """Compares a line, with its newline. Raises Unread if it is not valid."""
+        self.lines += 1
+        if self._has_ended():
+            return []
+        text = whole_line(self.lines, line).decode("latin-1")
+        if text.startswith("# "):
+            return self._reported([self._compare(text[2:])])
+        return self._reported(self._execute(text)) if _is_step(text) else []
+
+    def end(self) -> List[Report]:
+        """Compares the end of the list."""
+        missing = Report(OtherStep(self.lines + 1, self._wanted[0], None)) if self._wanted else None
+        return [] if self._has_ended() else self._reported([self._lack(), missing])
+
+    def agreement(self) -> Agreement:
+        """Returns the agreement of a list that has ended and in which nothing differs. Raises NoSteps or Uncompared if nothing was compared."""
+        if self._request is None:
+            raise NoSteps(self.lines + 1, "the list has no step or query")
+        if self.answers == 0:
             raise Uncompared
-        return Agreement(self.watch.steps, self.watch.answers)
+        return Agreement(self.steps, self.answers)
+
+    def _has_ended(self) -> bool:
+        return self.differs and not self.every
+
+    def _reported(self, found: Sequence[Optional[Report]]) -> List[Report]:
+        """Returns what is reported of these differences: all, or the first."""
+        reports = [report for report in found if report is not None]
+        self.differs = self.differs or bool(reports)
+        return reports if self.every else reports[:1]
+
+    def _difference(self, request: _Request, number: int, found: Optional[str]) -> Report:
+        """The answer line that is due next was not found at the line of this number."""
+        expected = request.due[request.compared] if request.lacks() else None
+        enabled = enabled_line(self.kernel) if expected == "refused K1" else None
+        return Report(Difference(request.line, request.compared, expected, found, enabled, number), request.calls)
+
+    def _compare(self, found: str) -> Optional[Report]:
+        """Compares an answer with the line that is due."""
+        request = self._request
+        if request is None:
+            raise Unread(self.lines, "is an answer without a step or query above it")
+        agrees = request.lacks() and found in (UNKNOWN, request.due[request.compared])
+        report = None if agrees else self._difference(request, self.lines, found)
+        self.answers += found != UNKNOWN
+        request.compared += 1
+        request.last = self.lines
+        return report
+
+    def _lack(self) -> Optional[Report]:
+        """Returns the difference if the last request lacks answers."""
+        request = self._request
+        if request is None or not request.lacks() or self.partial and not request.compared:
+            return None
+        return self._difference(request, request.last, None)
+
+    def _other(self, text: str) -> Optional[Report]:
+        """Returns the difference if another request is wanted next."""
+        if self._wanted is None:
+            return None
+        expected = self._wanted.popleft() if self._wanted else None
+        return None if text == expected else Report(OtherStep(self.lines, expected, text))
+
+    def _execute(self, text: str) -> List[Optional[Report]]:
+        """Executes a step or query, after which its answer is due."""
+        lack, line = self._lack(), text.encode("latin-1")
+        due = answers_to(self.kernel, line)
+        if due is None:
+            raise Unread(self.lines, "is not a valid step or query")
+        name, threads = text.split()[0].encode(), threads_in(line)
+        self._request = _Request(text, due, self.lines, tuple(self._calls[thread] for thread in threads if thread in self._calls))
+        self.steps += name in _STEPS
+        if name == b"start":
+            self._calls[threads[0]] = (self.lines, text)
+        return [lack, self._other(text)]
 
 
 def judge(kernel: Kernel, lines: Iterable[bytes], against: Optional[Iterable[bytes]] = None, partial: bool = False) -> Verdict:
@@ -237,12 +281,13 @@ def judge(kernel: Kernel, lines: Iterable[bytes], against: Optional[Iterable[byt
     Raises Unread at the first line that is not valid: not a step or query, an answer without a step, a line that is not whole, or the end of a
     list without steps. Raises Uncompared if nothing differs, but no answer was compared.
     """
-    comparison, given = _Comparison(kernel, None if against is None else requests(against), partial), list(lines)
-    for entry in _entries(given):
-        found = comparison.step(entry)
-        if found is not None:
-            return found
-    return comparison.end(len(given) + 1)
+    follower = Follower(kernel, None if against is None else requests(against), partial)
+    for line in lines:
+        for report in follower.read(line):
+            return report.difference
+    for report in follower.end():
+        return report.difference
+    return follower.agreement()
 
 
 class Unfit(Exception):
@@ -308,6 +353,14 @@ def shrink(adapter: Adapter, lines: Sequence[str]) -> List[str]:
 
 def unanswered(lines: Sequence[bytes]) -> List[str]:
     """Returns the lines of a list without its answers. Raises Unread for a list that `judge` does not read."""
-    if not list(_entries(lines)):
+    texts, has_step = [], False
+    for number, line in enumerate(lines, 1):
+        text = whole_line(number, line).decode("latin-1")
+        has_step = has_step or _is_step(text)
+        if not text.startswith("# "):
+            texts.append(text)
+        elif not has_step:
+            raise Unread(number, "is an answer without a step or query above it")
+    if not has_step:
         raise NoSteps(len(lines) + 1, "the list has no step or query")
-    return [line[:-1].decode("latin-1") for line in lines if not line.startswith(b"# ")]
+    return texts

@@ -165,6 +165,16 @@ def step_in(line: bytes) -> Union[Start, Transfer, Expire, None]:
         raise ValueError("the line is not a valid step") from None
 
 
+def threads_in(line: bytes) -> List[int]:
+    """Returns the numbers of the threads that a valid step or query names: a caller and, if it sends, its partner; the sender and the receiver of a
+    transfer; or the thread of another step or query, if it names one."""
+    tokens = _tokens(line)
+    if tokens[0] == b"start":
+        partner = [_number(tokens[3]) >> 14] if tokens[2] == b"ipc" else []
+        return [_number(tokens[1]), *partner]
+    return [] if tokens[0] == b"pages" else [_number(token) for token in tokens[1:]]
+
+
 def answers_to(kernel: Kernel, line: bytes) -> Optional[List[str]]:
     """Executes a line of a list, which has no newline, and returns the lines that answer it. Returns None if it is not a valid step or query."""
     try:

@@ -1,16 +1,20 @@
 """The judge: the lists of the suite agree, each kind of difference is found, and lists are shortened. The kernels that are judged are those of
 tests/suite at the top of the repository: the slow model, as it is and with one rule changed."""
+import contextlib
+import io
+import select
 import subprocess
 import sys
 import unittest
 from pathlib import Path
 
 from l4 import UNKNOWN, Agreement, Call, Difference, Judge, Kernel, Message, Start, ThreadId, Transfer
-from l4.judge import Adapter, OtherStep, Uncompared, Unfit, judge, shrink, unanswered
+from l4.__main__ import main
+from l4.judge import Adapter, Follower, OtherStep, Uncompared, Unfit, judge, shrink, unanswered
 from l4.lists import Unread
 
 TOP = Path(__file__).resolve().parents[3]
-SUITE = TOP / "suite"
+SUITE, JUDGED = TOP / "suite", TOP / "tests/judged"
 KERNEL = f"{sys.executable} {TOP}/tests/suite/kernel"
 
 SENDS = """start 1 ipc 0x8001 0 0 0 0x70000
@@ -191,6 +195,51 @@ class Shrinking(unittest.TestCase):
         adapter = Adapter("echo enabled", 256, 4096)
         self.assertEqual(str(adapter.judge(["space 1"])[0]), "line 1: expected space 1, found enabled")
         self.assertFalse(adapter.disagrees(["space 1"]))
+
+
+class Following(unittest.TestCase):
+    def test_the_lists_of_l4_judge(self):
+        """The lists of tests/judged, with what `l4 judge` prints for each. Errors name the same line, in other words."""
+        files = sorted(JUDGED.glob("*.steps"))
+        self.assertGreaterEqual(len(files), 40)
+        for file in files:
+            out, err = io.StringIO(), io.StringIO()
+            with self.subTest(file.name), contextlib.redirect_stdout(out), contextlib.redirect_stderr(err):
+                status = main(self.words(file))
+                self.assertEqual((str(status), out.getvalue()), (self.wanted(file, "status") or "0", self.wanted(file, "out")))
+                wanted = self.wanted(file, "err").replace(":", " ").split()
+                self.assertEqual(err.getvalue().replace(":", " ").split()[:3], wanted[:3])
+
+    @staticmethod
+    def wanted(file, suffix):
+        path = file.with_suffix(f".{suffix}")
+        return path.read_text().rstrip() if suffix == "status" and path.exists() else path.read_text() if path.exists() else ""
+
+    def words(self, file):
+        """The words of the command line for a list. Options of the machine stand before the command."""
+        options = self.wanted(file, "options").split()
+        machine = [word for name, value in zip(options, options[1:]) if name in ("--frames", "--page-size") for word in (name, value)]
+        rest = [word for word in options if word not in machine]
+        against = ["--against", str(file.with_suffix(".list"))] if file.with_suffix(".list").exists() else []
+        return [*machine, "judge", *rest, *against, str(file)]
+
+    def test_a_difference_is_reported_before_the_next_line(self):
+        given = (JUDGED / "follow.steps").read_bytes()
+        with subprocess.Popen([sys.executable, "-m", "l4", "judge", "--follow"], stdin=subprocess.PIPE, stdout=subprocess.PIPE) as process:
+            process.stdin.write(given)
+            process.stdin.flush()
+            self.assertTrue(select.select([process.stdout], [], [], 600)[0])
+            said = process.stdout.readline()
+            process.stdin.close()
+            self.assertEqual((said + process.stdout.read()).decode(), (JUDGED / "follow.out").read_text())
+            self.assertEqual(process.wait(600), 1)
+
+    def test_counts(self):
+        follower = Follower(Kernel(), every=True)
+        for line in lines(SENDS + "transfer 1 2\n" + answers("done", UNKNOWN, "2 gone")):
+            follower.read(line)
+        self.assertEqual((follower.lines, follower.steps, follower.answers, follower.differs), (8, 3, 4, True))
+        self.assertEqual(follower.end(), [])
 
 
 class Command(unittest.TestCase):
