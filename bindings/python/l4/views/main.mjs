@@ -6,7 +6,7 @@ import { find } from "./finding.mjs";
 import { framesFor, isLitmus, pageBytesFor } from "./frames.mjs";
 import { FORMS } from "./grammar.mjs";
 import { showChart } from "./message_view.mjs";
-import { listenToOrders, loadedOrder, search, showOrderNumber } from "./orders_view.mjs";
+import { listenToOrders, loadedOrder, search, showLitmus, showOrderNumber } from "./orders_view.mjs";
 import { showMaps, showPages, showTree, showWhy } from "./page_view.mjs";
 import { REGION_FIELDS, clearPlan, plan } from "./plan_view.mjs";
 import { showChanges, showLines, showRefusals, showSteps } from "./run_view.mjs";
@@ -197,6 +197,7 @@ function run(at = null) {
   const asked = fields();
   Object.assign(shown, asked, { at, isFollowing: true, isSameRun: false, space: null, page: null });
   showText();
+  showLitmus(asked.script);
   forgetLines();
   it("edited").hidden = true;
   keep();

@@ -1,6 +1,7 @@
 // Every order of a litmus test's calls: a table of outcomes, each with an order that produces it and the rules that it breaks. The number of an
 // outcome loads the script of its order.
 import { fill, it, link, made } from "./dom.mjs";
+import { isLitmus } from "./frames.mjs";
 import { fields, number } from "./state.mjs";
 import { counted, grouped } from "./texts.mjs";
 
@@ -79,6 +80,19 @@ export function showOrderNumber(outcome) {
   it("order-shown").textContent = loaded ? `This is the script of an order that produces outcome ${outcome} of the litmus test.` : "";
 }
 
+/** Brings the outcomes into view. */
+const goToOutcomes = () => it("orders-title").scrollIntoView({ block: "start" });
+
+/** Says beside the script that it is a litmus test, with what a search has found or a link that searches its orders. */
+export function showLitmus(script) {
+  it("litmus").hidden = !isLitmus(script);
+  if (it("litmus").hidden) return;
+  const isSearched = found?.asked.script === script;
+  const text = isSearched ? `Every order of this litmus test: ${summary(found)}` : "This is a litmus test: its calls may come in any order.";
+  const act = isSearched ? link("Show the orders", goToOutcomes) : link("Search every order", () => { goToOutcomes(); it("search").click(); });
+  fill("litmus", [text, " ", act]);
+}
+
 function show(told, asked) {
   found = { ...told, asked };
   it("orders-text").textContent = summary(told);
@@ -104,7 +118,7 @@ export async function search(source, say) {
   try {
     if (wrong) throw new Error(wrong);
     const told = await source.ask("orders", { ...asked, most: number("most") });
-    if (place === searched) { show(told, asked); say(""); }
+    if (place === searched) { show(told, asked); showLitmus(asked.script); say(""); }
   } catch (fault) {
     if (place === searched) { clear(); say(fault.message); }
   }
