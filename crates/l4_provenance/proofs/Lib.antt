@@ -3,3 +3,4 @@ pub mod Sofar
 pub mod Back
 pub mod Given
 pub mod Moving
+pub mod Watching

@@ -4,6 +4,7 @@
 mod finding;
 mod histories;
 mod moves;
+mod removing;
 mod replaying;
 mod writing;
 
@@ -11,4 +12,5 @@ pub use finding::provenance;
 pub use histories::Replayable;
 pub use l4_record::{ChainLink, ReplayFault};
 pub use moves::{MovedPage, next_move};
+pub use removing::{Removal, last_removal};
 pub use replaying::{repeat_entry, replay};
