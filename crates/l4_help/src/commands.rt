@@ -153,6 +153,8 @@ boot, and then each transfer in order. A refused line is reported only with
                              transfer, the second are those in the item
   page P frame F RIGHTS      the page at the end of the script
   absent                     the page is not present
+  removed by entry E STEP    the page was present before entry E of the history,
+                             and has not been present since
   refused K2                 there is no thread with this number
 
 Entry E is line E + 1 of the output of 'l4 history'.

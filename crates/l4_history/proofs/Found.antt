@@ -1,5 +1,5 @@
 -- What is found of a page, and what is told of it.
-use Rattle.std.proofs.Common.{◌≡◌, ℕ, List, Option, Some, None, Result, Ok, Err, IsTrue, is_some, refl, sym, ◌∙◌, subst}
+use Rattle.std.proofs.Common.{◌≡◌, ℕ, List, Option, Some, None, IfSome, Result, Ok, Err, IsTrue, is_some, refl, sym, ◌∙◌, subst}
 use Rattle.std.proofs.lemmas.Bool.{false≢true}
 use Rattle.std.specs.Global.{Vec}
 use Rattle.std.specs.Io.KnownBytes.{Appends}
@@ -16,14 +16,16 @@ use Rattle.l4_record.specs.History.{steps_of, answers_of}
 use Rattle.l4_record.specs.declared.links.ChainLink.{ChainLink}
 use Rattle.l4_record.specs.Chains.{IsProvenance, IsAbsent}
 use Rattle.l4_record.specs.Replays.{IsBootWith}
+use Rattle.l4_provenance.specs.Removals.{IsRemoval}
+use Rattle.l4_provenance.specs.declared.removing.Removal.{Removal}
 use Rattle.l4_provenance.proofs.Back.{one_boot}
 use Rattle.l4_sinks.specs.Scripts.{RecordsScript}
 use Rattle.l4_sinks.specs.declared.scripts.Ended.{Ended}
 use Rattle.l4_text.specs.Streams.{WentOut}
 use Rattle.l4_text.specs.declared.faults.RunFault.{RunFault}
 use Rattle.l4_text.specs.declared.faults.RunFault.TheVariants.{Read, Write, Memory}
-use Rattle.l4_history.specs.Telling.{IsWhy, HasWhy, TellsPage, TellsWhy, IsThreadText, IsPlaceText}
-use Rattle.l4_history.specs.Inside.Finding.{presence, answer_text, Holds, IsAnswer, IsOfThread}
+use Rattle.l4_history.specs.Telling.{IsWhy, HasWhy, IsGone, TellsPage, TellsWhy, IsThreadText, IsPlaceText}
+use Rattle.l4_history.specs.Inside.Finding.{presence, answer_text, Holds, IsAnswer, IsLookedBack, IsOfThread}
 use Rattle.l4_history.specs.declared.asking.ThreadPage.{ThreadPage}
 use Rattle.l4_history.specs.declared.asking.Question.{Question}
 use Rattle.l4_history.specs.declared.asking.WhyResult.TheVariants.{Told, Refused}
@@ -42,7 +44,9 @@ text_of : (boot now : Machine) (history : List Entry) (asked : ThreadPage) (answ
     → IsThreadText boot now history (thread_at now.threads asked.thread) asked.page (presence answer) (answer_text history answer)
 text_of boot now history asked Unknown h =
     subst (λ (o : Option Thread). IsThreadText boot now history o asked.page (presence Unknown) (answer_text history Unknown)) (sym h) (refl, refl)
-text_of boot now history asked Absent h = of_thread boot now history asked h.0 (presence Absent) (answer_text history Absent) h.1 (h.2, refl)
+text_of boot now history asked (Absent removed) h =
+    of_thread boot now history asked h.0 (presence (Absent removed)) (answer_text history (Absent removed)) h.1
+    (record { absent = h.2; removed = removed; gone = h.3; is_text = refl })
 text_of boot now history asked (Chain place links shows) h =
     of_thread boot now history asked place (presence (Chain place links shows)) (answer_text history (Chain place links shows)) h.0
     (record { links = links.items; provenance = h.1; shows = shows; at = h.2; is_text = refl })
@@ -61,6 +65,11 @@ pub record HasEnded (frames : ℕ) (size : PageSize) (history : List Entry) (now
   pub size_is : boot.size ≡ size
   pub run : Run boot (steps_of history) (answers_of history) now
 
+-- what was found of a removal, in the form in which a pattern names it
+pub removal_is : (frames : ℕ) (size : PageSize) (history : List Entry) (place : Place) (r s : Removal) → r ≡ s → (b : Machine) × IsBootWith frames size b × IsRemoval b history place r
+    → (b : Machine) × IsBootWith frames size b × IsRemoval b history place s
+removal_is frames size history place r s e h = subst (λ (x : Removal). (b : Machine) × IsBootWith frames size b × IsRemoval b history place x) e h
+
 module _ (frames : ℕ) (size : PageSize) (history : List Entry) (now : Machine) (asked : ThreadPage) (e : HasEnded frames size history now) where
   answered : (answer : Answer) → Holds e.boot now history asked answer → IsAnswer frames size history asked answer
   answered answer holds = record { boot = e.boot; boots = e.boots; size_is = e.size_is; now = now; run = e.run; holds = holds }
@@ -76,11 +85,22 @@ module _ (frames : ℕ) (size : PageSize) (history : List Entry) (now : Machine)
     abbrev pub place : Place
     place = record { space = thread.space; page = asked.page }
 
-    pub is_absent : shown now.mappings place ≡ None → IsAnswer frames size history asked Absent
-    is_absent none = answered Absent (place, (thread, at, refl), record { now = now; run = e.run; absent = subst (λ (o : Option Mapping). ¬ (IsTrue (is_some o))) (sym none) (λ h. false≢true h) })
+    -- of a page that is not present, with what was found by looking back
+    is_gone : IsAbsent e.boot history place → (answer : Answer) → IsLookedBack frames size history place answer → IsAnswer frames size history asked answer
+    is_gone absent (Absent removed) back = answered (Absent removed) (place, (thread, at, refl), absent, same_boot (λ b. IsGone b history place removed) back)
+    is_gone absent Unknown back = absurd back
+    is_gone absent (Chain other links shows) back = absurd back
 
-    pub is_found_absent : (b : Machine) × IsBootWith frames size b × IsAbsent b history place → IsAnswer frames size history asked Absent
-    is_found_absent other = answered Absent (place, (thread, at, refl), same_boot (λ b. IsAbsent b history place) other)
+    all_gone : IsAbsent e.boot history place → (r : Option Answer) → IfSome r (IsLookedBack frames size history place) → IfSome r (IsAnswer frames size history asked)
+    all_gone absent (Some answer) back = is_gone absent answer back
+    all_gone absent None back = tt
+
+    pub is_absent : shown now.mappings place ≡ None → (r : Option Answer) → IfSome r (IsLookedBack frames size history place) → IfSome r (IsAnswer frames size history asked)
+    is_absent none r back = all_gone (record { now = now; run = e.run; absent = subst (λ (o : Option Mapping). ¬ (IsTrue (is_some o))) (sym none) (λ h. false≢true h) }) r back
+
+    pub is_found_absent : (b : Machine) × IsBootWith frames size b × IsAbsent b history place → (r : Option Answer) → IfSome r (IsLookedBack frames size history place)
+        → IfSome r (IsAnswer frames size history asked)
+    is_found_absent other r back = all_gone (same_boot (λ b. IsAbsent b history place) other) r back
 
     pub is_chain : (links : Vec ChainLink) (shows : Mapping) → (b : Machine) × IsBootWith frames size b × IsProvenance b history place links.items → shown now.mappings place ≡ Some shows
         → IsAnswer frames size history asked (Chain place links shows)

@@ -4,3 +4,4 @@ pub mod Histories
 pub mod Inside
 pub mod Moves
 pub mod Telling
+pub mod Absences

@@ -13,12 +13,14 @@ use Rattle.l4_record.specs.declared.entries.Entry.{Entry}
 use Rattle.l4_record.specs.History.{steps_of, answers_of}
 use Rattle.l4_record.specs.declared.links.ChainLink.{ChainLink}
 use Rattle.l4_record.specs.Chains.{IsProvenance, IsAbsent}
+use Rattle.l4_provenance.specs.Removals.{WasNeverPresent, WasRemoved}
 use Rattle.l4_sinks.specs.Scripts.{RecordsScript}
 use Rattle.l4_sinks.specs.declared.scripts.Ended.{Ended}
 use Rattle.l4_text.specs.Streams.{WentOut}
 use Rattle.l4_text.specs.declared.faults.RunFault.{RunFault}
 use Rattle.l4_text.specs.declared.faults.RunFault.TheVariants.{Read, Write, Memory}
 use Rattle.l4_answers.specs.Replies.{newline}
+use Rattle.l4_history.specs.Absences.{absent_text}
 use Rattle.l4_history.specs.Chains.{chain_text}
 use Rattle.l4_history.specs.declared.asking.ThreadPage.{ThreadPage}
 use Rattle.l4_history.specs.declared.asking.Question.{Question}
@@ -31,9 +33,17 @@ use Rattle.l4_history.specs.declared.asking.Presence.TheVariants.{Present, Absen
 abbrev pub unknown_text : List ℕ
 unknown_text = codes "refused K2" ++ newline
 
--- the text for a page that is not present
-abbrev pub absent_text : List ℕ
-absent_text = codes "absent" ++ newline
+-- the step that removed the page, if it was present before: the one of the entry with this number
+abbrev pub IsGone : Machine → List Entry → Place → Option ℕ → Type 0
+IsGone boot history place None = WasNeverPresent boot history place
+IsGone boot history place (Some number) = WasRemoved boot history place number
+
+-- the page is not present at the end, and this is the text about it
+pub record IsAbsentText (boot : Machine) (history : List Entry) (place : Place) (text : List ℕ) : Type 0 where
+  pub absent : IsAbsent boot history place
+  pub removed : Option ℕ
+  pub gone : IsGone boot history place removed
+  pub is_text : text ≡ absent_text history removed
 
 -- the links are the provenance of the place in the history, the place has this mapping at the end, and this is their text
 pub record IsChainText (boot now : Machine) (history : List Entry) (place : Place) (text : List ℕ) : Type 0 where
@@ -43,10 +53,10 @@ pub record IsChainText (boot now : Machine) (history : List Entry) (place : Plac
   pub at : shown now.mappings place ≡ Some shows
   pub is_text : text ≡ chain_text history links place shows
 
--- the text for a place: its chain, or that it is absent
+-- the text for a place: its chain, or that it is absent and which step removed it
 abbrev pub IsPlaceText : Machine → Machine → List Entry → Place → Presence → List ℕ → Type 0
 IsPlaceText boot now history place Present text = IsChainText boot now history place text
-IsPlaceText boot now history place Absent text = IsAbsent boot history place × (text ≡ absent_text)
+IsPlaceText boot now history place Absent text = IsAbsentText boot history place text
 IsPlaceText boot now history place NoThread text = ⊥
 
 -- the text for a page of a thread's space, if the thread exists at the end

@@ -2,12 +2,13 @@
 ghost use Rattle.std.specs.Prelude.{◌≡◌, ◌≤◌, IfSome};
 ghost use Rattle.l4_fpage.specs.Pages.{max_frames};
 ghost use Rattle.l4_text.specs.Streams.{Tells};
-ghost use Rattle.l4_history.specs.Inside.Finding.{IsAnswer, presence, answer_text};
-ghost use Rattle.l4_history.specs.Telling.{unknown_text, absent_text, TellsPage, TellsWhy};
+ghost use Rattle.l4_history.specs.Inside.Finding.{IsAnswer, IsLookedBack, presence, answer_text};
+ghost use Rattle.l4_history.specs.Telling.{unknown_text, TellsPage, TellsWhy};
 
+use crate::absences::put_absent;
 use crate::lines::put_chain;
 use l4_ipc::{Kernel, Mapping, PageSize, Place};
-use l4_provenance::{ChainLink, Replayable, provenance, replay};
+use l4_provenance::{ChainLink, Removal, Replayable, last_removal, provenance, replay};
 use l4_reasons::Reason;
 use l4_sinks::record_script;
 use l4_text::{Output, RunFault, Text};
@@ -60,25 +61,32 @@ fn unknown_text() -> Text
     text
 }
 
-/// `absent`
-fn absent_text() -> Text
-    ensures { result ≡ absent_text }
-{
-    let mut text = Text::new();
-    text.add(b"absent");
-    text.push(b'\n');
-    text
-}
-
 /// The answer about a page of a thread's space.
 #[derive(Drop)]
 pub(crate) enum Answer {
     /// There is no such thread at the end.
     Unknown,
-    /// The page is not present at the end.
-    Absent,
+    /// The page is not present at the end. The step of the entry with this number removed it, if there is one; else it was never present.
+    Absent(Option<usize>),
     /// These links brought the page to its place, where it has this mapping.
     Chain(Place, Vec<ChainLink>, Mapping),
+}
+
+/// Returns the answer about a page that is not present, by a history that is executed again. Returns None if there is no memory for it.
+fn look_back<H: Replayable>(
+    alloc: Global,
+    frames: u32,
+    size: PageSize,
+    history: &H,
+    place: Place,
+) -> Option<Answer>
+    ensures { IfSome result (IsLookedBack frames size (H.entries history.now) place) }
+{
+    match last_removal(alloc, frames, size, history, place) {
+        Ok(Removal::Never) => Some(Answer::Absent(None)),
+        Ok(Removal::By(number)) => Some(Answer::Absent(Some(number))),
+        Ok(Removal::Present) | Err(_) => None,
+    }
 }
 
 /// Executes the history again, and returns the answer about a page. Returns None if there is no memory for it.
@@ -107,11 +115,11 @@ fn look<H: Replayable>(
         page: asked.page,
     };
     let Some(shows) = kernel.mapping(place.space, place.page) else {
-        return Some(Answer::Absent);
+        return look_back(alloc, frames, size, history, place);
     };
     match provenance(alloc, frames, size, history, place) {
         Ok(Some(links)) => Some(Answer::Chain(place, links, shows)),
-        Ok(None) => Some(Answer::Absent),
+        Ok(None) => look_back(alloc, frames, size, history, place),
         Err(_) => None,
     }
 }
@@ -132,8 +140,8 @@ fn put_answer<H: Replayable, W: Write>(
             out.put(writer, &unknown_text());
             Presence::NoThread
         }
-        Answer::Absent => {
-            out.put(writer, &absent_text());
+        Answer::Absent(removed) => {
+            put_absent(history, *removed, out, writer);
             Presence::Absent
         }
         Answer::Chain(place, links, shows) => {
@@ -144,7 +152,8 @@ fn put_answer<H: Replayable, W: Write>(
 }
 
 /// Executes a history again, and writes how a page of a thread's space got there: sigma0's page, the transfers of the chain, and the page at
-/// the end. Returns whether the page is present. If it is not, or if there is no such thread, that is what it writes.
+/// the end. Returns whether the page is present. If it is not, or if there is no such thread, that is what it writes, with the step that removed
+/// the page if it was present before.
 ///
 /// The caller must pass 1 to 4,096 frames.
 ///

@@ -2,6 +2,7 @@
 //! history got to its place.
 #![tactic(auto)]
 
+mod absences;
 mod annotating;
 mod asking;
 mod lines;

@@ -10,8 +10,10 @@ use Rattle.l4_ipc.specs.Runs.{Run}
 use Rattle.l4_record.specs.declared.entries.Entry.{Entry}
 use Rattle.l4_record.specs.History.{steps_of, answers_of}
 use Rattle.l4_record.specs.Chains.{IsProvenance, IsAbsent}
+use Rattle.l4_record.specs.Replays.{IsBootWith}
 use Rattle.l4_history.specs.Chains.{chain_text}
-use Rattle.l4_history.specs.Telling.{unknown_text, absent_text}
+use Rattle.l4_history.specs.Absences.{absent_text}
+use Rattle.l4_history.specs.Telling.{unknown_text, IsGone}
 use Rattle.l4_history.specs.declared.asking.ThreadPage.{ThreadPage}
 use Rattle.l4_history.specs.declared.asking.Presence.{Presence}
 use Rattle.l4_history.specs.declared.asking.Presence.TheVariants as is
@@ -20,12 +22,12 @@ use Rattle.l4_history.specs.declared.asking.Answer.TheVariants.{Unknown, Absent,
 
 abbrev pub presence : Answer → Presence
 presence Unknown = is.NoThread
-presence Absent = is.Absent
+presence (Absent removed) = is.Absent
 presence (Chain place links shows) = is.Present
 
 abbrev pub answer_text : List Entry → Answer → List ℕ
 answer_text history Unknown = unknown_text
-answer_text history Absent = absent_text
+answer_text history (Absent removed) = absent_text history removed
 answer_text history (Chain place links shows) = chain_text history links.items place shows
 
 -- the thread is there at the end, and this is the page of its space
@@ -35,7 +37,7 @@ IsOfThread now asked place = (thread : Thread) × (thread_at now.threads asked.t
 -- the answer holds of this boot and this end
 abbrev pub Holds : Machine → Machine → List Entry → ThreadPage → Answer → Type 0
 Holds boot now history asked Unknown = thread_at now.threads asked.thread ≡ None
-Holds boot now history asked Absent = (place : Place) × IsOfThread now asked place × IsAbsent boot history place
+Holds boot now history asked (Absent removed) = (place : Place) × IsOfThread now asked place × IsAbsent boot history place × IsGone boot history place removed
 Holds boot now history asked (Chain place links shows) =
     IsOfThread now asked place × IsProvenance boot history place links.items × (shown now.mappings place ≡ Some shows)
 
@@ -47,3 +49,9 @@ pub record IsAnswer (frames : ℕ) (size : PageSize) (history : List Entry) (ask
   pub now : Machine
   pub run : Run boot (steps_of history) (answers_of history) now
   pub holds : Holds boot now history asked answer
+
+-- the answer about a page that is not present says which step removed it, on a kernel that booted like this
+abbrev pub IsLookedBack : ℕ → PageSize → List Entry → Place → Answer → Type 0
+IsLookedBack frames size history place (Absent removed) = (boot : Machine) × IsBootWith frames size boot × IsGone boot history place removed
+IsLookedBack frames size history place Unknown = ⊥
+IsLookedBack frames size history place (Chain other links shows) = ⊥
