@@ -16,7 +16,14 @@ int main(void) {
     case 9: __asm__ volatile(".byte 0xf1"); break; /* int1 */
     case 10: __asm__ volatile("sysenter" : : : "eax", "ecx", "edx", "memory"); break;
     case 11: __asm__ volatile("syscall" : : : "eax", "ecx", "edx", "memory"); break;
-    default: __asm__ volatile("pushf\n\torl $0x100, (%%esp)\n\tpopf\n\tnop" : : : "cc", "memory"); /* trap flag */
+    case 12: __asm__ volatile("pushf\n\torl $0x100, (%%esp)\n\tpopf\n\tnop" : : : "cc", "memory"); break; /* trap flag */
+    case 13: __asm__ volatile("xgetbv" : : "c"(0) : "eax", "edx"); break;
+    case 14: __asm__ volatile("rdrand %%eax" : : : "eax", "cc"); break;
+    case 15: __asm__ volatile("vpxor %%ymm0, %%ymm0, %%ymm0" : : : "memory"); break; /* AVX2 */
+    case 16: __asm__ volatile("rdtsc" : : : "eax", "edx"); break;
+    case 17: __asm__ volatile("wrpkru\n\tmovl %0, %%eax" : : "m"(word), "a"(0xffffffffu), "c"(0), "d"(0) : "memory"); break; /* forbids all pages */
+    case 18: __asm__ volatile("rdpmc" : : "c"(0) : "eax", "edx"); break;
+    default: __asm__ volatile("movbe %0, %%eax" : : "m"(word) : "eax"); break;
     }
     print_number("differences: instruction ", number, " is executed\n");
     return 0;
