@@ -56,10 +56,13 @@ struct entered {
 enum state { ABSENT, INACTIVE, CALLING, READY, STOPPED };
 enum call_kind { CALL_START, CALL_IPC, CALL_UNMAP, CALL_FAULT, CALL_EXCEPTION };
 
+/* Priorities are from 0 to 255; each thread begins with the highest. */
+#define PRIORITIES 256u
+
 struct thread {
     enum state state;
     enum call_kind calling;
-    uint32_t number, id, pager;
+    uint32_t number, id, pager, priority;
     struct space *space;
     struct registers registers;
     struct entered entered;
@@ -67,6 +70,7 @@ struct thread {
     uint32_t *utcb_words; /* message register 0 in the bed's memory */
     uint32_t fault_address, fault_access;
     uint32_t vain_answers; /* answers in a row to one fault that did not give the right */
+    int is_halted;         /* its program does not run until another thread lets it; its Ipc goes on */
     char text[1023];       /* the line that it has begun to print; a longer one is printed in parts */
     size_t text_length;
 };
@@ -94,6 +98,8 @@ struct bed {
     unsigned char is_own_frame_used[L4_MAX_THREADS];
     struct space spaces[L4_MAX_THREADS];
     struct thread threads[L4_MAX_THREADS];
+    uint32_t next_turns[PRIORITIES]; /* from where on the next thread of each priority is searched */
+    struct thread *named_next;       /* the thread that ThreadSwitch has named, or NULL */
     struct changes changes;
     int prints_lines, verifies;
     uint32_t traced[L4_MAX_THREADS], traced_count; /* the numbers of the threads whose calls are printed */
@@ -232,8 +238,16 @@ void thread_set_ready(struct thread *thread, uint32_t eip, uint32_t esp);
 int thread_turn(struct bed *bed, struct thread *thread);
 uint32_t thread_enter(struct bed *bed, struct thread *thread, enum call_kind kind, const l4_call *call, const uint32_t *words, size_t count);
 void thread_fault(struct bed *bed, struct thread *thread, uint32_t address, uint32_t access);
-/* Ends the call in which the thread waits with the ErrorCode of a canceled Ipc. */
-void thread_cancel(struct bed *bed, struct thread *thread);
+/* Returns what the thread does in the kernel. */
+l4_state thread_state(struct bed *bed, const struct thread *thread);
+/* Returns L4_STATE_SENDING or L4_STATE_RECEIVING if the thread waits in the kernel, and otherwise 0. */
+uint32_t thread_wait(struct bed *bed, const struct thread *thread);
+/* Returns whether the thread waits for the thread with this id alone: to send to it, or to receive from it. */
+int thread_awaits(struct bed *bed, const struct thread *thread, uint32_t id);
+/* Takes the reply of the thread's call if the call has ended. */
+void thread_take_reply(struct bed *bed, struct thread *thread);
+/* The kernel has ended such a wait of the thread. Its Ipc returns the ErrorCode of a canceled one; a page fault or an exception is raised again. */
+void thread_cancel(struct thread *thread, uint32_t wait);
 
 /* Words of a UTCB, counted from message register 0. */
 enum { TCR_ERROR_CODE = -9, TCR_EXCEPTION_HANDLER = -11, TCR_PAGER = -12, TCR_USER_DEFINED_HANDLE = -13, TCR_MY_GLOBAL_ID = -15, TCR_BUFFER_0 = -16 };
@@ -241,8 +255,27 @@ enum { TCR_ERROR_CODE = -9, TCR_EXCEPTION_HANDLER = -11, TCR_PAGER = -12, TCR_US
 /* The tag of a failed Ipc. */
 #define FAILED_TAG UINT32_C(0x8000)
 
+/* ErrorCodes of ThreadControl, SpaceControl and ExchangeRegisters. */
+enum { NO_PRIVILEGE = 1, INVALID_THREAD = 2, INVALID_SPACE = 3, INVALID_PARAMETER = 5, INVALID_UTCB_AREA = 6, INVALID_KIP_AREA = 7, OUT_OF_MEMORY = 8 };
+
 /* calls.c: executes the system call whose stub the thread called. Returns 0 if the thread's turn ends. */
 int call_take(struct bed *bed, struct thread *thread, enum system_call call);
+/* A local id is the address of a UTCB, and names a thread of the caller's space. Returns the global id; or the id itself if it is global, or names no
+ * thread. */
+uint32_t call_global_id(const struct bed *bed, const struct thread *caller, uint32_t id);
+/* Enters a call of the kernel that creates, changes or deletes a thread. Returns the ErrorCode. */
+uint32_t call_control(struct bed *bed, struct thread *caller, uint32_t kind, uint32_t id, uint32_t space, uint32_t pager);
+/* Deletes a thread in the kernel, and creates it again in the same space, with an id of the same number. Returns the ErrorCode. */
+uint32_t call_recreate(struct bed *bed, struct thread *caller, const struct thread *changed, uint32_t id);
+
+/* exchange.c: executes ExchangeRegisters. */
+void exchange_take(struct bed *bed, struct thread *thread);
+
+/* turns.c */
+/* Gives turns to threads until none can run, or the run ends. */
+void turns_run(struct bed *bed);
+/* Executes the system call Schedule. */
+void turns_schedule(struct bed *bed, struct thread *thread);
 
 /* elf.c */
 /* Loads root into the frames of its addresses, and returns its entry. */
@@ -254,8 +287,8 @@ void elf_load_others(struct bed *bed, char **names, int count);
 void symbols_add_program(const char *file, const unsigned char *bytes, size_t length);
 void symbols_add_part(uint32_t place, uint32_t start, uint32_t bytes);
 void symbols_free(void);
-/* Writes ` (FUNCTION+OFFSET in FILE)`, or nothing if the code at the address has no name. */
-#define SYMBOL_ROOM 140
+/* Writes ` (FUNCTION+OFFSET in FILE, SOURCE:LINE)`, or nothing if the code at the address has no name. */
+#define SYMBOL_ROOM 200
 void symbols_write(struct bed *bed, const struct thread *thread, uint32_t address, char *text, size_t room);
 
 /* probe.c: prints which engines work on this machine, and why others do not. */

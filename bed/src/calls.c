@@ -10,9 +10,6 @@
 /* These bits are 0 in local ids, and not all 0 in global ones. */
 #define LOCAL_BITS UINT32_C(0x3f)
 
-/* ErrorCodes of ThreadControl, SpaceControl and ExchangeRegisters. */
-enum { NO_PRIVILEGE = 1, INVALID_THREAD = 2, INVALID_SPACE = 3, INVALID_PARAMETER = 5, INVALID_UTCB_AREA = 6, INVALID_KIP_AREA = 7, OUT_OF_MEMORY = 8 };
-
 /* If the kernel refuses an Ipc, the program gets the ErrorCode of a message that is too long, in the send phase; or in the receive phase if the Ipc
  * has no other. */
 #define REFUSED_MESSAGE 8u
@@ -27,7 +24,7 @@ static void print_refused(struct bed *bed, struct thread *thread, uint32_t refus
 
 /* A local id is the address of a UTCB, and names a thread of the caller's space. Returns the global id; or the id itself if it is global, or names no
  * thread. */
-static uint32_t global_of(const struct bed *bed, const struct thread *caller, uint32_t id) {
+uint32_t call_global_id(const struct bed *bed, const struct thread *caller, uint32_t id) {
     size_t k;
     if (id == L4_NILTHREAD || (id & LOCAL_BITS) != 0)
         return id;
@@ -45,8 +42,8 @@ static void take_ipc(struct bed *bed, struct thread *thread) {
     uint32_t words[L4_MAX_WORDS], refusal;
     memcpy(words, thread->utcb_words, sizeof words);
     words[0] = registers->esi;
-    call.to = global_of(bed, thread, registers->eax);
-    call.from = global_of(bed, thread, registers->edx);
+    call.to = call_global_id(bed, thread, registers->eax);
+    call.from = call_global_id(bed, thread, registers->edx);
     call.timeouts = registers->ecx;
     call.acceptor = thread->utcb_words[TCR_BUFFER_0];
     print_line(bed, "%u calls ipc %08x %08x %08x %08x", thread->number, call.to, call.from, call.timeouts, call.acceptor);
@@ -88,7 +85,7 @@ static uint32_t control_error(uint32_t refusal) {
     }
 }
 
-static uint32_t enter_control(struct bed *bed, struct thread *thread, uint32_t kind, uint32_t id, uint32_t space, uint32_t pager) {
+uint32_t call_control(struct bed *bed, struct thread *thread, uint32_t kind, uint32_t id, uint32_t space, uint32_t pager) {
     l4_call call = kernel_call(kind);
     uint32_t none = 0, refusal;
     call.id = id;
@@ -103,7 +100,7 @@ static uint32_t enter_control(struct bed *bed, struct thread *thread, uint32_t k
 
 static uint32_t delete_thread(struct bed *bed, struct thread *caller, uint32_t id) {
     struct thread *gone = thread_find(bed, id);
-    uint32_t error = enter_control(bed, caller, L4_DELETE, id, 0, 0);
+    uint32_t error = call_control(bed, caller, L4_DELETE, id, 0, 0);
     if (error == 0 && gone != NULL)
         thread_free(bed, gone);
     return error;
@@ -117,7 +114,7 @@ static uint32_t create_thread(struct bed *bed, struct thread *caller, uint32_t i
         return INVALID_SPACE;
     if (pager != L4_NILTHREAD && (space == NULL || !space_has_utcb(space, utcb)))
         return INVALID_UTCB_AREA;
-    error = enter_control(bed, caller, L4_CREATE, id, specifier, pager);
+    error = call_control(bed, caller, L4_CREATE, id, specifier, pager);
     if (error != 0)
         return error;
     if (specifier == id)
@@ -141,7 +138,7 @@ static uint32_t change_thread(struct bed *bed, struct thread *caller, struct thr
     if (pager != L4_NILTHREAD && changed->utcb == 0 && !is_new_utcb)
         return INVALID_UTCB_AREA;
     if (pager != L4_NILTHREAD)
-        error = enter_control(bed, caller, L4_SET_PAGER, changed->id, 0, pager);
+        error = call_control(bed, caller, L4_SET_PAGER, changed->id, 0, pager);
     if (error != 0)
         return error;
     if (is_new_utcb)
@@ -162,30 +159,37 @@ static uint32_t unused_number(struct bed *bed) {
     return number;
 }
 
-/* The kernel cannot change the version of an id, so the thread is deleted and created again. A placeholder keeps its space alive. */
-static uint32_t recreate(struct bed *bed, struct thread *caller, const struct thread *changed, uint32_t id) {
+/* A placeholder keeps the thread's space alive. */
+uint32_t call_recreate(struct bed *bed, struct thread *caller, const struct thread *changed, uint32_t id) {
     uint32_t placeholder = ID(unused_number(bed)), error;
-    error = enter_control(bed, caller, L4_CREATE, placeholder, changed->id, L4_NILTHREAD);
+    error = call_control(bed, caller, L4_CREATE, placeholder, changed->id, L4_NILTHREAD);
     if (error != 0)
         return error;
-    error = enter_control(bed, caller, L4_DELETE, changed->id, 0, 0);
+    error = call_control(bed, caller, L4_DELETE, changed->id, 0, 0);
     if (error == 0)
-        error = enter_control(bed, caller, L4_CREATE, id, placeholder, changed->pager);
-    if (enter_control(bed, caller, L4_DELETE, placeholder, 0, 0) != 0)
+        error = call_control(bed, caller, L4_CREATE, id, placeholder, changed->pager);
+    if (call_control(bed, caller, L4_DELETE, placeholder, 0, 0) != 0)
         return INVALID_THREAD;
     return error;
 }
 
-/* By the manual a new version cancels the thread's Ipc, and leaves its registers and its space as they are. */
+/* By the manual a new version cancels the thread's Ipc, and leaves its registers and its space as they are. The kernel cannot change the version of
+ * an id, so the thread is deleted and created again. A thread that has not started waits for its start again. */
 static uint32_t change_version(struct bed *bed, struct thread *caller, struct thread *changed, uint32_t id) {
-    uint32_t error;
+    uint32_t error, wait;
+    int has_started;
     if (changed == caller || changed->number == ROOT)
         return INVALID_THREAD;
-    error = recreate(bed, caller, changed, id);
+    thread_take_reply(bed, changed);
+    has_started = changed->state != CALLING || changed->calling != CALL_START;
+    wait = thread_wait(bed, changed);
+    error = call_recreate(bed, caller, changed, id);
     if (error != 0)
         return error;
     thread_set_id(changed, id);
-    thread_cancel(bed, changed);
+    thread_cancel(changed, wait);
+    if (!has_started)
+        thread_activate(bed, changed, changed->pager);
     return 0;
 }
 
@@ -196,8 +200,8 @@ static uint32_t middle_of(uint32_t utcb) {
 
 static uint32_t control_thread(struct bed *bed, struct thread *thread) {
     const struct registers *registers = &thread->registers;
-    uint32_t id = global_of(bed, thread, registers->eax), pager = global_of(bed, thread, registers->ecx);
-    uint32_t specifier = global_of(bed, thread, registers->esi), utcb = middle_of(registers->edi);
+    uint32_t id = call_global_id(bed, thread, registers->eax), pager = call_global_id(bed, thread, registers->ecx);
+    uint32_t specifier = call_global_id(bed, thread, registers->esi), utcb = middle_of(registers->edi);
     struct thread *target = thread_numbered(bed, NUMBER(id));
     uint32_t error;
     if (specifier == L4_NILTHREAD)
@@ -330,32 +334,10 @@ static int take_kdb(struct bed *bed, struct thread *thread) {
     return 1;
 }
 
-/* The control word can only ask for the values, since this kernel cannot change the wait of a thread. The result is the thread's other id. */
-#define DELIVER UINT32_C(0x200)
-
-static uint32_t exchange_registers(struct thread *thread, const struct thread *dest) {
-    struct registers *registers = &thread->registers;
-    uint32_t result = registers->eax == dest->id ? dest->utcb : dest->id;
-    registers->ecx = 0;
-    registers->edx = dest->registers.esp;
-    registers->esi = dest->registers.eip;
-    registers->edi = dest->registers.eflags;
-    registers->ebx = dest->utcb_words[TCR_USER_DEFINED_HANDLE];
-    registers->ebp = dest->pager;
-    return result;
-}
-
-static void take_exchange_registers(struct bed *bed, struct thread *thread) {
-    struct registers *registers = &thread->registers;
-    struct thread *dest = thread_find(bed, global_of(bed, thread, registers->eax));
-    uint32_t error = 0;
-    print_line(bed, "%u calls exchange registers %08x %08x", thread->number, registers->eax, registers->ecx);
-    if ((registers->ecx & ~DELIVER) != 0)
-        error = INVALID_PARAMETER;
-    else if (dest == NULL || dest->space != thread->space || dest->utcb == 0)
-        error = INVALID_THREAD;
-    thread->utcb_words[TCR_ERROR_CODE] = error;
-    registers->eax = error == 0 ? exchange_registers(thread, dest) : L4_NILTHREAD;
+/* The memory of the bed has no caches that a program can see, so all attributes are accepted. */
+static void take_memory_control(struct bed *bed, struct thread *thread) {
+    print_line(bed, "%u calls memory control %08x", thread->number, thread->registers.eax);
+    end_control(thread, thread->space->number == ROOT_SPACE ? 0 : NO_PRIVILEGE);
 }
 
 static void take_other(struct bed *bed, struct thread *thread, enum system_call call) {
@@ -376,9 +358,11 @@ int call_take(struct bed *bed, struct thread *thread, enum system_call call) {
     case SYSTEM_UNMAP: take_unmap(bed, thread); return 1;
     case SYSTEM_THREAD_CONTROL: take_thread_control(bed, thread); return 1;
     case SYSTEM_SPACE_CONTROL: take_space_control(bed, thread); return 1;
-    case SYSTEM_EXCHANGE_REGISTERS: take_exchange_registers(bed, thread); return 1;
+    case SYSTEM_EXCHANGE_REGISTERS: exchange_take(bed, thread); return !thread->is_halted;
     case SYSTEM_CLOCK: take_clock(bed, thread); return 1;
-    case SYSTEM_THREAD_SWITCH: return 0;
+    case SYSTEM_THREAD_SWITCH: bed->named_next = thread_find(bed, call_global_id(bed, thread, thread->registers.eax)); return 0;
+    case SYSTEM_SCHEDULE: turns_schedule(bed, thread); return 1;
+    case SYSTEM_MEMORY_CONTROL: take_memory_control(bed, thread); return 1;
     default: take_other(bed, thread, call); return 1;
     }
 }

@@ -71,30 +71,21 @@ void end_watch(struct bed *bed) {
         look(bed, time);
 }
 
-/* What a thread in a call waits for. */
-static l4_state state_of(struct bed *bed, const struct thread *thread) {
-    l4_state state = l4_state_of(&bed->kernel, thread->number);
-    check_library(state.refusal, "l4_state_of");
-    return state;
-}
-
-static int is_waiting(uint32_t state) {
-    return state == L4_STATE_SENDING || state == L4_STATE_RECEIVING;
-}
-
 /* Returns the number of the one thread for which a thread waits, or 0. */
 static uint32_t awaited(struct bed *bed, const struct thread *thread) {
-    l4_state state;
-    if (thread == NULL || thread->state != CALLING)
+    uint32_t partner;
+    if (thread == NULL || thread_wait(bed, thread) == 0)
         return 0;
-    state = state_of(bed, thread);
-    return is_waiting(state.state) && state.partner != L4_ANYTHREAD ? NUMBER(state.partner) : 0;
+    partner = thread_state(bed, thread).partner;
+    return partner != L4_ANYTHREAD ? NUMBER(partner) : 0;
 }
 
 /* Says of a partner what makes the wait endless. */
 static const char *partner_text(struct bed *bed, uint32_t id) {
     const struct thread *partner = thread_find(bed, id);
-    return partner != NULL && partner->state == STOPPED ? ", which is stopped" : "";
+    if (partner == NULL)
+        return "";
+    return partner->state == STOPPED ? ", which is stopped" : partner->state == READY && partner->is_halted ? ", which is halted" : "";
 }
 
 void end_by_gdb(struct bed *bed) {
@@ -131,14 +122,14 @@ static void print_thread(struct bed *bed, const struct thread *thread) {
         print("%u has no pager yet\n", thread->number);
     if (thread->state == READY) {
         symbols_write(bed, thread, thread->registers.eip, name, sizeof name);
-        print("%u can continue at %08x%s\n", thread->number, thread->registers.eip, name);
+        print("%u %s at %08x%s\n", thread->number, thread->is_halted ? "is halted" : "can continue", thread->registers.eip, name);
     }
     if (thread->state != CALLING)
         return;
-    state = state_of(bed, thread);
-    if (is_waiting(state.state))
+    if (thread_wait(bed, thread) != 0) {
+        state = thread_state(bed, thread);
         print_wait(bed, thread, &state);
-    else
+    } else
         print("%u can continue: its call has ended\n", thread->number);
 }
 

@@ -23,7 +23,8 @@ enum stop_kind {
     STOP_BY_FAULT,     /* the mapped pages do not permit the instruction's access to `address` */
     STOP_BY_EXCEPTION, /* the processor raised exception `number` */
     STOP_BY_BUDGET,    /* the thread ran for a whole turn */
-    STOP_BY_BREAK      /* there is a breakpoint at eip */
+    STOP_BY_BREAK,     /* there is a breakpoint at eip */
+    STOP_BY_HOST       /* the host has refused a page of the space, so nothing runs in it any more */
 };
 
 struct stop {

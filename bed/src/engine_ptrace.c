@@ -74,6 +74,7 @@ struct engine_space {
     clockid_t clock;
     int frames;
     int is_lost; /* the stub has ended, or has not made its calls */
+    int is_refused; /* it is lost because the host has refused a call */
     uint32_t gs_base;
     uint32_t sysenter_end; /* where Linux continues after a sysenter whose ebp is no readable address; 0 if the processor has no sysenter */
     struct registers *float_owner; /* the registers whose floats are in the stub, or NULL */
@@ -264,10 +265,18 @@ static void close_engine(struct engine *engine) {
 }
 
 /* The bed continues without the space: its threads raise an exception when they run. */
-static void lose(struct engine_space *space, const char *why, int error) {
+static void lose(struct engine_space *space, const char *why) {
     if (!space->is_lost)
-        note("a space can no longer run: %s%s", why, error == 0 ? "" : strerror(error));
+        note("a space can no longer run: %s", why);
     space->is_lost = 1;
+}
+
+/* As above, but its threads are stopped as those of a space that the host does not serve. */
+static void lose_by_host(struct engine_space *space, int error) {
+    char why[160];
+    snprintf(why, sizeof why, "the host refuses to map a page (vm.mmap_min_addr or vm.max_map_count may be the reason): %s", strerror(error));
+    lose(space, why);
+    space->is_refused = 1;
 }
 
 /* Waits for the next stop of the stub, and returns it. */
@@ -351,9 +360,9 @@ static void make_calls(struct engine_space *space) {
     all.rbp = space->count;
     set_registers(space, &all);
     if (!is_written(space) || resume_stub(space, PTRACE_CONT, 0) != SIGTRAP || !get_registers(space, &all))
-        lose(space, "its process does not make its system calls", 0);
+        lose(space, "its process does not make its system calls");
     else if (all.rbp != 0)
-        lose(space, "the host refuses to map a page (vm.mmap_min_addr or vm.max_map_count may be the reason): ", (int)-(long)all.rax);
+        lose_by_host(space, (int)-(long)all.rax);
     space->count = 0;
 }
 
@@ -545,7 +554,7 @@ static int read_exception(struct engine_space *space, int signal, greg_t *words)
 static void explain(struct engine_space *space, struct registers *registers, struct stop *stop, int signal) {
     greg_t words[NGREG];
     if (!read_exception(space, signal, words)) {
-        lose(space, "its process does not report an exception", 0);
+        lose(space, "its process does not report an exception");
         return;
     }
     set_exception(stop, (uint32_t)words[REG_TRAPNO]);
@@ -568,7 +577,7 @@ static void explain(struct engine_space *space, struct registers *registers, str
 static void take_stop(struct engine_space *space, struct registers *registers, struct stop *stop, int signal) {
     struct user_regs_struct all;
     if (signal == GONE || !get_registers(space, &all)) {
-        lose(space, "its process has ended", 0);
+        lose(space, "its process has ended");
         return;
     }
     keep_registers(registers, &all);
@@ -601,7 +610,9 @@ static void run(struct engine *engine, struct engine_space *space, struct regist
         running = 0;
         take_stop(space, registers, stop, signal);
     }
-    if (space->is_lost)
+    if (space->is_refused)
+        stop->kind = STOP_BY_HOST;
+    else if (space->is_lost)
         set_exception(stop, GENERAL_PROTECTION);
 }
 

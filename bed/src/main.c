@@ -91,18 +91,6 @@ static void begin_root(struct bed *bed, uint32_t entry) {
     thread_set_ready(root, entry, 0);
 }
 
-static void run_threads(struct bed *bed) {
-    int has_run = 1;
-    size_t k;
-    while (has_run && bed->end == NOT_ENDED) {
-        has_run = 0;
-        for (k = 0; k < L4_MAX_THREADS && bed->end == NOT_ENDED; k++) {
-            if (bed->threads[k].state != ABSENT)
-                has_run |= thread_turn(bed, &bed->threads[k]);
-        }
-    }
-}
-
 static double now(void) {
     struct timespec time;
     check_system(clock_gettime(CLOCK_MONOTONIC, &time), "clock_gettime");
@@ -269,7 +257,7 @@ static int run(int count, char **words) {
     start = now();
     end_begin(&bed);
     begin_root(&bed, entry);
-    run_threads(&bed);
+    turns_run(&bed);
     end_report(&bed);
     record_end(&bed);
     output_end();

@@ -1,6 +1,7 @@
-/* Names of addresses: the functions and labels in the symbol tables of the loaded programs. */
+/* Names of addresses: the functions and labels in the symbol tables of the loaded programs, with their source lines. */
 #include "bed.h"
 #include "check.h"
+#include "lines.h"
 #include <elf.h>
 #include <stdio.h>
 #include <stdlib.h>
@@ -23,7 +24,12 @@ struct names {
     uint32_t part_count, count;
     struct symbol *symbols;
     char *texts;
+    struct lines *lines;
 };
+
+/* Of a name, and of a file's name, this many bytes are printed. */
+#define LONGEST_NAME 60
+#define LONGEST_FILE 40
 
 /* Root, and the programs beside it. */
 static struct names programs[L4_MAX_THREADS];
@@ -47,6 +53,20 @@ static int is_code(const unsigned char *bytes, size_t length, const Elf32_Ehdr *
     Elf32_Shdr of;
     int type = ELF32_ST_TYPE(symbol->st_info);
     return (type == STT_FUNC || type == STT_NOTYPE) && section(bytes, length, header, symbol->st_shndx, &of) != NULL && (of.sh_flags & SHF_EXECINSTR) != 0;
+}
+
+/* A name with a control character could change the terminal. Each of its bytes that is not ASCII or is one becomes a question mark. */
+static void make_printable(char *name) {
+    char escaped[4 * LONGEST_NAME + 1];
+    size_t length = strlen(name), k;
+    if (length > LONGEST_NAME)
+        length = LONGEST_NAME;
+    name[length] = 0;
+    text_escape(name, length, escaped, sizeof escaped);
+    if (strcmp(name, escaped) == 0)
+        return;
+    for (k = 0; k < length; k++)
+        name[k] = name[k] < ' ' || name[k] > '~' ? '?' : name[k];
 }
 
 /* The names of the table of symbols; a table or a name that is invalid has none. */
@@ -79,6 +99,7 @@ void symbols_add_program(const char *file, const unsigned char *bytes, size_t le
     Elf32_Ehdr header;
     uint32_t k;
     names->file = slash == NULL ? file : slash + 1;
+    names->lines = lines_new(bytes, length);
     memcpy(&header, bytes, sizeof header);
     for (k = 0; k < header.e_shnum; k++) {
         Elf32_Shdr table;
@@ -100,7 +121,19 @@ void symbols_free(void) {
         program_count--;
         free(programs[program_count].symbols);
         free(programs[program_count].texts);
+        lines_free(programs[program_count].lines);
     }
+}
+
+static void write_symbol(const struct names *names, const struct symbol *symbol, uint32_t address, char *text, size_t room) {
+    char name[LONGEST_NAME + 1], line[LINE_ROOM], offset[12] = "";
+    snprintf(name, sizeof name, "%s", symbol->name);
+    make_printable(name);
+    lines_write(names->lines, address, line, sizeof line);
+    make_printable(line);
+    if (symbol->address != address)
+        snprintf(offset, sizeof offset, "+%u", address - symbol->address);
+    snprintf(text, room, " (%s%s in %.*s%s)", name, offset, LONGEST_FILE, names->file, line);
 }
 
 static void write_name(const struct names *names, uint32_t address, char *text, size_t room) {
@@ -112,12 +145,8 @@ static void write_name(const struct names *names, uint32_t address, char *text, 
         else
             high = middle;
     }
-    if (low == 0)
-        return;
-    if (names->symbols[low - 1].address == address)
-        snprintf(text, room, " (%.60s in %.40s)", names->symbols[low - 1].name, names->file);
-    else
-        snprintf(text, room, " (%.60s+%u in %.40s)", names->symbols[low - 1].name, address - names->symbols[low - 1].address, names->file);
+    if (low > 0)
+        write_symbol(names, &names->symbols[low - 1], address, text, room);
 }
 
 void symbols_write(struct bed *bed, const struct thread *thread, uint32_t address, char *text, size_t room) {

@@ -14,7 +14,8 @@
  * going for ever, so the bed stops the thread then. */
 #define MAX_VAIN_ANSWERS 16u
 
-/* The ErrorCode of an Ipc that another thread canceled, in its receive phase. */
+/* The ErrorCodes of an Ipc that another thread canceled, in its send phase and in its receive phase. */
+#define CANCELED_SEND 6u
 #define CANCELED_RECEIVE 7u
 
 struct thread *thread_find(struct bed *bed, uint32_t id) {
@@ -50,6 +51,7 @@ struct thread *thread_new(struct bed *bed, uint32_t id, struct space *space) {
     bed->threads[k].id = id;
     bed->threads[k].number = NUMBER(id);
     bed->threads[k].space = space;
+    bed->threads[k].priority = PRIORITIES - 1;
     trace_thread_exists(bed, NUMBER(id));
     return &bed->threads[k];
 }
@@ -159,7 +161,7 @@ static void point_to_words(struct registers *registers, uint32_t **words) {
 #define SHOWN_BYTES 4u
 
 static void stop_by_exception(struct bed *bed, struct thread *thread, uint32_t number) {
-    char why[300], bytes[3 * SHOWN_BYTES + 1] = "", name[SYMBOL_ROOM];
+    char why[400], bytes[3 * SHOWN_BYTES + 1] = "", name[SYMBOL_ROOM];
     uint32_t eip = thread->registers.eip, k;
     for (k = 0; k < SHOWN_BYTES; k++) {
         const unsigned char *byte = space_byte(bed, thread->space, eip + k);
@@ -263,9 +265,11 @@ static void end_fault(struct bed *bed, struct thread *thread, const l4_reply *re
     }
 }
 
-/* Takes the reply of the thread's call if the call has ended. */
-static void take_reply(struct bed *bed, struct thread *thread) {
-    l4_reply reply = kernel_reply(bed, thread->number);
+void thread_take_reply(struct bed *bed, struct thread *thread) {
+    l4_reply reply;
+    if (thread->state != CALLING)
+        return;
+    reply = kernel_reply(bed, thread->number);
     if (reply.kind == L4_NONE)
         return;
     thread->state = READY;
@@ -278,21 +282,34 @@ static void take_reply(struct bed *bed, struct thread *thread) {
     }
 }
 
-void thread_cancel(struct bed *bed, struct thread *thread) {
+l4_state thread_state(struct bed *bed, const struct thread *thread) {
+    l4_state state = l4_state_of(&bed->kernel, thread->number);
+    check_library(state.refusal, "l4_state_of");
+    return state;
+}
+
+uint32_t thread_wait(struct bed *bed, const struct thread *thread) {
+    uint32_t state = thread->state == CALLING ? thread_state(bed, thread).state : 0;
+    return state == L4_STATE_SENDING || state == L4_STATE_RECEIVING ? state : 0;
+}
+
+int thread_awaits(struct bed *bed, const struct thread *thread, uint32_t id) {
+    return thread_wait(bed, thread) != 0 && thread_state(bed, thread).partner == id;
+}
+
+void thread_cancel(struct thread *thread, uint32_t wait) {
     l4_reply reply;
-    if (thread->state != CALLING)
+    if (wait == 0)
         return;
     memset(&reply, 0, sizeof reply);
     reply.kind = L4_REPLY_IPC;
     reply.tag = FAILED_TAG;
-    reply.error = CANCELED_RECEIVE;
+    reply.error = wait == L4_STATE_SENDING ? CANCELED_SEND : CANCELED_RECEIVE;
     thread->state = READY;
     if (thread->calling == CALL_IPC)
         end_ipc(thread, &reply);
-    else if (thread->calling == CALL_EXCEPTION)
-        end_exception(bed, thread, &reply);
     else if (thread->calling == CALL_START)
-        thread_activate(bed, thread, thread->pager);
+        thread_set_ready(thread, 0, 0);
 }
 
 /* The instruction `lock; nop` returns the address of the kernel interface page. Returns 0 if the instruction is another. */
@@ -340,6 +357,7 @@ static int run(struct bed *bed, struct thread *thread) {
     case STOP_BY_TRAP: return take_trap(bed, thread, stopped.number);
     case STOP_BY_FAULT: thread_fault(bed, thread, stopped.address, stopped.access); return 1;
     case STOP_BY_EXCEPTION: raise_exception(bed, thread, stopped.number); return 1;
+    case STOP_BY_HOST: stop(bed, thread, "the host has refused a page of its space"); return 0;
     case STOP_BY_BUDGET:
     case STOP_BY_BREAK: return 0;
     }
@@ -350,9 +368,8 @@ int thread_turn(struct bed *bed, struct thread *thread) {
     int goes_on = 1;
     uint32_t runs;
     for (runs = 0; goes_on && runs < RUNS_OF_TURN && bed->end == NOT_ENDED; runs++) {
-        if (thread->state == CALLING)
-            take_reply(bed, thread);
-        if (thread->state != READY)
+        thread_take_reply(bed, thread);
+        if (thread->state != READY || thread->is_halted)
             break;
         goes_on = run(bed, thread);
         if (bed->verifies)

@@ -85,7 +85,8 @@ L4_INLINE L4_Bool_t L4_IsClockNotEqual(L4_Clock_t l, L4_Clock_t r) {
 
 /* TURNS */
 
-/* Ends the caller's turn. The bed decides which thread runs next. */
+/* Ends the caller's turn. The next one is that of `dest`, if it can run; otherwise, and if `dest` is L4_nilthread, that of a thread with the highest
+ * priority. */
 L4_INLINE void L4_ThreadSwitch(L4_ThreadId_t dest) {
     L4_Word_t ignored;
     __asm__ __volatile__("call *%[entry]" : "=a"(ignored) : "a"(dest.raw), [entry] "r"(L4_KipEntry(L4_KIP_THREAD_SWITCH)) : "memory", "cc");
@@ -95,19 +96,34 @@ L4_INLINE void L4_Yield(void) {
     L4_ThreadSwitch(L4_nilthread);
 }
 
-#define L4_SCHEDULE_REASON "this kernel has no scheduler: threads take turns, and each runs until it waits"
-L4_ABSENT(L4_SCHEDULE_REASON)
-L4_Word_t L4_Schedule(L4_ThreadId_t dest, L4_Word_t TimeControl, L4_Word_t ProcessorControl, L4_Word_t prio, L4_Word_t PreemptionControl,
-                      L4_Word_t *old_TimeControl);
-L4_ABSENT(L4_SCHEDULE_REASON)
-L4_Word_t L4_Set_Priority(L4_ThreadId_t dest, L4_Word_t prio);
-L4_ABSENT(L4_SCHEDULE_REASON)
+/* Sets the priority of a thread, from 0 to 255, or not at all if it is 0xffffffff. A thread begins with 255. A thread runs only while no thread of a
+ * higher priority can run. No priority may be higher than the caller's. A thread of root's space can change every thread, and others those of
+ * their space. The other control words have to be 0xffffffff, which leaves all as it is. Returns 0 with an ErrorCode, or what the thread does: 1 if
+ * the bed has stopped it, 2 without a pager, 3 if it runs, 4 if it waits to send, 6 if it waits to receive. */
+L4_INLINE L4_Word_t L4_Schedule(L4_ThreadId_t dest, L4_Word_t TimeControl, L4_Word_t ProcessorControl, L4_Word_t prio, L4_Word_t PreemptionControl,
+                                L4_Word_t *old_TimeControl) {
+    L4_Word_t result = dest.raw;
+    __asm__ __volatile__("call *%[entry]"
+                         : "+a"(result), "+c"(prio), "+d"(TimeControl), "+S"(ProcessorControl), "+D"(PreemptionControl)
+                         : [entry] "b"(L4_KipEntry(L4_KIP_SCHEDULE))
+                         : "memory", "cc");
+    *old_TimeControl = TimeControl;
+    return result;
+}
+
+L4_INLINE L4_Word_t L4_Set_Priority(L4_ThreadId_t dest, L4_Word_t prio) {
+    L4_Word_t old;
+    return L4_Schedule(dest, 0xffffffffu, 0xffffffffu, prio, 0xffffffffu, &old);
+}
+
+L4_ABSENT("l4_bed has one processor")
 L4_Word_t L4_Set_ProcessorNo(L4_ThreadId_t dest, L4_Word_t cpu);
-L4_ABSENT(L4_SCHEDULE_REASON)
+#define L4_SLICES_REASON "l4_bed has no time slices of a thread: all turns have the length that --turn sets"
+L4_ABSENT(L4_SLICES_REASON)
 L4_Word_t L4_Timeslice(L4_ThreadId_t dest, L4_Time_t *ts, L4_Time_t *tq);
-L4_ABSENT(L4_SCHEDULE_REASON)
+L4_ABSENT(L4_SLICES_REASON)
 L4_Word_t L4_Set_Timeslice(L4_ThreadId_t dest, L4_Time_t ts, L4_Time_t tq);
-L4_ABSENT(L4_SCHEDULE_REASON)
+L4_ABSENT(L4_SLICES_REASON)
 L4_Word_t L4_Set_PreemptionDelay(L4_ThreadId_t dest, L4_Word_t sensitivePrio, L4_Word_t maxDelay);
 
 L4_END_C

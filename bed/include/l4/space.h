@@ -205,13 +205,33 @@ L4_INLINE L4_Word_t L4_SpaceControl(L4_ThreadId_t SpaceSpecifier, L4_Word_t cont
     return result;
 }
 
-#define L4_ATTRIBUTES_REASON "this kernel has no memory attributes"
-L4_ABSENT(L4_ATTRIBUTES_REASON)
-L4_Word_t L4_MemoryControl(L4_Word_t control, const L4_Word_t *attributes);
-L4_ABSENT(L4_ATTRIBUTES_REASON)
-L4_Word_t L4_Set_PageAttribute(L4_Fpage_t f, L4_Word_t attribute);
-L4_ABSENT(L4_ATTRIBUTES_REASON)
-L4_Word_t L4_Set_PagesAttributes(L4_Word_t n, L4_Fpage_t *fpages, const L4_Word_t *attributes);
+/* MEMORY ATTRIBUTES */
+
+#define L4_DefaultMemory 0u
+
+/* Sets the attributes of the fpages in the message registers from 0 to `control`. A program of the bed sees no cache, so every attribute is accepted,
+ * and has no effect. Only threads of root's space may call it. Returns 1, or 0 with an ErrorCode. */
+L4_INLINE L4_Word_t L4_MemoryControl(L4_Word_t control, const L4_Word_t *attributes) {
+    L4_Word_t result = control;
+    (void)attributes;
+    __asm__ __volatile__("call *%[entry]" : "+a"(result) : [entry] "r"(L4_KipEntry(L4_KIP_MEMORY_CONTROL)) : "memory", "cc");
+    return result;
+}
+
+/* n is from 1 to 64. */
+L4_INLINE L4_Word_t L4_Set_PagesAttributes(L4_Word_t n, L4_Fpage_t *fpages, const L4_Word_t *attributes) {
+    volatile L4_Word_t *registers = L4_Utcb();
+    L4_Word_t k;
+    for (k = 0; k < n; k++)
+        registers[k] = fpages[k].raw;
+    return L4_MemoryControl(n - 1, attributes);
+}
+
+L4_INLINE L4_Word_t L4_Set_PageAttribute(L4_Fpage_t f, L4_Word_t attribute) {
+    L4_Word_t attributes[4];
+    attributes[0] = attributes[1] = attributes[2] = attributes[3] = attribute;
+    return L4_Set_PagesAttributes(1, &f, attributes);
+}
 
 L4_END_C
 

@@ -70,31 +70,71 @@ L4_INLINE L4_Bool_t L4_IsGlobalId(L4_ThreadId_t t) {
     return (t.raw & 0x3f) != 0;
 }
 
-/* Reads what the kernel keeps of a thread of the caller's space: its handle and its pager. Returns its local id if `t` is global, and its global id
- * if `t` is local; or L4_nilthread with an ErrorCode. (The system call is ExchangeRegisters.) */
-L4_INLINE L4_ThreadId_t L4_ReadThread(L4_ThreadId_t t, L4_Word_t *handle, L4_Word_t *pager) {
-    L4_Word_t result = t.raw, control = 0x200, ignored_sp, ignored_ip, ignored_flags, entry = L4_KipEntry(L4_KIP_EXCHANGE_REGISTERS);
+/* What ExchangeRegisters does: bits of its control word. The last asks for the values as they were. */
+enum {
+    L4_EXREGS_HALT = 1 << 0,
+    L4_EXREGS_ABORT_RECEIVE = 1 << 1,
+    L4_EXREGS_ABORT_SEND = 1 << 2,
+    L4_EXREGS_ABORT_IPC = 3 << 1,
+    L4_EXREGS_SP = 1 << 3,
+    L4_EXREGS_IP = 1 << 4,
+    L4_EXREGS_FLAGS = 1 << 5,
+    L4_EXREGS_HANDLE = 1 << 6,
+    L4_EXREGS_PAGER = 1 << 7,
+    L4_EXREGS_SET_HALT = 1 << 8,
+    L4_EXREGS_DELIVER = 1 << 9
+};
+
+/* Reads and sets the registers of a thread of the caller's space, ends the Ipc in which it waits, halts it, and lets it continue. Returns its local
+ * id if `dest` is global, and its global id if `dest` is local; or L4_nilthread with an ErrorCode. */
+L4_INLINE L4_ThreadId_t L4_ExchangeRegisters(L4_ThreadId_t dest, L4_Word_t control, L4_Word_t sp, L4_Word_t ip, L4_Word_t flags,
+                                             L4_Word_t UserDefinedHandle, L4_ThreadId_t pager, L4_Word_t *old_control, L4_Word_t *old_sp,
+                                             L4_Word_t *old_ip, L4_Word_t *old_flags, L4_Word_t *old_UserDefinedHandle,
+                                             L4_ThreadId_t *old_pager) {
+    L4_Word_t result = dest.raw, others[3];
+    others[0] = UserDefinedHandle;
+    others[1] = pager.raw;
+    others[2] = L4_KipEntry(L4_KIP_EXCHANGE_REGISTERS);
     __asm__ __volatile__("pushl %%ebp\n\t"
-                         "call *%%ebx\n\t"
-                         "movl %%ebp, %%ecx\n\t"
+                         "pushl %%ebx\n\t"
+                         "pushl 8(%%ebx)\n\t"
+                         "movl 4(%%ebx), %%ebp\n\t"
+                         "movl (%%ebx), %%ebx\n\t"
+                         "call *(%%esp)\n\t"
+                         "addl $4, %%esp\n\t"
+                         "xchgl %%ebx, (%%esp)\n\t"
+                         "popl (%%ebx)\n\t"
+                         "movl %%ebp, 4(%%ebx)\n\t"
                          "popl %%ebp"
-                         : "+a"(result), "+c"(control), "=d"(ignored_sp), "=S"(ignored_ip), "=D"(ignored_flags), "+b"(entry)
-                         :
+                         : "+a"(result), "+c"(control), "+d"(sp), "+S"(ip), "+D"(flags)
+                         : "b"(others)
                          : "memory", "cc");
-    *handle = entry;
-    *pager = control;
+    *old_control = control;
+    *old_sp = sp;
+    *old_ip = ip;
+    *old_flags = flags;
+    *old_UserDefinedHandle = others[0];
+    old_pager->raw = others[1];
     return L4_ThreadIdOfWord(result);
+}
+
+/* Reads what the kernel keeps of a thread of the caller's space: its handle and its pager. Returns as L4_ExchangeRegisters does. */
+L4_INLINE L4_ThreadId_t L4_ReadThread(L4_ThreadId_t t, L4_Word_t *handle, L4_ThreadId_t *pager) {
+    L4_Word_t control, sp, ip, flags;
+    return L4_ExchangeRegisters(t, L4_EXREGS_DELIVER, 0, 0, 0, 0, L4_nilthread, &control, &sp, &ip, &flags, handle, pager);
 }
 
 /* A local id names a thread of the caller's space. */
 L4_INLINE L4_ThreadId_t L4_GlobalIdOf(L4_ThreadId_t t) {
-    L4_Word_t handle, pager;
+    L4_Word_t handle;
+    L4_ThreadId_t pager;
     return L4_IsLocalId(t) ? L4_ReadThread(t, &handle, &pager) : t;
 }
 
 /* Returns L4_nilthread for a thread of another space. */
 L4_INLINE L4_ThreadId_t L4_LocalIdOf(L4_ThreadId_t t) {
-    L4_Word_t handle, pager;
+    L4_Word_t handle;
+    L4_ThreadId_t pager;
     return L4_IsLocalId(t) ? t : L4_ReadThread(t, &handle, &pager);
 }
 
@@ -155,7 +195,7 @@ L4_INLINE void L4_Set_ThreadWord(L4_Word_t n, L4_Word_t word) {
     L4_Set_Tcr(L4_TCR_THREAD_WORD_0 + (int)n, word);
 }
 
-L4_ABSENT("in this kernel only L4_ThreadControl changes a pager")
+L4_ABSENT("in this kernel a thread cannot change its own pager: use L4_Set_PagerOf in root's space")
 void L4_Set_Pager(L4_ThreadId_t NewPager);
 L4_ABSENT("this kernel has no string items, so it has no transfer timeouts")
 L4_Word_t L4_XferTimeouts(void);
@@ -196,48 +236,116 @@ L4_INLINE L4_Word_t L4_ThreadControl(L4_ThreadId_t dest, L4_ThreadId_t SpaceSpec
     return result;
 }
 
-#define L4_EXCHANGE_REGISTERS_REASON "this kernel has no ExchangeRegisters: a thread starts with the message of its pager (its ip, its sp)"
-L4_ABSENT(L4_EXCHANGE_REGISTERS_REASON)
-L4_ThreadId_t L4_ExchangeRegisters(L4_ThreadId_t dest, L4_Word_t control, L4_Word_t sp, L4_Word_t ip, L4_Word_t flags, L4_Word_t UserDefinedHandle,
-                                   L4_ThreadId_t pager, L4_Word_t *old_control, L4_Word_t *old_sp, L4_Word_t *old_ip, L4_Word_t *old_flags,
-                                   L4_Word_t *old_UserDefinedHandle, L4_ThreadId_t *old_pager);
-/* The thread has to be of the caller's space. */
+/* EXCHANGE REGISTERS */
+
+/* What a thread did when it was stopped. */
+typedef union {
+    L4_Word_t raw;
+} L4_ThreadState_t;
+
+L4_INLINE L4_Bool_t L4_ThreadWasHalted(L4_ThreadState_t s) {
+    return (s.raw & L4_EXREGS_HALT) != 0;
+}
+
+L4_INLINE L4_Bool_t L4_ThreadWasReceiving(L4_ThreadState_t s) {
+    return (s.raw & L4_EXREGS_ABORT_RECEIVE) != 0;
+}
+
+L4_INLINE L4_Bool_t L4_ThreadWasSending(L4_ThreadState_t s) {
+    return (s.raw & L4_EXREGS_ABORT_SEND) != 0;
+}
+
+L4_INLINE L4_Bool_t L4_ThreadWasIpcing(L4_ThreadState_t s) {
+    return (s.raw & L4_EXREGS_ABORT_IPC) != 0;
+}
+
+/* L4_ExchangeRegisters with these values alone; the handle and the pager stay. Returns what the thread did. */
+L4_INLINE L4_ThreadState_t L4_ChangeThread(L4_ThreadId_t t, L4_Word_t control, L4_Word_t *sp, L4_Word_t *ip, L4_Word_t *flags) {
+    L4_ThreadState_t state;
+    L4_Word_t handle;
+    L4_ThreadId_t pager;
+    L4_ExchangeRegisters(t, control, *sp, *ip, *flags, 0, L4_nilthread, &state.raw, sp, ip, flags, &handle, &pager);
+    return state;
+}
+
+L4_INLINE L4_ThreadState_t L4_ChangeState(L4_ThreadId_t t, L4_Word_t control) {
+    L4_Word_t sp = 0, ip = 0, flags = 0;
+    return L4_ChangeThread(t, control | L4_EXREGS_SET_HALT, &sp, &ip, &flags);
+}
+
+/* The thread of these functions has to be of the caller's space. */
 L4_INLINE L4_Word_t L4_UserDefinedHandleOf(L4_ThreadId_t t) {
-    L4_Word_t handle, pager;
+    L4_Word_t handle;
+    L4_ThreadId_t pager;
     return L4_IsNilThread(L4_ReadThread(t, &handle, &pager)) ? 0 : handle;
 }
 
-L4_ABSENT(L4_EXCHANGE_REGISTERS_REASON)
-void L4_Set_UserDefinedHandleOf(L4_ThreadId_t t, L4_Word_t handle);
-L4_INLINE L4_ThreadId_t L4_PagerOf(L4_ThreadId_t t) {
-    L4_Word_t handle, pager;
-    return L4_IsNilThread(L4_ReadThread(t, &handle, &pager)) ? L4_nilthread : L4_ThreadIdOfWord(pager);
+L4_INLINE void L4_Set_UserDefinedHandleOf(L4_ThreadId_t t, L4_Word_t handle) {
+    L4_Word_t control, sp, ip, flags, old;
+    L4_ThreadId_t pager;
+    L4_ExchangeRegisters(t, L4_EXREGS_HANDLE, 0, 0, 0, handle, L4_nilthread, &control, &sp, &ip, &flags, &old, &pager);
 }
 
-L4_ABSENT("in this kernel only L4_ThreadControl changes a pager")
-void L4_Set_PagerOf(L4_ThreadId_t t, L4_ThreadId_t p);
-L4_ABSENT(L4_EXCHANGE_REGISTERS_REASON)
-void L4_Start(L4_ThreadId_t t);
-L4_ABSENT(L4_EXCHANGE_REGISTERS_REASON)
-void L4_Start_SpIp(L4_ThreadId_t t, L4_Word_t sp, L4_Word_t ip);
-L4_ABSENT(L4_EXCHANGE_REGISTERS_REASON)
-void L4_Start_SpIpFlags(L4_ThreadId_t t, L4_Word_t sp, L4_Word_t ip, L4_Word_t flags);
-L4_ABSENT(L4_EXCHANGE_REGISTERS_REASON)
-L4_ThreadId_t L4_Stop(L4_ThreadId_t t);
-L4_ABSENT(L4_EXCHANGE_REGISTERS_REASON)
-L4_ThreadId_t L4_Stop_SpIpFlags(L4_ThreadId_t t, L4_Word_t *sp, L4_Word_t *ip, L4_Word_t *flags);
-L4_ABSENT(L4_EXCHANGE_REGISTERS_REASON)
-L4_ThreadId_t L4_AbortReceive_and_stop(L4_ThreadId_t t);
-L4_ABSENT(L4_EXCHANGE_REGISTERS_REASON)
-L4_ThreadId_t L4_AbortReceive_and_stop_SpIpFlags(L4_ThreadId_t t, L4_Word_t *sp, L4_Word_t *ip, L4_Word_t *flags);
-L4_ABSENT(L4_EXCHANGE_REGISTERS_REASON)
-L4_ThreadId_t L4_AbortSend_and_stop(L4_ThreadId_t t);
-L4_ABSENT(L4_EXCHANGE_REGISTERS_REASON)
-L4_ThreadId_t L4_AbortSend_and_stop_SpIpFlags(L4_ThreadId_t t, L4_Word_t *sp, L4_Word_t *ip, L4_Word_t *flags);
-L4_ABSENT(L4_EXCHANGE_REGISTERS_REASON)
-L4_ThreadId_t L4_AbortIpc_and_stop(L4_ThreadId_t t);
-L4_ABSENT(L4_EXCHANGE_REGISTERS_REASON)
-L4_ThreadId_t L4_AbortIpc_and_stop_SpIpFlags(L4_ThreadId_t t, L4_Word_t *sp, L4_Word_t *ip, L4_Word_t *flags);
+L4_INLINE L4_ThreadId_t L4_PagerOf(L4_ThreadId_t t) {
+    L4_Word_t handle;
+    L4_ThreadId_t pager;
+    return L4_IsNilThread(L4_ReadThread(t, &handle, &pager)) ? L4_nilthread : pager;
+}
+
+/* Only threads of root's space can change a pager. */
+L4_INLINE void L4_Set_PagerOf(L4_ThreadId_t t, L4_ThreadId_t p) {
+    L4_Word_t control, sp, ip, flags, handle;
+    L4_ThreadId_t old;
+    L4_ExchangeRegisters(t, L4_EXREGS_PAGER, 0, 0, 0, 0, p, &control, &sp, &ip, &flags, &handle, &old);
+}
+
+/* Ends the Ipc in which the thread waits, and lets it run. */
+L4_INLINE void L4_Start(L4_ThreadId_t t) {
+    L4_ChangeState(t, L4_EXREGS_ABORT_IPC);
+}
+
+L4_INLINE void L4_Start_SpIp(L4_ThreadId_t t, L4_Word_t sp, L4_Word_t ip) {
+    L4_Word_t flags = 0;
+    L4_ChangeThread(t, L4_EXREGS_SET_HALT | L4_EXREGS_ABORT_IPC | L4_EXREGS_SP | L4_EXREGS_IP, &sp, &ip, &flags);
+}
+
+L4_INLINE void L4_Start_SpIpFlags(L4_ThreadId_t t, L4_Word_t sp, L4_Word_t ip, L4_Word_t flags) {
+    L4_ChangeThread(t, L4_EXREGS_SET_HALT | L4_EXREGS_ABORT_IPC | L4_EXREGS_SP | L4_EXREGS_IP | L4_EXREGS_FLAGS, &sp, &ip, &flags);
+}
+
+/* The thread does not run until it is started. An Ipc in which it waits goes on. */
+L4_INLINE L4_ThreadState_t L4_Stop(L4_ThreadId_t t) {
+    return L4_ChangeState(t, L4_EXREGS_HALT);
+}
+
+L4_INLINE L4_ThreadState_t L4_Stop_SpIpFlags(L4_ThreadId_t t, L4_Word_t *sp, L4_Word_t *ip, L4_Word_t *flags) {
+    return L4_ChangeThread(t, L4_EXREGS_DELIVER | L4_EXREGS_SET_HALT | L4_EXREGS_HALT, sp, ip, flags);
+}
+
+L4_INLINE L4_ThreadState_t L4_AbortReceive_and_stop(L4_ThreadId_t t) {
+    return L4_ChangeState(t, L4_EXREGS_HALT | L4_EXREGS_ABORT_RECEIVE);
+}
+
+L4_INLINE L4_ThreadState_t L4_AbortReceive_and_stop_SpIpFlags(L4_ThreadId_t t, L4_Word_t *sp, L4_Word_t *ip, L4_Word_t *flags) {
+    return L4_ChangeThread(t, L4_EXREGS_DELIVER | L4_EXREGS_SET_HALT | L4_EXREGS_HALT | L4_EXREGS_ABORT_RECEIVE, sp, ip, flags);
+}
+
+L4_INLINE L4_ThreadState_t L4_AbortSend_and_stop(L4_ThreadId_t t) {
+    return L4_ChangeState(t, L4_EXREGS_HALT | L4_EXREGS_ABORT_SEND);
+}
+
+L4_INLINE L4_ThreadState_t L4_AbortSend_and_stop_SpIpFlags(L4_ThreadId_t t, L4_Word_t *sp, L4_Word_t *ip, L4_Word_t *flags) {
+    return L4_ChangeThread(t, L4_EXREGS_DELIVER | L4_EXREGS_SET_HALT | L4_EXREGS_HALT | L4_EXREGS_ABORT_SEND, sp, ip, flags);
+}
+
+L4_INLINE L4_ThreadState_t L4_AbortIpc_and_stop(L4_ThreadId_t t) {
+    return L4_ChangeState(t, L4_EXREGS_HALT | L4_EXREGS_ABORT_IPC);
+}
+
+L4_INLINE L4_ThreadState_t L4_AbortIpc_and_stop_SpIpFlags(L4_ThreadId_t t, L4_Word_t *sp, L4_Word_t *ip, L4_Word_t *flags) {
+    return L4_ChangeThread(t, L4_EXREGS_DELIVER | L4_EXREGS_SET_HALT | L4_EXREGS_HALT | L4_EXREGS_ABORT_IPC, sp, ip, flags);
+}
+
 L4_ABSENT("this kernel has no interrupts")
 L4_Word_t L4_AssociateInterrupt(L4_ThreadId_t InterruptThread, L4_ThreadId_t HandlerThread);
 L4_ABSENT("this kernel has no interrupts")
