@@ -1,4 +1,5 @@
-/* A root task that changes the version of a thread's id twice: after a message has arrived for it, and while it waits to send. */
+/* A root task that changes the version of a thread's id twice: after a message has arrived for it, and while it waits to send. Then the thread
+ * creates another one, which a script cannot say. */
 #include "children.h"
 
 #define TAKER L4_GlobalId(10, 1)
@@ -15,6 +16,7 @@ static void take(void) {
     L4_Send(L4_GlobalId(2, 1));
     print_number("taker: a send is canceled: ErrorCode ", L4_ErrorCode(), "");
     print_number(", has version ", L4_Version(L4_Myself()), "\n");
+    demand(L4_ThreadControl(L4_GlobalId(11, 1), L4_Myself(), L4_Myself(), L4_nilthread, (void *)0xffffffffu), "the taker cannot create a thread");
     L4_KDB_Enter("done");
 }
 

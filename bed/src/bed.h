@@ -14,6 +14,7 @@
 #define FIRST_VERSION 1u
 #define ID(number) ((uint32_t)(number) << 14 | FIRST_VERSION)
 #define NUMBER(id) ((uint32_t)(id) >> 14)
+#define LAST_NUMBER UINT32_C(262143)
 
 /* The UTCBs of a space lie in its UTCB area. Each has this many bytes: half of them below the UTCB's address, and half from there on. */
 #define UTCB_LOG 9

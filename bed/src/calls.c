@@ -5,7 +5,6 @@
 
 #define STUB_TRAP_BYTES 2
 #define NO_CHANGE UINT32_C(0xffffffff)
-#define LAST_NUMBER UINT32_C(262143)
 
 /* These bits are 0 in local ids, and not all 0 in global ones. */
 #define LOCAL_BITS UINT32_C(0x3f)
