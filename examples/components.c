@@ -23,7 +23,8 @@ enum { HEAP = 16, LENT = 32, SHARED = 33 }; /* pages of a worker: four that the 
 static l4_kernel kernel = L4_EMPTY;
 static pthread_mutex_t mutex = PTHREAD_MUTEX_INITIALIZER;
 static pthread_cond_t ended[SECOND + 1];
-static int is_lost; /* whether the threads of the program must end, although their calls wait */
+static int is_lost;     /* whether the threads of the program must end, although their calls wait */
+static int is_restored; /* whether the kernel comes from a checkpoint, in which the servers wait for messages */
 static uint8_t memory[FRAMES][L4_PAGE_BYTES];
 static uint32_t first_round, last_round, faults, loans;
 
@@ -92,7 +93,7 @@ static void unmap(uint32_t thread, uint32_t fpage, int own) {
 }
 
 /* Returns the first byte of a page of a component, or NULL if it may not access it in this way even after its page fault. */
-static uint8_t *access(uint32_t thread, uint32_t page, uint32_t rights) {
+static uint8_t *touch(uint32_t thread, uint32_t page, uint32_t rights) {
     l4_mapping mapping = {0};
     int tries;
     for (tries = 0; tries < 2; tries++) {
@@ -118,18 +119,9 @@ static size_t message_of(const l4_reply *reply, uint32_t *words) {
     return reply->word_count + 1;
 }
 
-/* The message for which a server waits. If its kernel comes from a checkpoint, the server waits there already. */
+/* Returns the first message that a server receives. In a kernel from a checkpoint, the call that receives it waits already, or has ended. */
 static l4_reply first_message(uint32_t thread) {
-    l4_call call = {0};
-    uint32_t state;
-    pthread_mutex_lock(&mutex);
-    state = l4_state_of(&kernel, thread).state;
-    pthread_mutex_unlock(&mutex);
-    if (state == L4_STATE_RECEIVING)
-        return wait_for_reply(thread);
-    call.kind = L4_IPC;
-    call.from = L4_ANYTHREAD;
-    return make(thread, &call, NULL, 0);
+    return is_restored ? wait_for_reply(thread) : ipc(thread, L4_NILTHREAD, L4_ANYTHREAD, 0, NULL, 0);
 }
 
 /* Returns whether a server has to end. */
@@ -184,19 +176,19 @@ static void share(uint32_t worker, uint32_t other, int shows, uint32_t round) {
         return;
     }
     ipc(worker, L4_NILTHREAD, l4_id(other, 1), l4_fpage_of_page(SHARED, 0), NULL, 0);
-    byte = access(worker, SHARED, L4_READ);
+    byte = touch(worker, SHARED, L4_READ);
     expect(byte != NULL && *byte == round, "what the other worker wrote");
-    expect(access(worker, SHARED, L4_WRITE) == NULL, "a page that may only be read");
+    expect(touch(worker, SHARED, L4_WRITE) == NULL, "a page that may only be read");
     ipc(worker, l4_id(other, 1), L4_NILTHREAD, 0, &(uint32_t){0}, 1);
 }
 
 static void work(uint32_t worker, uint32_t other, uint32_t round) {
     uint32_t heap = HEAP + (worker - FIRST) * 4 + round % 4, tag = l4_tag(MEET, 0, 0);
-    uint8_t *byte = access(worker, heap, L4_WRITE);
+    uint8_t *byte = touch(worker, heap, L4_WRITE);
     expect(byte != NULL, "a page from the pager");
     *byte = (uint8_t)round;
     ask(worker, SERVER, LEND, l4_fpage_of_page(LENT, 0));
-    byte = access(worker, LENT, L4_READ | L4_WRITE);
+    byte = touch(worker, LENT, L4_READ | L4_WRITE);
     expect(byte != NULL, "a page from the memory server");
     *byte = (uint8_t)round;
     share(worker, other, worker == FIRST, round);
@@ -208,7 +200,7 @@ static void work(uint32_t worker, uint32_t other, uint32_t round) {
         ipc(worker, L4_NILTHREAD, l4_id(other, 1), 0, NULL, 0);
         ipc(worker, l4_id(other, 1), L4_NILTHREAD, 0, &tag, 1);
     }
-    expect(access(worker, LENT, L4_READ) == NULL && access(worker, SHARED, L4_READ) == NULL, "no page that was taken back");
+    expect(touch(worker, LENT, L4_READ) == NULL && touch(worker, SHARED, L4_READ) == NULL, "no page that was taken back");
     unmap(worker, l4_fpage_of_page(heap, L4_READ | L4_WRITE | L4_EXECUTE), 1);
 }
 
@@ -275,6 +267,7 @@ static void restart(pthread_t servers[2]) {
     expect(l4_checkpoint_read(&kernel, bytes, length).refusal == L4_OK, "the kernel of the checkpoint");
     memcpy(memory, frames, sizeof memory);
     is_lost = 0;
+    is_restored = 1;
 }
 
 int main(void) {
