@@ -99,6 +99,8 @@ struct bed {
     unsigned char is_own_frame_used[L4_MAX_THREADS];
     struct space spaces[L4_MAX_THREADS];
     struct thread threads[L4_MAX_THREADS];
+    uint32_t slots;                  /* of the threads, so many from the first one on have been used */
+    uint32_t threads_of[PRIORITIES]; /* how many threads have each priority */
     uint32_t next_turns[PRIORITIES]; /* from where on the next thread of each priority is searched */
     struct thread *named_next;       /* the thread that ThreadSwitch has named, or NULL */
     struct changes changes;
@@ -275,6 +277,7 @@ void exchange_take(struct bed *bed, struct thread *thread);
 /* turns.c */
 /* Gives turns to threads until none can run, or the run ends. */
 void turns_run(struct bed *bed);
+void turns_set_priority(struct bed *bed, struct thread *thread, uint32_t priority);
 /* Executes the system call Schedule. */
 void turns_schedule(struct bed *bed, struct thread *thread);
 

@@ -52,6 +52,9 @@ struct thread *thread_new(struct bed *bed, uint32_t id, struct space *space) {
     bed->threads[k].number = NUMBER(id);
     bed->threads[k].space = space;
     bed->threads[k].priority = PRIORITIES - 1;
+    bed->threads_of[PRIORITIES - 1]++;
+    if (bed->slots <= k)
+        bed->slots = (uint32_t)k + 1;
     trace_thread_exists(bed, NUMBER(id));
     return &bed->threads[k];
 }
@@ -72,6 +75,7 @@ void thread_free(struct bed *bed, struct thread *thread) {
     text_end_begun(thread);
     if (thread->space->engine_space != NULL)
         bed->kind->forget(bed->engine, thread->space->engine_space, &thread->registers);
+    bed->threads_of[thread->priority]--;
     memset(thread, 0, sizeof *thread);
     if (space != NULL)
         space_free(bed, space);

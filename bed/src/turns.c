@@ -9,10 +9,9 @@ enum { DEAD = 1, IS_INACTIVE = 2, RUNNING = 3, PENDING_SEND = 4, WAITING_TO_RECE
 
 /* Gives a turn to the next thread of this priority that can run. Returns 0 if none can. */
 static int run_one(struct bed *bed, uint32_t priority) {
-    uint32_t k;
-    for (k = 0; k < L4_MAX_THREADS && bed->end == NOT_ENDED; k++) {
-        uint32_t place = (bed->next_turns[priority] + k) % L4_MAX_THREADS;
-        struct thread *thread = &bed->threads[place];
+    uint32_t k, place = bed->next_turns[priority];
+    for (k = 0; k < bed->slots && bed->end == NOT_ENDED; k++, place++) {
+        struct thread *thread = &bed->threads[place < bed->slots ? place : (place = 0)];
         if (thread->state == ABSENT || thread->priority != priority || !thread_turn(bed, thread))
             continue;
         bed->next_turns[priority] = place + 1;
@@ -23,13 +22,9 @@ static int run_one(struct bed *bed, uint32_t priority) {
 
 /* Returns the highest priority of a thread below this limit, plus 1; or 0 if there is none. */
 static uint32_t priority_below(const struct bed *bed, uint32_t limit) {
-    uint32_t k, found = 0;
-    for (k = 0; k < L4_MAX_THREADS; k++) {
-        const struct thread *thread = &bed->threads[k];
-        if (thread->state != ABSENT && thread->priority < limit && thread->priority >= found)
-            found = thread->priority + 1;
-    }
-    return found;
+    while (limit > 0 && bed->threads_of[limit - 1] == 0)
+        limit--;
+    return limit;
 }
 
 /* Gives a turn to the thread that ThreadSwitch has named. Returns 0 if there is none, or if it cannot run. */
@@ -52,6 +47,12 @@ void turns_run(struct bed *bed) {
     }
 }
 
+void turns_set_priority(struct bed *bed, struct thread *thread, uint32_t priority) {
+    bed->threads_of[thread->priority]--;
+    thread->priority = priority;
+    bed->threads_of[priority]++;
+}
+
 static uint32_t state_of(struct bed *bed, const struct thread *thread) {
     uint32_t wait = thread_wait(bed, thread);
     switch (thread->state) {
@@ -62,7 +63,7 @@ static uint32_t state_of(struct bed *bed, const struct thread *thread) {
 }
 
 /* Returns the ErrorCode. Threads of root's space may change each thread, and others those of their space. */
-static uint32_t set_priority(const struct thread *caller, struct thread *dest, uint32_t priority) {
+static uint32_t set_priority(struct bed *bed, const struct thread *caller, struct thread *dest, uint32_t priority) {
     if (dest == NULL)
         return INVALID_THREAD;
     if (caller->space->number != ROOT_SPACE && caller->space != dest->space)
@@ -70,7 +71,7 @@ static uint32_t set_priority(const struct thread *caller, struct thread *dest, u
     if (priority != NO_CHANGE && priority > caller->priority)
         return INVALID_PARAMETER;
     if (priority != NO_CHANGE)
-        dest->priority = priority;
+        turns_set_priority(bed, dest, priority);
     return 0;
 }
 
@@ -82,7 +83,7 @@ void turns_schedule(struct bed *bed, struct thread *thread) {
         print("%u calls Schedule: thread %u, priority %d\n", thread->number, dest->number, (int)registers->ecx);
     print_line(bed, "%u calls schedule %08x priority %08x", thread->number, registers->eax, registers->ecx);
     if ((registers->edx & registers->esi & registers->edi) == NO_CHANGE)
-        error = set_priority(thread, dest, registers->ecx);
+        error = set_priority(bed, thread, dest, registers->ecx);
     thread->utcb_words[TCR_ERROR_CODE] = error;
     registers->eax = error == 0 ? state_of(bed, dest) : 0;
     registers->edx = 0;
