@@ -24,6 +24,9 @@ L4_INLINE L4_ThreadId_t L4_ThreadIdOfWord(L4_Word_t raw) {
 
 #define L4_nilthread L4_ThreadIdOfWord(0)
 #define L4_anythread L4_ThreadIdOfWord(0xffffffffu)
+L4_ABSENT("this kernel has no id for any thread of a space: receive from one thread, or from L4_anythread")
+L4_ThreadId_t L4_anylocalthread_absent(void);
+#define L4_anylocalthread L4_anylocalthread_absent()
 
 /* What L4_ErrorCode returns after a failed ThreadControl or SpaceControl. */
 #define L4_ErrOk 0u
