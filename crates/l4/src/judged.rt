@@ -2,11 +2,11 @@
 ghost use Rattle.std.specs.Prelude.{◌≡◌};
 ghost use Rattle.l4.specs.Statuses.{requests_status, judged_status};
 
-use crate::{DIFFERS, opened};
+use crate::DIFFERS;
 use l4_answers::AnswerLines;
 use l4_judging::{JudgeFault, Wanted, judge, read_requests};
 use l4_options::JudgeOptions;
-use l4_programs::{NOT_UNDERSTOOD, WatchedReader, WatchedWriter, cause, stopped};
+use l4_programs::{NOT_UNDERSTOOD, Source, WatchedReader, WatchedWriter, cause, opened, stopped};
 use l4_step_lines::Fault;
 use std::io;
 use std::io::{Read, Write};
@@ -22,7 +22,7 @@ fn unread<R: Read>(rt: &impl Eprint, fault: Fault, file: &str, reader: &WatchedR
     if let Fault::Stopped(fault) = fault {
         return stopped(rt, fault, Some(file), reader.error());
     }
-    let _ = eprintln!(rt; "{fault}, in '{file}'");
+    let _ = eprintln!(rt; "{fault}, in {}", Source(Some(file)));
     NOT_UNDERSTOOD
 }
 

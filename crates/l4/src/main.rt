@@ -16,7 +16,7 @@ mod tap;
 mod tested;
 mod whys;
 
-ghost use Rattle.std.specs.Prelude.{◌≡◌, IfErr};
+ghost use Rattle.std.specs.Prelude.{◌≡◌};
 ghost use Rattle.l4.specs.Statuses.{script_status, page_status, why_status, plan_status, check_status, text_status};
 ghost use Rattle.l4_options.specs.Ranges.{IsFrameCount, IsInRange};
 
@@ -33,22 +33,22 @@ use l4_options::{Options, OrdersOptions, ScriptOptions, misread, options};
 use l4_plan::plan;
 use l4_plan_lines::{Answer, answer_lines, plan_lines};
 use l4_programs::{
-    NOT_UNDERSTOOD, WatchedReader, WatchedWriter, cause, command_words, not_opened, show,
-    status_of, stopped, warn_of_cut_line,
+    WatchedReader, WatchedWriter, cause, command_words, opened, show, status_of, stopped,
+    warn_of_cut_line,
 };
 use l4_reasons::Reason;
 use l4_record::NoSegments;
 use l4_sinks::{Ended, Outputs, Style, answer_script};
 use l4_symbols::write_words;
-use l4_text::{RunFault, ScriptReader};
+use l4_text::RunFault;
 use recorded::run_to;
 use reports::{report_no_plan, report_no_thread, report_refused, report_unproved};
 use segments::tell_segments;
+use std::io;
 use std::io::{IsTerminal, Read, Write};
 use std::process::ExitCode;
 use std::rt::Files;
 use std::time::Clock;
-use std::{fs, io};
 use tested::test;
 use whys::why_in;
 
@@ -59,22 +59,6 @@ const REFUSED: u8 = 1;
 
 /// The exit status if another kernel's answers differ.
 const DIFFERS: u8 = 1;
-
-/// Opens the file, or standard input if no file is named. If the file cannot be opened, reports this and returns the exit status.
-pub(crate) fn opened<R: Files + Input + Eprint>(
-    rt: &R,
-    file: Option<&str>,
-) -> Result<WatchedReader<ScriptReader<R::Reader, R::File>>, u8>
-    ensures { IfErr result (λ status. status ≡ 2) }
-{
-    let Some(name) = file else {
-        return Ok(WatchedReader::new(ScriptReader::Standard(rt.reader())));
-    };
-    match fs::open(rt, name) {
-        Ok(file) => Ok(WatchedReader::new(ScriptReader::File(file))),
-        Err(error) => Err(not_opened(rt, name, error)),
-    }
-}
 
 /// Reports why a refused line ended a strict script. Returns the exit status.
 fn refused(rt: &impl Eprint, reason: &Reason) -> u8
@@ -165,6 +149,7 @@ fn planned<W: Write>(
 fn checked<R: Read, W: Write>(
     rt: &impl Eprint,
     told: Result<Answer, RunFault>,
+    file: Option<&str>,
     reader: &WatchedReader<R>,
     writer: &WatchedWriter<W>,
 ) -> u8
@@ -178,7 +163,7 @@ fn checked<R: Read, W: Write>(
             report_unproved(rt, &answer, reader.is_empty());
             NOT_FOUND
         }
-        Err(fault) => stopped(rt, fault, None, cause(fault, reader, writer)),
+        Err(fault) => stopped(rt, fault, file, cause(fault, reader, writer)),
     }
 }
 
@@ -341,13 +326,21 @@ fn write_plan<R: Print + Eprint>(rt: &R, region: &Region, size: PageSize) -> u8 
     planned(rt, told, region, size, &writer)
 }
 
-/// Checks the plan on standard input.
+/// Checks a plan.
 #[inline(never)]
-fn check<R: Files + Input + Print + Eprint>(rt: &R, region: &Region, size: PageSize) -> u8 {
-    let mut reader = WatchedReader::new(ScriptReader::<R::Reader, R::File>::Standard(rt.reader()));
+fn check<R: Files + Input + Print + Eprint>(
+    rt: &R,
+    region: &Region,
+    size: PageSize,
+    file: Option<&str>,
+) -> u8 {
+    let mut reader = match opened(rt, file) {
+        Ok(reader) => reader,
+        Err(status) => return status,
+    };
     let mut writer = WatchedWriter::new(io::writer(rt));
     let told = answer_lines(region, size, &mut reader, &mut writer);
-    checked(rt, told, &reader, &writer)
+    checked(rt, told, file, &reader, &writer)
 }
 
 /// Searches all orders of a litmus test. `terminal` says whether standard error is a terminal.
@@ -416,7 +409,7 @@ fn execute<R: AllocGlobal + Files + Input + Print + Eprint + Clock>(
             page,
         } => why_in(rt, files.as_slice(), thread, page),
         Options::Plan { region, size } => write_plan(rt, &region, size),
-        Options::Check { region, size } => check(rt, &region, size),
+        Options::Check { region, size, file } => check(rt, &region, size, file.as_deref()),
         Options::Decode {
             words,
             reading,

@@ -1,9 +1,9 @@
 //! `l4 run --history-to`: scripts whose history is written while they run.
 ghost use Rattle.l4_options.specs.Ranges.{IsFrameCount};
 
-use crate::{opened, script_ended};
+use crate::script_ended;
 use l4_options::ScriptOptions;
-use l4_programs::{WatchedWriter, not_created, stopped};
+use l4_programs::{WatchedWriter, not_created, opened, stopped};
 use l4_segments::{KeepFault, SegmentWriter};
 use l4_sinks::{Outputs, Style, answer_script};
 use l4_text::RunFault;

@@ -2,6 +2,7 @@
 use l4_plan::PlanRefusal;
 use l4_plan_check::Fault;
 use l4_plan_lines::{Answer, LineFault, WrongLine};
+use l4_programs::Source;
 use l4_reasons::Reason;
 use l4_refusals::{number_of, text_of};
 use l4_saved::HistoryFault;
@@ -93,21 +94,22 @@ fn file_words(kind: FaultKind) -> &'static str {
 pub(crate) fn report_file(rt: &impl Eprint, name: &str, fault: FileFault) {
     let position = fault.position;
     let words = file_words(fault.kind);
-    let _ = eprintln!(rt; "error: '{name}': byte {position}: {words}");
+    let _ = eprintln!(rt; "error: {}: byte {position}: {words}", Source(Some(name)));
 }
 
 /// Reports why the segment at this place of a file does not fit those before it.
 pub(crate) fn report_misfit(rt: &impl Eprint, name: &str, place: usize, misfit: Misfit) {
     let expected = misfit.expected;
+    let name = Source(Some(name));
     let _ = match misfit.kind {
         MisfitKind::Frames => eprintln!(rt;
-            "error: '{name}': segment {place}: J1: the number of frames is not that of the segments before it"
+            "error: {name}: segment {place}: J1: the number of frames is not that of the segments before it"
         ),
         MisfitKind::Pages => eprintln!(rt;
-            "error: '{name}': segment {place}: J2: the page size is not that of the segments before it"
+            "error: {name}: segment {place}: J2: the page size is not that of the segments before it"
         ),
         MisfitKind::Number => eprintln!(rt;
-            "error: '{name}': segment {place}: J3: the segment does not begin with the next entry, number {expected}"
+            "error: {name}: segment {place}: J3: the segment does not begin with the next entry, number {expected}"
         ),
     };
 }

@@ -5,13 +5,13 @@ ghost use Rattle.l4.specs.Files.{segments_before, file_at};
 ghost use Rattle.l4.specs.Statuses.{history_status};
 
 use crate::reports::{report_file, report_history, report_misfit};
-use l4_programs::{NOT_UNDERSTOOD, WatchedWriter, not_opened, stopped};
+use l4_programs::{NOT_UNDERSTOOD, WatchedWriter, opened, stopped};
 use l4_saved::{HistoryFault, segments_history};
 use l4_segments::{FaultKind, Joined, Misfit, SavedSegment, join, read_segments};
 use l4_text::RunFault;
+use std::io;
 use std::io::{ErrorKind, Read};
 use std::rt::Files;
-use std::{fs, io};
 
 /// The segments in files, in order. For each file, `ends` has the number of segments in it and in the files before it.
 #[derive(Drop)]
@@ -21,13 +21,13 @@ pub(crate) struct Found {
 }
 
 /// Reads all bytes of a file. Reports why they cannot be had, and returns the exit status.
-fn bytes_of<R: AllocGlobal + Files + Eprint>(rt: &R, name: &str) -> Result<Vec<u8>, u8> {
-    let mut file = match fs::open(rt, name) {
-        Ok(file) => file,
-        Err(error) => return Err(not_opened(rt, name, error)),
+fn bytes_of<R: AllocGlobal + Files + Input + Eprint>(rt: &R, name: &str) -> Result<Vec<u8>, u8> {
+    let mut reader = match opened(rt, Some(name)) {
+        Ok(reader) => reader,
+        Err(status) => return Err(status),
     };
     let mut bytes = Vec::new(rt.alloc());
-    match file.read_to_end(&mut bytes) {
+    match reader.read_to_end(&mut bytes) {
         Ok(_) => Ok(bytes),
         Err(error) => match error.kind() {
             ErrorKind::OutOfMemory => Err(stopped(rt, RunFault::Memory, None, None)),
@@ -37,7 +37,7 @@ fn bytes_of<R: AllocGlobal + Files + Eprint>(rt: &R, name: &str) -> Result<Vec<u
 }
 
 /// Reads the segments in a file. Reports why they cannot be read, and returns the exit status.
-fn segments_of<R: AllocGlobal + Files + Eprint>(
+fn segments_of<R: AllocGlobal + Files + Input + Eprint>(
     rt: &R,
     name: &str,
 ) -> Result<Vec<SavedSegment>, u8> {
@@ -58,7 +58,7 @@ fn segments_of<R: AllocGlobal + Files + Eprint>(
 }
 
 /// Reads the segments in these files. Reports why one cannot be read, and returns the exit status.
-pub(crate) fn found_in<R: AllocGlobal + Files + Eprint>(
+pub(crate) fn found_in<R: AllocGlobal + Files + Input + Eprint>(
     rt: &R,
     files: &[String],
 ) -> Result<Found, u8> {
@@ -166,7 +166,7 @@ fn told(rt: &impl Eprint, told: Result<(), HistoryFault>, cause: Option<io::Erro
 
 /// Writes the history in these files as a step list.
 #[inline(never)]
-pub(crate) fn tell_segments<R: AllocGlobal + Files + Print + Eprint>(
+pub(crate) fn tell_segments<R: AllocGlobal + Files + Input + Print + Eprint>(
     rt: &R,
     files: &[String],
     answers: bool,

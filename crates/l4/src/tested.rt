@@ -13,7 +13,7 @@ use l4_expectations::{
 };
 use l4_litmus::{WRONG_OPTIONS, options_line, options_of};
 use l4_options::ScriptOptions;
-use l4_programs::{NOT_UNDERSTOOD, WatchedReader, not_created, not_opened, stopped};
+use l4_programs::{NOT_UNDERSTOOD, STANDARD_INPUT, WatchedReader, not_created, opened, stopped};
 use l4_text::RunFault;
 use std::alloc::Global;
 use std::fmt::{Display, Formatter};
@@ -304,15 +304,14 @@ fn test_reader<Q: Read, R: AllocGlobal + Print + Eprint>(
 }
 
 /// Tests the script or the litmus test in a file, and prints the result. Returns the exit status.
-fn test_file<R: AllocGlobal + Files + Print + Eprint>(
+fn test_file<R: AllocGlobal + Files + Input + Print + Eprint>(
     rt: &R,
     place: &Place<'_>,
     lenient: bool,
 ) -> u8 {
-    match fs::open(rt, place.file) {
-        Ok(file) => test_reader(rt, place, lenient, &mut WatchedReader::new(file)),
-        Err(error) => {
-            let status = not_opened(rt, place.file, error);
+    match opened(rt, Some(place.file)) {
+        Ok(mut reader) => test_reader(rt, place, lenient, &mut reader),
+        Err(status) => {
             let written = print_untested(rt, place);
             printed(rt, written, status)
         }
@@ -321,7 +320,7 @@ fn test_file<R: AllocGlobal + Files + Print + Eprint>(
 
 /// Tests these files. Returns the greatest of their exit statuses.
 #[inline(never)]
-fn test_files<R: AllocGlobal + Files + Print + Eprint>(
+fn test_files<R: AllocGlobal + Files + Input + Print + Eprint>(
     rt: &R,
     files: &[String],
     tap: bool,
@@ -415,17 +414,21 @@ fn copy_reader<Q: Read, R: AllocGlobal + Files + Print + Eprint>(
     }
 }
 
-/// Writes a copy of the script in a file. Returns the exit status.
-fn copy_file<R: AllocGlobal + Files + Print + Eprint>(rt: &R, place: &Place<'_>) -> u8 {
-    match fs::open(rt, place.file) {
-        Ok(file) => copy_reader(rt, place, &mut WatchedReader::new(file)),
-        Err(error) => not_opened(rt, place.file, error),
+/// Writes a copy of the script in a file, but not of one on standard input, since that has no name. Returns the exit status.
+fn copy_file<R: AllocGlobal + Files + Input + Print + Eprint>(rt: &R, place: &Place<'_>) -> u8 {
+    if place.file == STANDARD_INPUT {
+        let _ = rt.eprintln("error: the argument '--write' cannot be used with '-'");
+        return NOT_UNDERSTOOD;
+    }
+    match opened(rt, Some(place.file)) {
+        Ok(mut reader) => copy_reader(rt, place, &mut reader),
+        Err(status) => status,
     }
 }
 
 /// Writes a copy of each script in these files, with the actual answers. Returns the greatest of the exit statuses.
 #[inline(never)]
-fn copy_files<R: AllocGlobal + Files + Print + Eprint>(rt: &R, files: &[String]) -> u8 {
+fn copy_files<R: AllocGlobal + Files + Input + Print + Eprint>(rt: &R, files: &[String]) -> u8 {
     let mut greatest = 0;
     for index in 0..files.len() {
         let place = Place {
@@ -439,7 +442,7 @@ fn copy_files<R: AllocGlobal + Files + Print + Eprint>(rt: &R, files: &[String])
 }
 
 /// Tests these files, or writes a copy of each script with the actual answers. Returns the greatest of the exit statuses.
-pub(crate) fn test<R: AllocGlobal + Files + Print + Eprint>(
+pub(crate) fn test<R: AllocGlobal + Files + Input + Print + Eprint>(
     rt: &R,
     files: &[String],
     tap: bool,

@@ -26,7 +26,7 @@ fn saved_why_ended(
 
 /// Prints how a page got to its place in the history in these files.
 #[inline(never)]
-pub(crate) fn why_in<R: AllocGlobal + Files + Print + Eprint>(
+pub(crate) fn why_in<R: AllocGlobal + Files + Input + Print + Eprint>(
     rt: &R,
     files: &[String],
     thread: u32,

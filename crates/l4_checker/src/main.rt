@@ -1,4 +1,4 @@
-//! Reads a script on standard input, with the options of `l4_steps`. Passes what `provenance` finds to `check_provenance`, for each page
+//! Reads a script, with the options of `l4_steps`. Passes what `provenance` finds to `check_provenance`, for each page
 //! that a space other than sigma0's has at the end, and for the page after each: tests/random/pages gives it random scripts.
 //!
 //! Exit statuses: 0 if everything is right, 1 if something is not; otherwise those of `l4 run`.
@@ -10,7 +10,7 @@ ghost use Rattle.l4_fpage.specs.Pages.{max_frames};
 use l4_fpage::PageSize;
 use l4_ipc::{Kernel, MOST_PAGES, Place};
 use l4_options::{StepOptions, misread, step_options};
-use l4_programs::{command_words, show, status_of, stopped};
+use l4_programs::{command_words, opened, show, status_of, stopped};
 use l4_provenance::{provenance, replay};
 use l4_provenance_check::check_provenance;
 use l4_record::History;
@@ -18,6 +18,7 @@ use l4_sinks::record_script;
 use l4_text::RunFault;
 use std::alloc::Global;
 use std::process::ExitCode;
+use std::rt::Files;
 
 /// The exit status if a result of the finder is not confirmed.
 const WRONG: u8 = 1;
@@ -96,12 +97,21 @@ fn check_all(alloc: Global, ended: &Ended<'_>) -> Counts {
     counts
 }
 
-/// Judges the script on standard input.
-fn check_script<R: AllocGlobal + Input + Print + Eprint>(rt: &R, frames: u32, size: PageSize) -> u8
+/// Judges a script.
+fn check_script<R: AllocGlobal + Files + Input + Print + Eprint>(
+    rt: &R,
+    frames: u32,
+    size: PageSize,
+    file: Option<&str>,
+) -> u8
     requires some { 1 ≤ frames }
     requires fit { frames ≤ max_frames }
 {
-    let Some((history, _)) = record_script(rt.alloc(), frames, size, false, &mut rt.reader()) else {
+    let mut reader = match opened(rt, file) {
+        Ok(reader) => reader,
+        Err(status) => return status,
+    };
+    let Some((history, _)) = record_script(rt.alloc(), frames, size, false, &mut reader) else {
         return stopped(rt, RunFault::Memory, None, None);
     };
     let Ok(mut kernel) = Kernel::boot(rt.alloc(), frames, size) else {
@@ -128,9 +138,11 @@ fn check_script<R: AllocGlobal + Input + Print + Eprint>(rt: &R, frames: u32, si
 }
 
 /// Executes the command that these words request.
-fn obey<R: AllocGlobal + Input + Print + Eprint>(rt: &R, words: &[String]) -> u8 {
+fn obey<R: AllocGlobal + Files + Input + Print + Eprint>(rt: &R, words: &[String]) -> u8 {
     match step_options(rt.alloc(), words) {
-        Ok(StepOptions::Run { frames, size }) => check_script(rt, frames, size),
+        Ok(StepOptions::Run(list)) => {
+            check_script(rt, list.frames, list.size, list.file.as_deref())
+        }
         Ok(StepOptions::Show(text)) => show(rt, text.as_str()),
         Err(fault) => misread(rt, &fault),
     }

@@ -23,8 +23,9 @@ Exit status: 0 for a plan, 1 if there is none, 2 if the command line is invalid,
 
 /// The help of `l4 check`.
 pub const CHECK: &str = "\
-Reads a plan on standard input, in the form that 'l4 plan' prints. Checks that
-the plan moves exactly the region, and that no list of map items is shorter.
+Reads a plan from FILE, or from standard input if FILE is omitted or is -, in
+the form that 'l4 plan' prints. Checks that the plan moves exactly the region,
+and that no list of map items is shorter.
 
   proved K                   the plan has K items, and no list of map items is
                              shorter
@@ -36,15 +37,15 @@ the plan moves exactly the region, and that no list of map items is shorter.
                              items that follow it
 
 Exit status: 0 if the plan is proved, 1 if it is not, 2 if the command line is
-invalid, 3 if a read or a write failed.";
+invalid or FILE cannot be opened, 3 if a read or a write failed.";
 
 /// The help of `l4 history`.
 pub const HISTORY: &str = "\
-Runs a script from FILE, or from standard input if FILE is omitted, as 'l4 run'
-does. Once the script has ended, prints the kernel steps it executed, instead
-of the script's answers. Each step is a line that l4_steps can read: the start
-of a call, or a transfer or expiry that followed it. l4_steps repeats these
-steps if it has the same --frames and --page-size.
+Runs a script from FILE, or from standard input if FILE is omitted or is -, as
+'l4 run' does. Once the script has ended, prints the kernel steps it executed,
+instead of the script's answers. Each step is a line that l4_steps can read: the
+start of a call, or a transfer or expiry that followed it. l4_steps repeats
+these steps if it has the same --frames and --page-size.
 
   l4 history < script | l4_steps
 
@@ -84,9 +85,9 @@ is executed again, because memory ran out.";
 
 /// The help of `l4 judge`.
 pub const JUDGE: &str = "\
-Reads a step list from FILE, or from standard input if FILE is omitted, in the
-language of l4_steps, with another kernel's answers below each step or query.
-Executes the steps on this kernel, and compares the answers.
+Reads a step list from FILE, or from standard input if FILE is omitted or is -,
+in the language of l4_steps, with another kernel's answers below each step or
+query. Executes the steps on this kernel, and compares the answers.
 
 A line that begins with '# ' is one line of the other kernel's answer to the step
 or query above it, in the form that l4_steps prints. 'l4 history --answers'
@@ -137,11 +138,11 @@ there is not enough memory, 5 if nothing differs, but no answer was compared.";
 
 /// The help of `l4 why`.
 pub const WHY: &str = "\
-Runs a script from FILE, or from standard input if FILE is omitted, as 'l4 run'
-does. Once the script has ended, prints how page PAGE got into the space of
-thread THREAD, instead of the script's answers: the page that sigma0 had at
-boot, and then each transfer in order. A refused line is reported only with
---strict: the script ends there, and nothing is printed on standard output.
+Runs a script from FILE, or from standard input if FILE is omitted or is -, as
+'l4 run' does. Once the script has ended, prints how page PAGE got into the
+space of thread THREAD, instead of the script's answers: the page that sigma0
+had at boot, and then each transfer in order. A refused line is reported only
+with --strict: the script ends there, and nothing is printed on standard output.
 
   sigma0 page P              page P of sigma0's space, which has frame P
   entry E transfer S R KIND SOURCE TARGET RIGHTS RIGHTS
@@ -211,8 +212,9 @@ Exit status: 0, or 2 if the command line is invalid, 3 if a write failed.";
 /// The help of `l4 test`.
 pub const TEST: &str = "\
 Runs each script on a new kernel, and compares the answers to each line with the
-answers that it expects. Expectations are comments, so 'l4 run' ignores them. It
-ignores the '#!' line too: give it these options on its command line.
+answers that it expects. A FILE that is - is standard input. Expectations are
+comments, so 'l4 run' ignores them. It ignores the '#!' line too: give it these
+options on its command line.
 
   #= ANSWER                  expects this answer to the nearest line above that is
                              neither empty nor a comment. The expectations of a
@@ -264,11 +266,12 @@ greatest of their statuses.";
 
 /// The help of `l4 orders`.
 pub const ORDERS: &str = "\
-Reads a litmus test from FILE, or from standard input if FILE is omitted: a script with
-the lines 'unordered' and 'finally'. Runs the lines before 'unordered' in their order.
-Then lets the threads run their lines in every possible order, in which the lines of
-each thread keep theirs. At the end of an order, answers the queries after 'finally'.
-Prints every outcome that some order has:
+Reads a litmus test, a script with the lines 'unordered' and 'finally', from
+FILE, or from standard input if FILE is omitted or is -. Runs the lines before
+'unordered' in their order. Then lets the threads run their lines in every
+possible order, in which the lines of each thread keep theirs. At the end of an
+order, answers the queries after 'finally'. Prints every outcome that some order
+has:
 
   outcome K                  the answers follow, with the line numbers of the
                              outcome's script
@@ -368,10 +371,10 @@ Exit status: 0, or 2 if the command line is invalid, 3 if a write failed.";
 
 /// The help of `l4` itself: the language of scripts, their answers and the codes.
 pub const SCRIPT: &str = "\
-Reads a script from FILE, or from standard input if FILE is omitted, and answers
-each line on standard output. Every line ends with a newline, including the last
-one. Tokens are separated by spaces; a tab is not a separator. Empty lines, and
-lines that begin with #, are skipped.
+Reads a script from FILE, or from standard input if FILE is omitted or is -, and
+answers each line on standard output. Every line ends with a newline, including
+the last one. Tokens are separated by spaces; a tab is not a separator. Empty
+lines, and lines that begin with #, are skipped.
 
   thread N SPACE PAGER   root creates thread N in a new space (SPACE is new) or
                          in the space of the thread SPACE. PAGER is a thread or

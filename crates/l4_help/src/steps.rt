@@ -6,8 +6,9 @@ pub const ABOUT: &str =
 
 /// The help of `l4_steps`: the language of step lists, and their answers.
 pub const LANGUAGE: &str = "\
-Reads a list on standard input, one step or query per line. Tokens are separated
-by spaces. Empty lines, and lines that begin with #, are skipped.
+Reads a list from FILE, or from standard input if FILE is omitted or is -, one
+step or query per line. Tokens are separated by spaces. Empty lines, and lines
+that begin with #, are skipped.
 
   start N ipc TO FROM TIMEOUTS ACCEPTOR WORD..   thread N starts a call
   start N fault ADDRESS IP ACCESS
@@ -39,7 +40,8 @@ ACCESS is the sum of r (4), w (2) and x (1).
 If a line is invalid, standard error names its wrong token and what was expected.
 
 Exit status: 0 at the end of the list, 2 if the command line or a line is
-invalid, 3 if a read or a write failed, 4 if there is not enough memory.
+invalid or FILE cannot be opened, 3 if a read or a write failed, 4 if there is not
+enough memory.
 
 docs/profile.md of the source lists how this kernel differs from the L4 X.2
 manual.";

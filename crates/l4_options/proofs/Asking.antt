@@ -131,7 +131,7 @@ asks_in_range name found (Judge asked) asks = frames_fit found asked.list.frames
 asks_in_range name found (Why script strict thread page) asks = frames_fit found script.frames asks.1.frames
 asks_in_range name found (WhySegments files thread page) asks = tt
 asks_in_range name found (Plan region size) asks = tt
-asks_in_range name found (Check region size) asks = tt
+asks_in_range name found (Check region size file) asks = tt
 asks_in_range name found (Decode words reading size) asks = tt
 asks_in_range name found (Encode words) asks = tt
 asks_in_range name found (Test files tap write lenient) asks = tt
@@ -146,7 +146,7 @@ text_in_range (Judge asked) text = absurd text
 text_in_range (Why script strict thread page) text = absurd text
 text_in_range (WhySegments files thread page) text = tt
 text_in_range (Plan region size) text = tt
-text_in_range (Check region size) text = tt
+text_in_range (Check region size file) text = tt
 text_in_range (Decode words reading size) text = tt
 text_in_range (Encode words) text = tt
 text_in_range (Test files tap write lenient) text = tt
@@ -163,8 +163,8 @@ in_range words r = IfOk-weaker r _ _ (one_in_range words)
 
 steps_one_in_range : (words : List Text) (o : StepOptions) → AreStepsAsked words o → AreStepsInRange o
 unfolding AreStepsAsked
-steps_one_in_range words (RunSteps frames size) (inl text) = absurd text.0
-steps_one_in_range words (RunSteps frames size) (inr asks) = frames_fit (matches_of l4_steps_program words) frames asks.1.0
+steps_one_in_range words (RunSteps list) (inl text) = absurd text.0
+steps_one_in_range words (RunSteps list) (inr asks) = frames_fit (matches_of l4_steps_program words) list.frames asks.1.frames
 steps_one_in_range words (ShowText text) asked = tt
 
 pub steps_in_range : (words : List Text) (r : Result StepOptions OptionFault) → IfOk r (AreStepsAsked words) → IfOk r AreStepsInRange

@@ -8,7 +8,7 @@ use Rattle.clap.specs.Simple.{App, Shape, new_rule, new_shape, matches_of, subco
 use Rattle.clap.specs.Walk.{Row, Rule, Text, all_of, first_of}
 use Rattle.clap.specs.declared.builder.action.ArgAction.TheVariants.{Set, Append, SetTrue}
 use Rattle.clap.specs.declared.error.kind.ErrorKind.TheVariants.{DisplayHelp, DisplayVersion}
-use Rattle.l4_options.specs.Spelled.{AreEncodedIn, AreFilesIn, AreFramesIn, AreNumbersIn, IsChosenAt, IsCountAt, IsDecimalAt, IsReadingIn, IsRegionIn, IsScriptIn, IsSizeIn, is_on}
+use Rattle.l4_options.specs.Spelled.{AreEncodedIn, AreFilesIn, AreNumbersIn, IsChosenAt, IsCountAt, IsDecimalAt, IsReadingIn, IsRegionIn, IsScriptIn, IsSizeIn, is_on}
 use Rattle.l4_options.specs.declared.requests.Options.{Options}
 use Rattle.l4_options.specs.declared.requests.Options.TheVariants.{Run, History, Segments, Judge, Why, WhySegments, Plan, Check, Decode, Encode, Test, Orders, Show}
 use Rattle.l4_options.specs.declared.requests.StepOptions.{StepOptions}
@@ -64,11 +64,18 @@ judge_command = command (codes "judge") (script_rules (option (codes "against") 
 abbrev pub why_command : Shape
 why_command = command (codes "why") (needed_word (codes "thread") ∷ needed_word (codes "page") ∷ script_rules (switch (codes "strict") ∷ option_words (codes "from") ∷ []))
 
--- plan and check
-abbrev pub region_command : Text → Shape
-region_command name = command name (
+-- a region, and the size of its pages
+abbrev pub region_rules : List Rule → List Rule
+region_rules rules =
     needed_word (codes "source") ∷ needed_word (codes "target") ∷ needed_word (codes "count") ∷ needed_word (codes "rights")
-    ∷ option (codes "page-size") ∷ [])
+    ∷ option (codes "page-size") ∷ rules
+
+-- plan and check; a check has the file of a plan too
+abbrev pub region_command : Text → Shape
+region_command name = command name (region_rules [])
+
+abbrev pub check_command : Shape
+check_command = command (codes "check") (region_rules (word (codes "file") ∷ []))
 
 abbrev pub decode_command : Shape
 decode_command = command (codes "decode") (needed_words (codes "words") ∷ option (codes "as") ∷ option (codes "page-size") ∷ [])
@@ -86,7 +93,7 @@ orders_command = command (codes "orders") (
 -- the commands of l4
 abbrev pub l4_commands : List Shape
 l4_commands =
-    run_command ∷ history_command ∷ judge_command ∷ why_command ∷ region_command (codes "plan") ∷ region_command (codes "check")
+    run_command ∷ history_command ∷ judge_command ∷ why_command ∷ region_command (codes "plan") ∷ check_command
     ∷ decode_command ∷ encode_command ∷ test_command ∷ orders_command ∷ []
 
 -- the program l4, which takes one of its commands
@@ -96,7 +103,7 @@ l4_program = record { top = record (new_shape (codes "l4")) { is_leaf = false; h
 -- the program l4_steps
 abbrev pub l4_steps_program : App
 l4_steps_program = record {
-  top = record (new_shape (codes "l4_steps")) { rules = option (codes "frames") ∷ option (codes "page-size") ∷ []; has_version = true };
+  top = record (new_shape (codes "l4_steps")) { rules = script_rules []; has_version = true };
   subs = [];
 }
 
@@ -131,7 +138,8 @@ Asks name found (WhySegments files thread page) =
     (name ≡ codes "why") × (Some (map string_bytes files.items) ≡ all_of (codes "from") found)
     × IsDecimalAt found (codes "thread") thread × IsDecimalAt found (codes "page") page × HasNoScript found
 Asks name found (Plan region size) = (name ≡ codes "plan") × IsRegionIn found region × IsSizeIn found size
-Asks name found (Check region size) = (name ≡ codes "check") × IsRegionIn found region × IsSizeIn found size
+Asks name found (Check region size file) =
+    (name ≡ codes "check") × IsRegionIn found region × IsSizeIn found size × (option_map string_bytes file ≡ first_of (codes "file") found)
 Asks name found (Decode words reading size) =
     (name ≡ codes "decode") × AreNumbersIn found words.items × IsReadingIn found (length words.items) reading × IsSizeIn found size
 Asks name found (Encode words) = (name ≡ codes "encode") × AreEncodedIn found words.items
@@ -165,13 +173,13 @@ unfoldable pub IsAsked : List Text → Options → Type 0
 IsAsked words asked =
     (IsText asked × WantsText (fault_of l4_program words)) ⊎ ((fault_of l4_program words ≡ []) × IsCommandAsked words asked)
 
--- l4_steps: the frames and the pages of the machine
+-- l4_steps: the file of the list, and the frames and the pages of the machine
 abbrev pub AreStepsIn : List Row → StepOptions → Type 0
-AreStepsIn found (RunSteps frames size) = AreFramesIn found frames × IsSizeIn found size
+AreStepsIn found (RunSteps list) = IsScriptIn found list
 AreStepsIn found (ShowText text) = ⊥
 
 abbrev pub IsStepsText : StepOptions → Type 0
-IsStepsText (RunSteps frames size) = ⊥
+IsStepsText (RunSteps list) = ⊥
 IsStepsText (ShowText text) = Unit {0}
 
 -- WHAT A COMMAND LINE OF l4_steps ASKS FOR

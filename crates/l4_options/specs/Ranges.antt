@@ -19,7 +19,7 @@ IsInRange (Judge asked) = IsFrameCount asked.list.frames
 IsInRange (Why script strict thread page) = IsFrameCount script.frames
 IsInRange (WhySegments files thread page) = Unit {0}
 IsInRange (Plan region size) = Unit {0}
-IsInRange (Check region size) = Unit {0}
+IsInRange (Check region size file) = Unit {0}
 IsInRange (Decode words reading size) = Unit {0}
 IsInRange (Test files tap write lenient) = Unit {0}
 IsInRange (Orders asked) = IsFrameCount asked.test.frames
@@ -28,5 +28,5 @@ IsInRange (Show text) = Unit {0}
 
 -- the same of the command line of l4_steps
 abbrev pub AreStepsInRange : StepOptions → Type 0
-AreStepsInRange (RunSteps frames size) = IsFrameCount frames
+AreStepsInRange (RunSteps list) = IsFrameCount list.frames
 AreStepsInRange (ShowText text) = Unit {0}

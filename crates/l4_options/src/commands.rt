@@ -2,7 +2,7 @@
 ghost use Rattle.std.specs.Prelude.{◌≡◌, IfOk, IfSome, Some, codes, map};
 ghost use Rattle.clap.specs.Simple.{app_of};
 ghost use Rattle.clap.specs.Values.{kind_of};
-ghost use Rattle.l4_options.specs.Commands.{needed_word, run_command, judge_command, why_command, region_command, decode_command, l4_program, Asks, IsAsked, IsText};
+ghost use Rattle.l4_options.specs.Commands.{needed_word, run_command, judge_command, why_command, region_command, check_command, decode_command, l4_program, Asks, IsAsked, IsText};
 ghost use Rattle.l4_options.specs.Inside.Lines.{IsRule, IsCommand, IsTextKind, bare_program, found_in, with_commands};
 ghost use Rattle.l4_options.specs.Inside.Words.{spelled_anew};
 ghost use Rattle.l4_options.specs.Ranges.{IsInRange};
@@ -60,6 +60,19 @@ fn of_region<'a>(
             "The rights, such as rwx or r_x; write _ for each missing right",
         ))?
         .arg(size_option(alloc))
+}
+
+/// The command `check`.
+fn of_plan<'a>(alloc: Global) -> Result<Command<'a>, AllocError>
+    ensures { IfOk result (IsCommand check_command) }
+{
+    of_region(
+        alloc,
+        "check",
+        "Checks that a plan is exact and that no list is shorter",
+        CHECK,
+    )?
+    .arg(file_argument(alloc, "The plan [default: standard input]"))
 }
 
 /// The command `why`.
@@ -167,12 +180,7 @@ fn with_words<'a>(alloc: Global) -> Result<Command<'a>, AllocError>
             "Prints the shortest list of map items that delegates a region",
             PLAN,
         )?)?
-        .subcommand(of_region(
-            alloc,
-            "check",
-            "Checks that a plan is exact and that no list is shorter",
-            CHECK,
-        )?)?
+        .subcommand(of_plan(alloc)?)?
         .subcommand(of_words(alloc)?)?
         .subcommand(of_tokens(alloc)?)
 }
@@ -330,6 +338,7 @@ fn check_options(alloc: Global, matches: &ArgMatches<'_>) -> Result<Options, Opt
         Ok(region) => Ok(Options::Check {
             region,
             size: size_of(alloc, matches)?,
+            file: name_of(alloc, matches, "file")?,
         }),
         Err(fault) => Err(fault),
     }
@@ -395,7 +404,7 @@ fn requested<'a, S: AsStr>(alloc: Global, words: &'a [S]) -> Result<Options, Opt
 
 /// Reads the words of the command line, the program's name first:
 /// `l4 run [FILE] [--frames N] [--strict] [--explain] [--number] [--moves] [--history-to SEGMENTS]`, `l4 history [FILE] [--frames N] [--strict] [--answers]`, `l4 history --from SEGMENTS.. [--answers]`,
-/// `l4 judge [FILE] [--frames N] [--against LIST] [--partial] [--all] [--follow]`, `l4 why THREAD PAGE [FILE] [--frames N] [--strict]`, `l4 why THREAD PAGE --from SEGMENTS..`, `l4 plan SOURCE TARGET COUNT RIGHTS`, `l4 check` with the same words, `l4 decode [--as READING] WORD..`, `l4 encode [--as KIND] TOKEN..`, `l4 test FILE.. [--tap] [--write] [--lenient]`, `l4 orders [FILE] [--frames N] [--most N] [--witness K] [--outcomes] [--dot]`, each with
+/// `l4 judge [FILE] [--frames N] [--against LIST] [--partial] [--all] [--follow]`, `l4 why THREAD PAGE [FILE] [--frames N] [--strict]`, `l4 why THREAD PAGE --from SEGMENTS..`, `l4 plan SOURCE TARGET COUNT RIGHTS`, `l4 check SOURCE TARGET COUNT RIGHTS [FILE]`, `l4 decode [--as READING] WORD..`, `l4 encode [--as KIND] TOKEN..`, `l4 test FILE.. [--tap] [--write] [--lenient]`, `l4 orders [FILE] [--frames N] [--most N] [--witness K] [--outcomes] [--dot]`, each with
 /// `--page-size BYTES` where that is wanted, `--help`, `help` or `--version`. N is 256 and BYTES 4096 where they are left out; READING is
 /// message, fpage, window or id.
 ///

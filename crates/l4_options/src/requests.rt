@@ -7,7 +7,7 @@ use l4_symbols::Reason;
 use thiserror::Error;
 
 /// A script to execute on a machine with this many frames, 1 to 4,096, of this size. It is in the file of this name, or comes from standard
-/// input if there is no name.
+/// input if there is no name, or if the name is `-`.
 #[derive(Debug, Drop)]
 pub struct ScriptOptions {
     pub frames: u32,
@@ -88,10 +88,11 @@ pub enum Options {
         region: Region,
         size: PageSize,
     },
-    /// Checks the plan on standard input against this region of pages of this size.
+    /// Checks the plan in this file, or on standard input if there is none, against this region of pages of this size.
     Check {
         region: Region,
         size: PageSize,
+        file: Option<String>,
     },
     /// Explains these words, at most 64, by a reading and for pages of this size.
     Decode {
@@ -119,8 +120,8 @@ pub enum Options {
 /// What the command line of `l4_steps` requests.
 #[derive(Debug, Drop)]
 pub enum StepOptions {
-    /// Answers a step list on a machine with this many frames, 1 to 4,096, of this size.
-    Run { frames: u32, size: PageSize },
+    /// Answers a step list.
+    Run(ScriptOptions),
     /// Prints this text: the usage, or the version.
     Show(String),
 }

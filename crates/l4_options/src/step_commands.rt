@@ -7,7 +7,7 @@ ghost use Rattle.l4_options.specs.Inside.Lines.{IsTextKind, found_in};
 ghost use Rattle.l4_options.specs.Ranges.{AreStepsInRange};
 
 use crate::requests::{OptionFault, StepOptions};
-use crate::values::{frames_of, frames_option, help_text, size_of, size_option};
+use crate::values::{file_argument, frames_option, help_text, script_of, size_option};
 use clap::{ArgMatches, Command, Error};
 use l4_help::steps::{ABOUT, LANGUAGE};
 use std::alloc::{AllocError, Global};
@@ -21,6 +21,7 @@ fn known<'a>(alloc: Global) -> Result<Command<'a>, AllocError>
         .about(ABOUT)
         .version("0.1.0")
         .after_help(LANGUAGE)
+        .arg(file_argument(alloc, "The step list [default: standard input]"))?
         .arg(frames_option(alloc))?
         .arg(size_option(alloc))
 }
@@ -29,11 +30,8 @@ fn known<'a>(alloc: Global) -> Result<Command<'a>, AllocError>
 fn step_request(alloc: Global, matches: &ArgMatches<'_>) -> Result<StepOptions, OptionFault>
     ensures { IfOk result (AreStepsIn (found_in matches.now)) }
 {
-    match frames_of(alloc, matches) {
-        Ok(frames) => Ok(StepOptions::Run {
-            frames,
-            size: size_of(alloc, matches)?,
-        }),
+    match script_of(alloc, matches) {
+        Ok(list) => Ok(StepOptions::Run(list)),
         Err(fault) => Err(fault),
     }
 }
@@ -62,7 +60,7 @@ fn requested<'a, S: AsStr>(alloc: Global, words: &'a [S]) -> Result<StepOptions,
     step_request(alloc, &matches)
 }
 
-/// Reads the words of the command line, the program's name first: `l4_steps [--frames N] [--page-size BYTES]`, `--help` or `--version`.
+/// Reads the words of the command line, the program's name first: `l4_steps [FILE] [--frames N] [--page-size BYTES]`, `--help` or `--version`.
 /// N is 256 and BYTES 4096 where they are left out.
 pub fn step_options<'a, S: AsStr>(alloc: Global, words: &'a [S]) -> Result<StepOptions, OptionFault>
     ensures asked { IfOk result (AreStepsAsked (map S.text words.entry.now)) }

@@ -1,15 +1,15 @@
-//! What the programs share: the words of the command line, and the exit statuses.
+//! What the programs share: the words of the command line, the files that they read, and the exit statuses.
 ghost use Rattle.std.specs.Prelude.{◌≡◌, ◌⊎◌, IfErr, MatchResult};
 ghost use Rattle.std.specs.Fn.{FnOnceReturnsAt};
 ghost use Rattle.l4_programs.specs.Statuses.{run_status};
 
 use crate::streams::WatchedReader;
-use l4_text::RunFault;
+use l4_text::{RunFault, ScriptReader};
 use std::alloc::AllocError;
 use std::fmt::{Display, Formatter};
 use std::io::{ErrorKind, Read};
-use std::rt::Env;
-use std::{env, fmt, io};
+use std::rt::{Env, Files};
+use std::{env, fmt, fs, io};
 
 /// The exit status if the command line, or a line of a step list, is invalid.
 pub const NOT_UNDERSTOOD: u8 = 2;
@@ -20,6 +20,9 @@ const STREAM_FAILED: u8 = 3;
 /// The exit status if there is not enough memory at the start.
 pub const NO_MEMORY: u8 = 4;
 
+/// The name of a file that stands for standard input.
+pub const STANDARD_INPUT: &str = "-";
+
 /// Prints what went wrong on standard error, and returns the exit status.
 fn failed(rt: &impl Eprint, text: &str, status: u8) -> u8
     ensures { result ≡ status }
@@ -28,15 +31,15 @@ fn failed(rt: &impl Eprint, text: &str, status: u8) -> u8
     status
 }
 
-/// The name of an input in messages: the name of a file in quotes, or standard input.
+/// The name of an input in messages: the name of a file in quotes, or standard input if no file is named, or the name is `-`.
 #[derive(Drop)]
-struct Source<'a>(Option<&'a str>);
+pub struct Source<'a>(pub Option<&'a str>);
 
 impl Display for Source<'_> {
     fn fmt<W: fmt::Write>(&self, f: &mut Formatter<W>) -> fmt::Result {
         match self.0 {
-            Some(name) => write!(f, "'{name}'"),
-            None => f.write_str("standard input"),
+            Some(name) if name != STANDARD_INPUT => write!(f, "'{name}'"),
+            _ => f.write_str("standard input"),
         }
     }
 }
@@ -55,7 +58,7 @@ impl Display for Cause {
 }
 
 /// Prints on standard error that a file cannot be opened, and returns the exit status.
-pub fn not_opened(rt: &impl Eprint, name: &str, error: io::Error) -> u8
+fn not_opened(rt: &impl Eprint, name: &str, error: io::Error) -> u8
     ensures { result ≡ 2 }
 {
     let _ = eprintln!(rt;
@@ -64,6 +67,24 @@ pub fn not_opened(rt: &impl Eprint, name: &str, error: io::Error) -> u8
         Cause(Some(error))
     );
     NOT_UNDERSTOOD
+}
+
+/// Opens a file to read, or standard input if no file is named, or the name is `-`. If the file cannot be opened, reports this and returns the
+/// exit status.
+pub fn opened<R: Files + Input + Eprint>(
+    rt: &R,
+    file: Option<&str>,
+) -> Result<WatchedReader<ScriptReader<R::Reader, R::File>>, u8>
+    ensures { IfErr result (λ status. status ≡ 2) }
+{
+    let name = match file {
+        Some(name) if name != STANDARD_INPUT => name,
+        _ => return Ok(WatchedReader::new(ScriptReader::Standard(rt.reader()))),
+    };
+    match fs::open(rt, name) {
+        Ok(file) => Ok(WatchedReader::new(ScriptReader::File(file))),
+        Err(error) => Err(not_opened(rt, name, error)),
+    }
 }
 
 /// Prints on standard error that a file cannot be created or written, and returns the exit status.

@@ -6,7 +6,7 @@ mod endings;
 mod streams;
 
 pub use endings::{
-    NO_MEMORY, NOT_UNDERSTOOD, command_words, not_created, not_opened, show, status_of, stopped,
-    warn_of_cut_line,
+    NO_MEMORY, NOT_UNDERSTOOD, STANDARD_INPUT, Source, command_words, not_created, opened, show,
+    status_of, stopped, warn_of_cut_line,
 };
 pub use streams::{WatchedReader, WatchedWriter, cause};

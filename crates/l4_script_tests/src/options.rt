@@ -15,7 +15,7 @@ fn run_of(alloc: Global, words: &[&str]) -> Option<(u32, PageSize)> {
 /// Those of the list of steps that is to be done.
 fn steps_of(alloc: Global, words: &[&str]) -> Option<(u32, PageSize)> {
     match step_options(alloc, words) {
-        Ok(StepOptions::Run { frames, size }) => Some((frames, size)),
+        Ok(StepOptions::Run(list)) => Some((list.frames, list.size)),
         _ => None,
     }
 }

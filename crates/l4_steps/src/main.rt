@@ -7,20 +7,22 @@
 ghost use Rattle.std.specs.Prelude.{◌≡◌};
 ghost use Rattle.l4_steps.specs.Statuses.{list_status};
 
-use l4_fpage::PageSize;
-use l4_options::{StepOptions, misread, step_options};
+use l4_options::{ScriptOptions, StepOptions, misread, step_options};
 use l4_programs::{
-    NOT_UNDERSTOOD, WatchedReader, WatchedWriter, cause, command_words, show, status_of, stopped,
+    NOT_UNDERSTOOD, WatchedReader, WatchedWriter, cause, command_words, opened, show, status_of,
+    stopped,
 };
 use l4_step_lines::{Fault, run};
 use std::io;
 use std::io::{Read, Write};
 use std::process::ExitCode;
+use std::rt::Files;
 
 /// Reports why a step list ended. Returns the exit status.
 fn ended<R: Read, W: Write>(
     rt: &impl Eprint,
     answered: Result<(), Fault>,
+    file: Option<&str>,
     reader: &WatchedReader<R>,
     writer: &WatchedWriter<W>,
 ) -> u8
@@ -28,7 +30,7 @@ fn ended<R: Read, W: Write>(
 {
     match answered {
         Ok(()) => 0,
-        Err(Fault::Stopped(fault)) => stopped(rt, fault, None, cause(fault, reader, writer)),
+        Err(Fault::Stopped(fault)) => stopped(rt, fault, file, cause(fault, reader, writer)),
         Err(fault) => {
             let _ = rt.eprintln(&fault);
             NOT_UNDERSTOOD
@@ -36,18 +38,25 @@ fn ended<R: Read, W: Write>(
     }
 }
 
-/// Answers the step list on standard input.
-fn answer_list<R: AllocGlobal + Input + Print + Eprint>(rt: &R, frames: u32, size: PageSize) -> u8 {
-    let mut reader = WatchedReader::new(rt.reader());
+/// Answers a step list.
+fn answer_list<R: AllocGlobal + Files + Input + Print + Eprint>(
+    rt: &R,
+    list: &ScriptOptions,
+) -> u8 {
+    let file = list.file.as_deref();
+    let mut reader = match opened(rt, file) {
+        Ok(reader) => reader,
+        Err(status) => return status,
+    };
     let mut writer = WatchedWriter::new(io::writer(rt));
-    let answered = run(rt.alloc(), frames, size, &mut reader, &mut writer);
-    ended(rt, answered, &reader, &writer)
+    let answered = run(rt.alloc(), list.frames, list.size, &mut reader, &mut writer);
+    ended(rt, answered, file, &reader, &writer)
 }
 
 /// Executes the command that these words request.
-fn obey<R: AllocGlobal + Input + Print + Eprint>(rt: &R, words: &[String]) -> u8 {
+fn obey<R: AllocGlobal + Files + Input + Print + Eprint>(rt: &R, words: &[String]) -> u8 {
     match step_options(rt.alloc(), words) {
-        Ok(StepOptions::Run { frames, size }) => answer_list(rt, frames, size),
+        Ok(StepOptions::Run(list)) => answer_list(rt, &list),
         Ok(StepOptions::Show(text)) => show(rt, text.as_str()),
         Err(fault) => misread(rt, &fault),
     }

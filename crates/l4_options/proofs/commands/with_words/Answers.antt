@@ -9,6 +9,6 @@ returns c =
     (below _ _ _ _ _
     (below _ _ _ _ _
     (below _ _ _ _ _ c.in_ok-with_scripts.ensures c.in_ok-of_region.ensures c.in_ok-subcommand.ensures)
-    c.in_ok-of_region-2.ensures c.in_ok-subcommand-2.ensures)
+    c.in_ok-of_plan.ensures c.in_ok-subcommand-2.ensures)
     c.in_ok-of_words.ensures c.in_ok-subcommand-3.ensures)
     c.in_ok-of_tokens.ensures adds) c.subcommand-4.ensures
