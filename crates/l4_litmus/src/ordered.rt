@@ -1,7 +1,8 @@
 //! `l4 orders`: every outcome that some order of the threads' calls can have.
 ghost use Rattle.std.specs.Prelude.{◌≡◌, ◌⊎◌, if◌then◌else◌, IfErr, MatchResult};
-ghost use Rattle.l4_litmus.specs.Statuses.{found_status, witness_status};
+ghost use Rattle.l4_litmus.specs.Statuses.{found_status};
 ghost use Rattle.l4_options.specs.Ranges.{IsFrameCount};
+ghost use Rattle.l4_programs.specs.Statuses.{run_status};
 
 use crate::faults::{not_searched, report_fault};
 use crate::first_line::{WRONG_OPTIONS, options_line, options_of};
@@ -18,6 +19,12 @@ use std::alloc::{AllocError, Global};
 use std::io;
 use std::io::{ErrorKind, Read, Write};
 use std::time::Clock;
+
+/// The exit status if the script of the requested outcome was printed, even if the outcome breaks a rule.
+const WITNESSED: u8 = 0;
+
+/// Whether a text was printed. If not, why, and what the system has reported.
+type Printed = Result<(), (RunFault, Option<io::Error>)>;
 
 /// Returns the text of the outcomes, of the summary, and of the rules that an outcome breaks.
 fn found_text(
@@ -41,49 +48,43 @@ fn no_outcome(rt: &impl Eprint, number: u32, count: usize) -> u8
     NOT_UNDERSTOOD
 }
 
-/// Prints a text. Returns the status, or that of a write that failed.
-fn print_text<R: Print + Eprint>(rt: &R, text: Result<Vec<u8>, AllocError>, status: u8) -> u8
-    ensures lacks { MatchResult text (λ _. (result ≡ status) ⊎ (result ≡ 3)) (λ _. result ≡ 4) }
-    ensures either { (result ≡ status) ⊎ ((result ≡ 3) ⊎ (result ≡ 4)) }
+/// Prints a text, unless there was not enough memory for it.
+fn print_text<R: Print>(rt: &R, text: Result<Vec<u8>, AllocError>) -> Printed
+    ensures { MatchResult text (λ _. IfErr result (λ fault. fault.0 ≡ RunFault.Write))
+        (λ _. MatchResult result (λ _. ⊥) (λ fault. fault.0 ≡ RunFault.Memory)) }
 {
     let Ok(text) = text else {
-        return stopped(rt, RunFault::Memory, None, None);
+        return Err((RunFault::Memory, None));
     };
     let mut writer = WatchedWriter::new(io::writer(rt));
     if writer.write_all(text.as_slice()).is_err() || writer.flush().is_err() {
-        return stopped(rt, RunFault::Write, None, writer.error());
+        return Err((RunFault::Write, writer.error()));
     }
-    status
+    Ok(())
 }
 
-/// Prints the script of the outcome with this number. Returns the exit status, which is 0 even if the outcome breaks a rule.
-fn print_witness<R: AllocGlobal + Print + Eprint>(
+/// Prints the script of the outcome with this number, if there is one.
+fn print_witness<R: AllocGlobal + Print>(
     rt: &R,
     plan: &Plan,
     explored: &Explored,
     number: u32,
-) -> u8
-    ensures { (result ≡ witness_status explored.now.found.items number)
-        ⊎ ((result ≡ 3) ⊎ (result ≡ 4)) }
-{
+) -> Printed {
     let index = number as usize;
     if index == 0 || index > explored.found.len() {
-        return no_outcome(rt, number, explored.found.len());
+        return Ok(());
     }
     let order = explored.found[index - 1].order.as_slice();
-    print_text(rt, witness_text(rt.alloc(), plan, order), 0)
+    print_text(rt, witness_text(rt.alloc(), plan, order))
 }
 
-/// Prints what is requested of a search. Returns the exit status.
-fn print_found<R: AllocGlobal + Print + Eprint>(
+/// Prints what is requested of a search.
+fn print_found<R: AllocGlobal + Print>(
     rt: &R,
     plan: &Plan,
     explored: &Explored,
     asked: &OrdersOptions,
-) -> u8
-    ensures { (result ≡ found_status asked.now.witness plan.now explored.now)
-        ⊎ ((result ≡ 3) ⊎ (result ≡ 4)) }
-{
+) -> Printed {
     if let Some(number) = asked.witness {
         return print_witness(rt, plan, explored, number);
     }
@@ -92,7 +93,38 @@ fn print_found<R: AllocGlobal + Print + Eprint>(
     } else {
         found_text(rt.alloc(), plan, explored, asked.brief)
     };
-    print_text(rt, text, ruled_status(plan, explored))
+    print_text(rt, text)
+}
+
+/// Returns the exit status of a search. If there is no outcome with the requested number, reports this.
+fn searched_status(rt: &impl Eprint, plan: &Plan, explored: &Explored, witness: Option<u32>) -> u8
+    ensures { result ≡ found_status witness plan.now explored.now }
+{
+    let Some(number) = witness else {
+        return ruled_status(plan, explored);
+    };
+    let count = explored.found.len();
+    if number == 0 || number as usize > count {
+        return no_outcome(rt, number, count);
+    }
+    WITNESSED
+}
+
+/// Returns the exit status of a search after what is requested of it was printed. If it was not, reports why.
+fn report_found(
+    rt: &impl Eprint,
+    plan: &Plan,
+    explored: &Explored,
+    witness: Option<u32>,
+    printed: Printed,
+) -> u8
+    ensures { MatchResult printed (λ _. result ≡ found_status witness plan.now explored.now)
+        (λ fault. result ≡ run_status fault.0) }
+{
+    match printed {
+        Ok(()) => searched_status(rt, plan, explored, witness),
+        Err((fault, cause)) => stopped(rt, fault, None, cause),
+    }
 }
 
 /// Searches all orders of the litmus test in this text by these options, and prints what is requested.
@@ -118,7 +150,10 @@ fn search_text<R: AllocGlobal + Print + Eprint + Clock>(
         &mut Progress::new(rt, terminal),
     );
     match searched {
-        Ok(explored) => print_found(rt, &plan, &explored, asked),
+        Ok(explored) => {
+            let printed = print_found(rt, &plan, &explored, asked);
+            report_found(rt, &plan, &explored, asked.witness, printed)
+        }
         Err(failure) => not_searched(rt, failure),
     }
 }
