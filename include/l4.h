@@ -990,7 +990,8 @@ l4_searched l4_orders_search_sized(l4_orders *orders, uint32_t frames, const cha
 #define L4_LACKED_HISTORY UINT32_C(4)
 
 /* How a search ended (L4_ALL_ORDERS ..), the number of outcomes, the number of orders, and the number of states that were visited. If the
- * search ended early, orders is 0, and the test may have more outcomes. If there are more than 2^64 - 1 orders, orders is 2^64 - 1. */
+ * search ended early, orders is 0, and the test may have more outcomes. If there are more than 2^64 - 1 orders, orders is 2^64 - 1:
+ * l4_orders_number writes their number. */
 typedef struct l4_found {
     uint32_t refusal;
     uint32_t ended;
@@ -1001,6 +1002,11 @@ typedef struct l4_found {
 
 /* Returns how the search ended, and what it found. Refusals: B1. */
 l4_found l4_orders_found(l4_orders *orders);
+
+/* Writes the number of orders in decimal, whatever its size. At most the first `room` - 1 bytes are written, and a 0 after them; nothing is
+ * written if room is 0. count is the length of the whole text without the 0. The text is empty if the search ended early. Nothing is written
+ * after a refusal. Refusals in this order: B1, NoMemory. */
+l4_count l4_orders_number(l4_orders *orders, char *out, size_t room);
 
 /* Writes the answers of the outcome with this number, from 0: the answers to the queries, a line each, and then a line `stuck N L` for each
  * thread N that was left before its line L of the test. At most the first `room` - 1 bytes are written, and a 0 after them; nothing is

@@ -807,6 +807,25 @@ static void found_orders(l4_orders *orders) {
     EXPECT(l4_orders_answers(orders, 0, NULL, 0).count == 49 && l4_orders_witness(orders, 0, NULL, 0).refusal == L4_OK);
 }
 
+/* Two threads with 34 lines each have C(68, 34) orders, which is more than 2^64 - 1, and 35 * 35 states. */
+static void many_orders(void) {
+    static const char number[] = "28453041475240576740";
+    char test[1000] = "thread 3 new nil\nthread 4 new nil\nunordered\n", text[32], cut[4] = "xxx";
+    l4_orders orders = L4_EMPTY;
+    l4_found found;
+    for (int line = 0; line < 68; line++) strcat(test, line < 34 ? "unmap 3 0 0\n" : "unmap 4 0 0\n");
+    EXPECT(l4_orders_number(&orders, text, sizeof text).refusal == L4_B1);
+    EXPECT(l4_orders_search(&orders, 4, test, strlen(test), 2000).refusal == L4_OK);
+    found = l4_orders_found(&orders);
+    EXPECT(found.ended == L4_ALL_ORDERS && found.outcomes == 1 && found.orders == UINT64_MAX && found.states == 1225);
+    EXPECT(l4_orders_number(&orders, text, sizeof text).count == strlen(number) && strcmp(text, number) == 0);
+    EXPECT(l4_orders_number(&orders, cut, 3).count == strlen(number) && strcmp(cut, "28") == 0 && l4_orders_number(&orders, NULL, 0).refusal == L4_OK);
+    l4_orders_free(&orders);
+    EXPECT(l4_orders_search(&orders, 4, test, strlen(test), 7).refusal == L4_OK && l4_orders_found(&orders).ended == L4_MOST_STATES);
+    EXPECT(l4_orders_number(&orders, text, sizeof text).count == 0 && text[0] == 0);
+    l4_orders_free(&orders);
+}
+
 /* One order has the answer that the first rule forbids, and not the one that the second rule demands. The third rule holds. */
 static void broken_rules(void) {
     static const char ruled[] = "unordered\nsend 1 2 0x10000\nrecv 2 any 0\nfinally\nreply 2\nnever 2 ipc 00010000 0 1\nalways 2 waits\nalways 2 ipc 00010000 0 1\n";
@@ -861,6 +880,7 @@ static void orders_of_plans(void) {
     EXPECT(l4_orders_found(&orders).refusal == L4_B1);
     bad_plans();
     broken_rules();
+    many_orders();
 }
 
 /* The bytes are refused with this fault at this position, and the handle stays empty. */

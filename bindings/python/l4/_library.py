@@ -464,6 +464,7 @@ FUNCTIONS: Dict[str, Tuple[Any, List[Any]]] = {
     "l4_orders_search": (l4_searched, [ORDERS, c_uint32, c_char_p, c_size_t, c_uint64]),
     "l4_orders_search_sized": (l4_searched, [ORDERS, c_uint32, c_char_p, c_size_t, c_uint64, c_uint32]),
     "l4_orders_found": (l4_found, [ORDERS]),
+    "l4_orders_number": (l4_count, [ORDERS, c_char_p, c_size_t]),
     "l4_orders_answers": (l4_count, [ORDERS, c_size_t, c_char_p, c_size_t]),
     "l4_orders_witness": (l4_count, [ORDERS, c_size_t, c_char_p, c_size_t]),
     "l4_orders_lines": (l4_count, [ORDERS, c_size_t, LINES, c_size_t]),

@@ -49,7 +49,7 @@ class PlanOutcome:
 @dataclass(frozen=True)
 class Orders:
     """What a search found: each outcome once, how the search ended, and the number of states that it visited. `order_count` is the number of
-    orders, or None if the search ended early. If there are more than 2^64 - 1 orders, it is 2^64 - 1."""
+    orders, whatever its size, or None if the search ended early."""
 
     outcomes: Tuple[PlanOutcome, ...]
     end: SearchEnd
@@ -62,9 +62,9 @@ class Orders:
         return self.end is SearchEnd.ALL_ORDERS
 
 
-def _text(write: Callable[..., Any], search: _library.l4_orders, outcome: int) -> str:
-    """Returns a text of an outcome."""
-    text = all_items(c_char, lambda out, room: write(byref(search), outcome, out, room), spare=1)
+def _text(write: Callable[..., Any], search: _library.l4_orders, *outcome: int) -> str:
+    """Returns a text of the search, or of an outcome."""
+    text = all_items(c_char, lambda out, room: write(byref(search), *outcome, out, room), spare=1)
     return text.raw[:-1].decode("utf-8", "surrogateescape")
 
 
@@ -89,7 +89,8 @@ def _found(search: _library.l4_orders) -> Orders:
     told = library.l4_orders_found(byref(search))
     end = SearchEnd(told.ended)
     outcomes = tuple(_outcome(search, place) for place in range(told.outcomes))
-    return Orders(outcomes, end, told.orders if end is SearchEnd.ALL_ORDERS else None, told.states)
+    orders = _text(library.l4_orders_number, search)
+    return Orders(outcomes, end, int(orders) if orders else None, told.states)
 
 
 def orders(script: str, frames: int = 256, page_bytes: int = PAGE_BYTES, most: int = MOST_STATES) -> Orders:

@@ -46,6 +46,10 @@ class Outcomes(unittest.TestCase):
         found = orders(RACE, 1, most=2)
         self.assertEqual((found.end, found.complete, found.order_count, found.state_count), (SearchEnd.MOST_STATES, False, None, 2))
 
+    def test_more_orders_than_64_bits_can_count(self):
+        found = orders((PLANS / "e_two_long_threads.litmus").read_text(), FRAMES)
+        self.assertEqual((found.order_count, found.state_count), (28_453_041_475_240_576_740, 1_225))
+
     def test_small_pages(self):
         plan = "delegate 1 2 4 8 1 rwx\nunordered\nrecv 2 any 0x10\nfinally\nshow 2 0 16\n"
         self.assertEqual(orders(plan, 8, SMALL_PAGE_BYTES).outcomes[0].answers, ("page 8 frame 4 rwx", "shown 1"))

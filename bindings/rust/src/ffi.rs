@@ -557,6 +557,7 @@ functions! {
     fn l4_orders_search(orders: *mut l4_orders, frames: u32, plan: *const c_char, length: usize, most: u64) -> l4_searched;
     fn l4_orders_search_sized(orders: *mut l4_orders, frames: u32, plan: *const c_char, length: usize, most: u64, page_bytes: u32) -> l4_searched;
     fn l4_orders_found(orders: *mut l4_orders) -> l4_found;
+    fn l4_orders_number(orders: *mut l4_orders, out: *mut c_char, room: usize) -> l4_count;
     fn l4_orders_answers(orders: *mut l4_orders, outcome: usize, out: *mut c_char, room: usize) -> l4_count;
     fn l4_orders_witness(orders: *mut l4_orders, outcome: usize, out: *mut c_char, room: usize) -> l4_count;
     fn l4_orders_lines(orders: *mut l4_orders, outcome: usize, lines: *mut u64, room: usize) -> l4_count;
@@ -1073,6 +1074,12 @@ impl Handle<l4_orders> {
     pub(crate) fn found(&self) -> l4_found {
         // SAFETY: as in `enabled`.
         unsafe { l4_orders_found(self.cell.get()) }
+    }
+
+    /// Returns the number of orders in decimal, which is empty if the search ended early, or the number of the refusal.
+    pub(crate) fn orders(&self) -> Result<String, u32> {
+        // SAFETY: as in `answers`.
+        whole(|out, room| unsafe { l4_orders_number(self.cell.get(), out, room) })
     }
 
     pub(crate) fn answers(&self, outcome: usize) -> String {

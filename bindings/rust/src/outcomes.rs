@@ -51,8 +51,11 @@ pub struct Orders {
     pub outcomes: Vec<PlanOutcome>,
     /// How the search ended.
     pub end: SearchEnd,
-    /// The number of orders, if every order was followed. If there are more than 2^64 - 1 orders, this is 2^64 - 1.
+    /// The number of orders, if every order was followed. If there are more than 2^64 - 1 orders, this is 2^64 - 1, and `order_digits` has
+    /// the number.
     pub order_count: Option<u64>,
+    /// The number of orders in decimal, whatever its size, if every order was followed.
+    pub order_digits: Option<String>,
     /// The number of states that were visited.
     pub state_count: u64,
 }
@@ -96,6 +99,7 @@ impl From<Refusal> for BadPlan {
 /// let plan = "unordered\nsend 1 2 0x10000\nrecv 2 any 0\nfinally\nreply 2\nnever 2 waits\nalways 2 none\n";
 /// let found = l4::orders(plan, 1, 1_000)?;
 /// assert_eq!(found.order_count, Some(2));
+/// assert_eq!(found.order_digits.as_deref(), Some("2"));
 /// assert_eq!(found.outcomes.len(), 1);
 /// assert_eq!(found.outcomes[0].answers, ["2 ipc 00010000 0 1"]);
 /// assert_eq!(found.outcomes[0].order.len(), 2);
@@ -145,10 +149,13 @@ pub fn orders_sized(plan: &str, frames: u32, most: u64, size: PageSize) -> Resul
             broken: lines_of(&broken),
         });
     }
+    let all = end == SearchEnd::AllOrders;
+    let digits = search.orders().map_err(|number| Refusal::of(number, 0))?;
     Ok(Orders {
         outcomes,
         end,
-        order_count: (end == SearchEnd::AllOrders).then_some(told.orders),
+        order_count: all.then_some(told.orders),
+        order_digits: all.then_some(digits),
         state_count: told.states,
     })
 }

@@ -1,6 +1,7 @@
 -- What a search found, as C gets it (this profile's own).
-use Rattle.std.specs.Prelude.{◌≡◌, ◌⊎◌, ℕ, List, [], ◌++◌, length, min, take, drop, slice_get, Option, None, Some, codes}
+use Rattle.std.specs.Prelude.{◌≡◌, ◌⊎◌, ℕ, List, [], ◌++◌, length, min, take, drop, slice_get, is_ok, if◌then◌else◌, Option, None, Some, codes}
 use Rattle.std.specs.Option.{option_map_or}
+use Rattle.l4_naturals.specs.Numerals.{numeral}
 use Rattle.l4_merges.specs.declared.exploring.Explored.{Explored}
 use Rattle.l4_refusals.specs.Texts.{spelled}
 use Rattle.l4_orders.specs.Rules.{broken_rules}
@@ -32,6 +33,18 @@ count_result code count = record { refusal = code; count = count }
 -- the length of the text is returned, and as much of it as fits is written
 abbrev pub Writes : List ℕ → List ℕ → CountResult → List ℕ → Type 0
 Writes text old r new = (r ≡ count_result 0 (length text)) × (new ≡ written text old)
+
+-- the number of orders in decimal, or no text if the search ended early
+abbrev pub number_in : Searched → List ℕ
+number_in s = if is_ok s.explored.ended then numeral s.explored.orders else []
+
+-- the number is written, or memory ran out
+abbrev pub WritesNumber : Searched → List ℕ → CountResult → List ℕ → Type 0
+WritesNumber s old r new = Writes (number_in s) old r new ⊎ ((r ≡ count_result (spelled (codes "NoMemory")) 0) × (new ≡ old))
+
+abbrev pub TellsNumber : Option Searched → List ℕ → CountResult → List ℕ → Type 0
+TellsNumber None old r new = (r ≡ count_result (spelled (codes "B1")) 0) × (new ≡ old)
+TellsNumber (Some s) old r new = WritesNumber s old r new
 
 -- the answers of the outcome with this number, from 0, or no text if there is no such outcome
 abbrev pub answers_in : Searched → ℕ → List ℕ

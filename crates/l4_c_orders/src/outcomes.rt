@@ -1,6 +1,6 @@
 //! What a search found.
 ghost use Rattle.std.specs.Prelude.{◌≡◌, IfOk};
-ghost use Rattle.l4_c_orders.specs.Found.{found_result, no_found, count_result, answers_in, witness_in, broken_in, lines_in, Writes, WritesNumbers, TellsFound, TellsAnswers, WritesWitness, TellsWitness, WritesBroken, TellsBroken, WritesLines, TellsLines};
+ghost use Rattle.l4_c_orders.specs.Found.{found_result, no_found, count_result, number_in, answers_in, witness_in, broken_in, lines_in, Writes, WritesNumbers, TellsFound, WritesNumber, TellsNumber, TellsAnswers, WritesWitness, TellsWitness, WritesBroken, TellsBroken, WritesLines, TellsLines};
 
 use crate::handles::OrdersHandle;
 use l4_c_texts::write_text;
@@ -17,7 +17,7 @@ pub struct FoundResult {
     /// 1 if every order was followed; 2, 3 or 4 if the search ended early.
     pub ended: u32,
     pub outcomes: u64,
-    /// 0 if the search ended early.
+    /// 0 if the search ended early, and 2^64 - 1 if there are more orders.
     pub orders: u64,
     pub states: u64,
 }
@@ -83,6 +83,46 @@ fn write(text: &[u8], out: &mut [u8]) -> CountResult
     ensures { Writes text.now out.old result out.new }
 {
     counted(0, write_text(text, out) as u64)
+}
+
+/// Returns the number of orders in decimal, or no text if the search ended early.
+fn number_in(alloc: Global, search: &Searched) -> Result<Vec<u8>, AllocError>
+    ensures { IfOk result (λ text. text.items ≡ number_in search.now) }
+{
+    let mut text = Vec::new(alloc);
+    if search.explored.ended.is_ok() {
+        search.explored.orders.put_decimal(&mut text)?;
+    }
+    Ok(text)
+}
+
+/// Writes the number of orders in decimal.
+fn write_number(alloc: Global, search: &Searched, out: &mut [u8]) -> CountResult
+    ensures { WritesNumber search.now out.old result out.new }
+{
+    match number_in(alloc, search) {
+        Ok(text) => write(text.as_slice(), out),
+        Err(_) => counted(NO_MEMORY, 0),
+    }
+}
+
+/// Writes the number of orders in decimal, and returns the length of the text. It has no bytes if the search ended early. The refusals are B1 and
+/// NoMemory, in this order. Nothing is written after a refusal.
+#[unsafe(no_mangle)]
+pub extern "C" fn l4_orders_number(
+    alloc: Global,
+    handle: &mut OrdersHandle,
+    out: &mut [u8],
+) -> CountResult
+    ensures kept { handle.new.value ≡ handle.old.value }
+    ensures told { TellsNumber handle.old.value out.old result out.new }
+{
+    let Some(search) = handle.take(alloc) else {
+        return counted(EMPTY, 0);
+    };
+    let told = write_number(alloc, &search, out);
+    handle.put(search);
+    told
 }
 
 /// Returns the answers of the outcome with this number, or no text.
