@@ -193,15 +193,19 @@ uint32_t l4_version(void);
 #define L4_X1 UINT32_C(0x5831) /* the seat of this number (detail) was given out, but was not returned */
 #define L4_X2 UINT32_C(0x5832) /* the seat of this number (detail) was never given out, or was returned twice */
 #define L4_X3 UINT32_C(0x5833) /* the seat of this number (detail) does not match the lock's records */
+#define L4_S1 UINT32_C(0x5331) /* the command is unknown */
 #define L4_S2 UINT32_C(0x5332) /* the line has too few tokens, too many, or an invalid one */
 #define L4_S3 UINT32_C(0x5333) /* the line is longer than 4,096 bytes */
 #define L4_S4 UINT32_C(0x5334) /* the line does not end with a newline */
+#define L4_S5 UINT32_C(0x5335) /* the script already has 64 names */
 #define L4_O1 UINT32_C(0x4F31) /* a litmus test has one unordered line, and after it at most one finally line */
 #define L4_O2 UINT32_C(0x4F32) /* a query or a rule is allowed only after the finally line, and a name only before the unordered line */
 #define L4_O3 UINT32_C(0x4F33) /* after the finally line, only show, parent, reply, never and always are allowed */
 #define L4_O4 UINT32_C(0x4F34) /* steps is not allowed, because its answer depends on the whole order */
 #define L4_O5 UINT32_C(0x4F35) /* no line creates the thread (detail) whose call this is */
 #define L4_O6 UINT32_C(0x4F36) /* the litmus test has no unordered line */
+#define L4_O7 UINT32_C(0x4F37) /* no outcome can have the line that the rule names */
+#define L4_O8 UINT32_C(0x4F38) /* an expectation is not allowed in a litmus test: state a rule instead */
 #define L4_NO_MEMORY UINT32_C(0x4E6F) /* there was not enough memory */
 
 /* The same refusals by name. */
@@ -256,15 +260,19 @@ uint32_t l4_version(void);
 #define L4_SEAT_MISSING L4_X1
 #define L4_SEAT_FOREIGN L4_X2
 #define L4_SEAT_WRONG L4_X3
+#define L4_UNKNOWN_COMMAND L4_S1
 #define L4_BAD_LINE L4_S2
 #define L4_LONG_LINE L4_S3
 #define L4_CUT_LINE L4_S4
+#define L4_NAMES_FULL L4_S5
 #define L4_PART_REPEATED L4_O1
 #define L4_LINE_OF_NO_THREAD L4_O2
 #define L4_NOT_A_QUERY L4_O3
 #define L4_STEPS_IN_PLAN L4_O4
 #define L4_NEVER_CREATED L4_O5
 #define L4_NO_UNORDERED L4_O6
+#define L4_NO_SUCH_ANSWER L4_O7
+#define L4_EXPECTATION L4_O8
 
 /* Write the printed code of a refusal ("K1", "NoMemory"), or a line of text that explains it, to out. At most the first `room` - 1 bytes
  * are written, and a 0 after them; nothing is written if room is 0. Both functions return the length of the whole text without the 0. It is
@@ -961,7 +969,7 @@ typedef struct l4_orders {
     void *hidden;
 } l4_orders;
 
-/* The result of l4_orders_search. `line` is the number of the line, from 1, that is refused with S2 to S4 or with O1 to O5, and otherwise
+/* The result of l4_orders_search. `line` is the number of the line, from 1, that is refused with S1 to S5, O1 to O5, O7 or O8, and otherwise
  * 0. `detail` is the thread of O5. */
 typedef struct l4_searched {
     uint32_t refusal;
@@ -974,9 +982,9 @@ typedef struct l4_searched {
  *
  * The handle must be empty; it then owns the search, and you free it with l4_orders_free. Each outcome that was found is that of an order,
  * and none was found twice. Every order's outcome was found if l4_orders_found says so. After a refusal the handle is unchanged. Refusals
- * in this order: B2; K6; S2, S3, S4 or O1 to O4 for the first line that cannot be part of a litmus test; O6; O5 for the first line of a
- * thread that is neither there at boot nor created; NoMemory, or L1 if the script of an order fills the history. NoMemory may come
- * before any of those of the test. */
+ * in this order: B2; K6; S1 to S5, O1 to O4 or O8 for the first line that cannot be part of a litmus test; O6; O5 for the first line of a
+ * thread that is neither there at boot nor created; O7 for the first rule that names a line that no outcome can have; NoMemory, or L1 if the
+ * script of an order fills the history. NoMemory may come before any of those of the test. */
 l4_searched l4_orders_search(l4_orders *orders, uint32_t frames, const char *plan, size_t length, uint64_t most);
 
 /* Does the same as l4_orders_search for pages and frames of page_bytes bytes. B4 comes before every other refusal. */

@@ -848,11 +848,12 @@ static int refuses(const char *text, uint32_t refusal, uint64_t line, uint32_t d
 }
 
 static void bad_plans(void) {
-    EXPECT(refuses("unordered\nsned 1 2 0\n", L4_S2, 2, 0) && refuses("unordered\nrecv 2 any 0", L4_S4, 2, 0));
+    EXPECT(refuses("unordered\nsned 1 2 0\n", L4_S1, 2, 0) && refuses("unordered\nsend 1\n", L4_S2, 2, 0) && refuses("unordered\nrecv 2 any 0", L4_S4, 2, 0));
     EXPECT(refuses("unordered\n\nunordered\n", L4_O1, 3, 0) && refuses("finally\n", L4_O1, 1, 0));
     EXPECT(refuses("show 2 0 1\nunordered\n", L4_O2, 1, 0) && refuses("unordered\nfinally\nrecv 2 any 0\n", L4_O3, 3, 0));
     EXPECT(refuses("unordered\nfinally\nsteps\n", L4_O4, 3, 0) && refuses("unordered\nrecv 9 any 0\n", L4_O5, 2, 9));
     EXPECT(refuses("recv 2 any 0\n", L4_O6, 0, 0) && refuses("", L4_O6, 0, 0));
+    EXPECT(refuses("unordered\nfinally\nreply 2\nnever 2 wait\n", L4_O7, 4, 0) && refuses("#= 2 waits\nunordered\n", L4_O8, 1, 0));
 }
 
 static void orders_of_plans(void) {

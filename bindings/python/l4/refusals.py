@@ -56,7 +56,7 @@ class TooLong(Refused):
 
 
 class BadPlan(Refused):
-    """A script that is not a litmus test (S2 to S4, O1 to O6). `line` is the number of the refused line, from 1, or None if no line is
+    """A script that is not a litmus test (S1 to S5, O1 to O8). `line` is the number of the refused line, from 1, or None if no line is
     `unordered` (O6)."""
 
     line: Optional[int]

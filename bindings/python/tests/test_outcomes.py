@@ -68,7 +68,8 @@ class Outcomes(unittest.TestCase):
 class Refusals(unittest.TestCase):
     def test_lines_that_cannot_be_part_of_a_plan(self):
         for plan, code, line, detail in (
-            ("unordered\nsned 1 2 0\n", "S2", 2, None),
+            ("unordered\nsned 1 2 0\n", "S1", 2, None),
+            ("unordered\nsend 1\n", "S2", 2, None),
             ("unordered\nrecv 2 any 0", "S4", 2, None),
             (f"unordered\n#{'x' * 4096}\n", "S3", 2, None),
             ("unordered\nunordered\n", "O1", 2, None),
@@ -77,6 +78,9 @@ class Refusals(unittest.TestCase):
             ("unordered\nfinally\nsteps\n", "O4", 3, None),
             ("unordered\n\nrecv 9 any 0\n", "O5", 3, 9),
             ("recv 2 any 0\n", "O6", None, None),
+            ("unordered\nrecv 2 any 0\nfinally\nreply 2\nnever 2 wait\n", "O7", 5, None),
+            ("unordered\n#= 2 waits\n", "O8", 2, None),
+            ("".join(f"name n{number} 2\n" for number in range(65)) + "unordered\n", "S5", 65, None),
         ):
             with self.subTest(plan[:40]), self.assertRaises(BadPlan) as raised:
                 orders(plan)

@@ -123,15 +123,19 @@ refusals! {
     SeatMissing(u32) = L4_X1 "X1" "the seat of this number was given out, but was not returned";
     SeatForeign(u32) = L4_X2 "X2" "the seat of this number was never given out, or was returned twice";
     SeatWrong(u32) = L4_X3 "X3" "the seat of this number does not match the lock's records";
+    UnknownCommand = L4_S1 "S1" "the command is unknown";
     BadLine = L4_S2 "S2" "the line has too few tokens, too many, or an invalid one";
     LongLine = L4_S3 "S3" "the line is longer than 4,096 bytes";
     CutLine = L4_S4 "S4" "the line does not end with a newline";
+    NamesFull = L4_S5 "S5" "the script already has 64 names";
     PartRepeated = L4_O1 "O1" "a litmus test has one unordered line, and after it at most one finally line";
     LineOfNoThread = L4_O2 "O2" "a query or a rule is allowed only after the finally line, and a name only before the unordered line";
     NotAQuery = L4_O3 "O3" "after the finally line, only show, parent, reply, never and always are allowed";
     StepsInPlan = L4_O4 "O4" "steps is not allowed, because its answer depends on the whole order";
     NeverCreated(u32) = L4_O5 "O5" "no line creates the thread whose call this is";
     NoUnordered = L4_O6 "O6" "the litmus test has no unordered line";
+    NoSuchAnswer = L4_O7 "O7" "no outcome can have the line that the rule names";
+    Expectation = L4_O8 "O8" "an expectation is not allowed in a litmus test: state a rule instead";
     NoMemory = L4_NO_MEMORY "NoMemory" "there was not enough memory";
 }
 

@@ -42,7 +42,7 @@ fn texts(
     explored: &Explored,
 ) -> Result<(Vec<u8>, Vec<u8>), AllocError> {
     let summary = summary_text(alloc, explored)?;
-    let rules = rules_text(alloc, plan, explored.found.as_slice())?;
+    let rules = rules_text(alloc, plan, false, explored.found.as_slice())?;
     Ok((summary, rules))
 }
 

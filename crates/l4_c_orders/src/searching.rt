@@ -40,7 +40,7 @@ fn fill(
 }
 
 /// Searches all orders of a plan on a new kernel with this number of frames and with pages of 4,096 bytes, and visits at most `most` states.
-/// The refusals are B2, K6, those of the text (S2 to S4, O1 to O6), NoMemory and L1, in this order.
+/// The refusals are B2, K6, those of the text (S1 to S5, O1 to O8), NoMemory and L1, in this order.
 #[unsafe(no_mangle)]
 pub extern "C" fn l4_orders_search(
     alloc: Global,

@@ -293,26 +293,38 @@ A line belongs to the thread that makes its call: root (2) for thread, setpager 
 delete, and P for region P and serve P. A thread runs its next line, with all steps
 and acts of served threads that follow, unless it waits or does not exist. Only
 show, parent, reply, never and always are allowed after 'finally', and none of them
-before it. 'never ANSWER' states that no outcome has this line, and 'always ANSWER'
-that every outcome has it. 'l4 run' executes a litmus test in the order in which it
-is written, and checks no rule.
+before it. 'l4 run' executes a litmus test in the order in which it is written, and
+checks no rule. Rules:
 
-With --dot, prints the graph of the states in the DOT language of Graphviz. An arrow
-without a line leads to the state at 'unordered'. Every other edge has the number of
-the line that a thread executes, and leads to the state after it. A state with a
-double border ends an order, and names its outcome. The first comment is the summary.
-If not every order was followed, no state is printed. The exit status is as without
---dot.
+  never ANSWER               no outcome has this line
+  always ANSWER              every outcome has this line
+  never * waits              no thread waits at the end of an order
+  never deadlock             no thread waits at the end of an order, or has lines
+                             left
 
-  l4 orders --dot FILE | dot -Tsvg > states.svg
+In a rule, a thread's name stands for its number. ANSWER must be a line that an
+outcome can have. Behind 'waits' and 'deadlock', 'may-wait N ..' names threads that
+may wait, and have lines left. These two rules query the replies of all threads that
+have lines or that a line creates.
 
 The first line can be '#!' and the options --frames and --page-size. An option of the
 command line takes precedence. A line before 'unordered' that is refused ends the
 command with status 2, unless --lenient is given. --witness K exits with 0 even if a
 rule is broken.
 
-A line that cannot be part of a litmus test has one of these codes, or S2, S3 or S4
-(see l4 --help):
+With --dot, prints the graph of the states in the DOT language of Graphviz. An arrow
+without a line leads to the state at 'unordered'. Every other edge has the line that
+a thread executes, with its number, and leads to the state after it. A state with a
+double border ends an order, and names its outcome. The first comment is the summary,
+and the second one has the rules that are broken. If not every order was followed, no
+state is printed. The exit status is as without --dot.
+
+With --explain, prints the lines of each order, and not only their numbers.
+
+  l4 orders --dot FILE | dot -Tsvg > states.svg
+
+A line that cannot be part of a litmus test has one of these codes, or S1 to S5 (see
+l4 --help):
 
   O1    a litmus test has one unordered line, and after it at most one finally
         line
@@ -323,6 +335,8 @@ A line that cannot be part of a litmus test has one of these codes, or S2, S3 or
   O4    steps is not allowed, because its answer depends on the whole order
   O5    no line creates the thread whose call this is
   O6    the litmus test has no unordered line
+  O7    no outcome can have the line that the rule names
+  O8    an expectation is not allowed in a litmus test: state a rule instead
 
 Exit status: 0 if every order was followed and no rule is broken, 1 otherwise, 2 if
 the command line or a line of the test is invalid or FILE cannot be opened, 3 if a

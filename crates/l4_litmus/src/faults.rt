@@ -20,6 +20,8 @@ const FULL: u8 = 1;
 pub enum TestFault {
     /// A line before `unordered` is refused, or a line cannot be read, for this reason.
     Refused(Reason),
+    /// No outcome can have the line that a rule names: the token that is wrong, and what is expected.
+    Impossible(Reason),
     /// The line of this number cannot be part of a litmus test.
     Malformed(u64, LineFault),
     /// O6: there is no line `unordered`.
@@ -28,14 +30,8 @@ pub enum TestFault {
     Stopped(RunFault),
 }
 
-/// The code of a line that cannot be read.
-const UNREAD: &[u8] = b"S2";
-
 /// Returns what a code means of a line of a litmus test.
 fn words_of(code: &[u8]) -> &'static str {
-    if code == UNREAD {
-        return "the line is not a command, or has too few tokens, too many, or an invalid one";
-    }
     str::from_utf8(text_of(number_of(code)).line).unwrap_or("")
 }
 
@@ -59,6 +55,10 @@ impl Display for TestFault {
     fn fmt<W: fmt::Write>(&self, f: &mut Formatter<W>) -> fmt::Result {
         match self {
             TestFault::Refused(reason) => write!(f, "{reason}"),
+            TestFault::Impossible(reason) => write!(
+                f,
+                "{reason}; no outcome can have this line (O7)"
+            ),
             TestFault::Malformed(number, fault) => write!(f, "line {number}: {}", Coded(*fault)),
             TestFault::NoUnordered => {
                 let words = words_of(b"O6");

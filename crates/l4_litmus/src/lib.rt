@@ -6,6 +6,7 @@ mod first_line;
 mod ordered;
 mod progress;
 mod reading;
+mod rules;
 mod statuses;
 
 pub use faults::{TestFault, not_searched, report_fault};

@@ -9,9 +9,10 @@ use crate::first_line::{WRONG_OPTIONS, options_line, options_of};
 use crate::progress::Progress;
 use crate::reading::read_test;
 use crate::statuses::ruled_status;
+use l4_graphs::graph_text;
 use l4_options::{OrdersOptions, ScriptOptions};
 use l4_orders::{
-    Explored, Plan, graph_text, orders_text, rules_text, watched_orders, witness_text,
+    Explored, OrderStyle, Plan, orders_text, rules_text, watched_orders, witness_text,
 };
 use l4_programs::{NOT_UNDERSTOOD, WatchedReader, WatchedWriter, stopped};
 use l4_text::RunFault;
@@ -31,10 +32,10 @@ fn found_text(
     alloc: Global,
     plan: &Plan,
     explored: &Explored,
-    brief: bool,
+    style: OrderStyle,
 ) -> Result<Vec<u8>, AllocError> {
-    let mut text = orders_text(alloc, plan, explored, brief)?;
-    let broken = rules_text(alloc, plan, explored.found.as_slice())?;
+    let mut text = orders_text(alloc, plan, explored, style)?;
+    let broken = rules_text(alloc, plan, style.explain, explored.found.as_slice())?;
     text.extend_from_slice(broken.as_slice())?;
     Ok(text)
 }
@@ -89,9 +90,13 @@ fn print_found<R: AllocGlobal + Print>(
         return print_witness(rt, plan, explored, number);
     }
     let text = if asked.dot {
-        graph_text(rt.alloc(), explored)
+        graph_text(rt.alloc(), plan, explored)
     } else {
-        found_text(rt.alloc(), plan, explored, asked.brief)
+        let style = OrderStyle {
+            brief: asked.brief,
+            explain: asked.explain,
+        };
+        found_text(rt.alloc(), plan, explored, style)
     };
     print_text(rt, text)
 }

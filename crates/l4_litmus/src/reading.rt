@@ -3,6 +3,7 @@ ghost use Rattle.std.specs.Prelude.{◌≤◌};
 ghost use Rattle.l4_options.specs.Ranges.{IsFrameCount};
 
 use crate::faults::{TestFault, refusal_fault};
+use crate::rules::rule_reason;
 use l4_answers::{first_line, later_lines};
 use l4_fpage::PageSize;
 use l4_options::ScriptOptions;
@@ -35,7 +36,7 @@ fn put_alone(text: &[u8], number: u64, out: &mut Vec<u8>) -> Result<(), AllocErr
 
 /// Returns why the line of this number cannot be read: the token that is wrong, and what is expected. Lines before it give the names that it
 /// may use.
-fn unread(alloc: Global, size: PageSize, text: &[u8], number: u64) -> TestFault {
+fn unread(alloc: Global, size: PageSize, text: &[u8], number: u64, fault: LineFault) -> TestFault {
     let mut alone = Vec::new(alloc);
     if put_alone(text, number, &mut alone).is_err() {
         return TestFault::Stopped(RunFault::Memory);
@@ -43,8 +44,32 @@ fn unread(alloc: Global, size: PageSize, text: &[u8], number: u64) -> TestFault 
     let mut reader = alone.as_slice();
     match first_refusal(alloc, 1, size, &mut reader) {
         Ok(Some(refusal)) => refusal_fault(refusal),
-        Ok(None) => TestFault::Malformed(number, LineFault::Unread),
+        Ok(None) => TestFault::Malformed(number, fault),
         Err(fault) => TestFault::Stopped(fault),
+    }
+}
+
+/// Returns why this text is no litmus test.
+fn fault_of(alloc: Global, size: PageSize, text: &[u8], fault: PlanFault) -> TestFault {
+    match fault {
+        PlanFault::Malformed(number, LineFault::Unknown) => unread(
+            alloc,
+            size,
+            text,
+            number,
+            LineFault::Unknown,
+        ),
+        PlanFault::Malformed(number, LineFault::Unread) => unread(
+            alloc,
+            size,
+            text,
+            number,
+            LineFault::Unread,
+        ),
+        PlanFault::Malformed(number, LineFault::NoAnswer) => TestFault::Impossible(rule_reason(
+            size, text, number,
+        )),
+        other => TestFault::from(other),
     }
 }
 
@@ -89,10 +114,7 @@ pub fn read_test(
     let mut reader = text;
     let plan = match read_plan(alloc, script.size, &mut reader) {
         Ok(plan) => plan,
-        Err(PlanFault::Malformed(number, LineFault::Unread)) => {
-            return Err(unread(alloc, script.size, text, number));
-        }
-        Err(fault) => return Err(TestFault::from(fault)),
+        Err(fault) => return Err(fault_of(alloc, script.size, text, fault)),
     };
     if !lenient {
         check_setup(alloc, script, &plan, text)?;

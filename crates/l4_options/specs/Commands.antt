@@ -88,7 +88,7 @@ test_command = command (codes "test") (needed_words (codes "files") ∷ switch (
 
 abbrev pub orders_command : Shape
 orders_command = command (codes "orders") (
-    script_rules (option (codes "most") ∷ option (codes "witness") ∷ switch (codes "outcomes") ∷ switch (codes "dot") ∷ switch (codes "lenient") ∷ []))
+    script_rules (option (codes "most") ∷ option (codes "witness") ∷ switch (codes "outcomes") ∷ switch (codes "dot") ∷ switch (codes "explain") ∷ switch (codes "lenient") ∷ []))
 
 -- the commands of l4
 abbrev pub l4_commands : List Shape
@@ -149,7 +149,8 @@ Asks name found (Test files tap write lenient) =
 Asks name found (Orders asked) =
     (name ≡ codes "orders") × IsScriptIn found asked.test × IsCountAt found (codes "most") asked.most
     × IsChosenAt found (codes "witness") asked.witness
-    × (asked.brief ≡ is_on found (codes "outcomes")) × (asked.dot ≡ is_on found (codes "dot")) × (asked.lenient ≡ is_on found (codes "lenient"))
+    × (asked.brief ≡ is_on found (codes "outcomes")) × (asked.dot ≡ is_on found (codes "dot"))
+    × (asked.explain ≡ is_on found (codes "explain")) × (asked.lenient ≡ is_on found (codes "lenient"))
     × (asked.has_frames ≡ is_some (first_of (codes "frames") found)) × (asked.has_size ≡ is_some (first_of (codes "page-size") found))
     × (asked.dot && is_some asked.witness ≡ false) × (asked.dot && asked.brief ≡ false)
 Asks name found (Show text) = ⊥

@@ -57,6 +57,16 @@ fn dot_option<'a>(alloc: Global) -> Arg<'a>
         .action(ArgAction::SetTrue)
 }
 
+/// The option `--explain`.
+fn explain_option<'a>(alloc: Global) -> Arg<'a>
+    ensures { IsRule (switch (codes "explain")) result }
+{
+    Arg::new(alloc, "explain")
+        .long("explain")
+        .help("Print the lines of each order, and not only their numbers")
+        .action(ArgAction::SetTrue)
+}
+
 /// The option `--lenient`.
 fn lenient_option<'a>(alloc: Global) -> Arg<'a>
     ensures { IsRule (switch (codes "lenient")) result }
@@ -81,6 +91,7 @@ pub(crate) fn of_orders<'a>(alloc: Global) -> Result<Command<'a>, AllocError>
         .arg(witness_option(alloc))?
         .arg(outcomes_option(alloc))?
         .arg(dot_option(alloc))?
+        .arg(explain_option(alloc))?
         .arg(lenient_option(alloc))
 }
 
@@ -131,6 +142,7 @@ pub(crate) fn orders_options(
             witness,
             brief,
             dot,
+            explain: is_on(matches, "explain"),
             lenient: is_on(matches, "lenient"),
             has_frames: text_of(matches, "frames").is_some(),
             has_size: text_of(matches, "page-size").is_some(),

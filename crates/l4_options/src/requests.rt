@@ -28,7 +28,7 @@ pub struct JudgeOptions {
 }
 
 /// A litmus test whose orders are searched, after visiting at most this many states. Prints every outcome that some order of the threads'
-/// calls can have, without the orders if `brief`; or only the script that produces outcome `witness`, if there is one; or the graph of the
+/// calls can have, without the orders if `brief`, and with the lines of orders if `explain`; or only the script that produces outcome `witness`, if there is one; or the graph of the
 /// states if `dot`; then `witness` and `brief` are not set. If `lenient`, a line before `unordered` may be refused. `has_frames` and `has_size`
 /// say whether the command line has the number of frames and their size.
 #[derive(Debug, Drop)]
@@ -40,6 +40,7 @@ pub struct OrdersOptions {
     pub witness: Option<u32>,
     pub brief: bool,
     pub dot: bool,
+    pub explain: bool,
     pub lenient: bool,
 }
 

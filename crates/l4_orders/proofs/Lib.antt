@@ -9,10 +9,11 @@ pub mod InTurn
 pub mod Stepping
 pub mod Sticking
 pub mod Adding
-pub mod Ruling
-pub mod Placing
 pub mod Rising
 pub mod Asking
 pub mod Naming
 pub mod Unique
 pub mod Filled
+pub mod Mapped
+pub mod Replies
+pub mod Completing

@@ -1,6 +1,7 @@
 -- The lines of a plan that was read: those of threads give no names, and the last ones are queries and rules.
 use Rattle.std.proofs.Common.{◌≡◌, ℕ, ◌+◌, ◌==◌, Bool, true, false, if◌then◌else◌, List, [], ◌∷◌, ◌++◌, Option, Some, None, Result, Ok, Err, is_ok, refl, sym, ap, subst, ◌∙◌}
 use Rattle.std.proofs.lemmas.Bool.{false≢true}
+use Rattle.std.specs.Option.{option_map_or}
 use Rattle.l4_fpage.specs.declared.sizes.PageSize.{PageSize}
 use Rattle.l4_names.specs.Names.{Names, after_giving}
 use Rattle.l4_text.specs.Grammar.{TextLine, ending_of}
@@ -16,7 +17,7 @@ use Rattle.l4_orders.specs.declared.parts.LineFault.{LineFault}
 use Rattle.l4_orders.specs.declared.parts.LineFault.TheVariants.{Long, Cut, Unread as NotRead, Repeated, OfNoThread, NoQuery, Steps}
 use Rattle.l4_orders.specs.declared.parts.Part.{Part}
 use Rattle.l4_orders.specs.declared.parts.Part.TheVariants.{First, Unordered as Free, Finally as Last}
-use Rattle.l4_orders.specs.Reading.{Line, Group, Parts, no_parts, with_line, with_first, add_call, add_naming, add_query, begin_free, begin_last, add_line, take_line, AreRead}
+use Rattle.l4_orders.specs.Reading.{Line, Group, Parts, no_parts, with_line, with_first, add_call, add_naming, add_query, begin_free, begin_last, add_line, early_fault, take_asked, take_line, AreRead}
 use Rattle.l4_orders.proofs.Asking.{IsAsked}
 
 -- WHAT HOLDS OF EACH LINE
@@ -29,7 +30,7 @@ abbrev pub AllGroups : (List ℕ → Type 0) → List Group → Type 0
 AllGroups P [] = Unit {0}
 AllGroups P (group ∷ groups) = AllLines P group.lines × AllGroups P groups
 
-lines_push : (P : List ℕ → Type 0) (lines : List Line) (line : Line) → AllLines P lines → P line.bytes → AllLines P (lines ++ line ∷ [])
+pub lines_push : (P : List ℕ → Type 0) (lines : List Line) (line : Line) → AllLines P lines → P line.bytes → AllLines P (lines ++ line ∷ [])
 lines_push P [] line all one = (one, tt)
 lines_push P (l ∷ lines) line all one = (all.0, lines_push P lines line all.1 one)
 
@@ -197,8 +198,13 @@ is_short bytes false e = absurd (not_whole e) where
   not_whole : IsCut ≡ Whole → ⊥
   not_whole same = subst IsNotWhole same tt
 
+not_early : (early : Option LineFault) (due : Result Parts LineFault) (q : Parts) → option_map_or (λ fault. Err fault) early due ≡ Ok q → due ≡ Ok q
+not_early None due q e = e
+not_early (Some fault) due q e = absurd (is_refused fault q e)
+
 taken_sorted : (ending : Ending) (size : PageSize) (p q : Parts) (number : ℕ) (bytes : List ℕ) → IsSorted size p → (ending ≡ Whole → IsShort bytes) → take_line size p number ending bytes ≡ Ok q → IsSorted size q
-taken_sorted Whole size p q number bytes s short e = asked_sorted (asked_at size p.names Whole bytes) size p q (record { number = number; bytes = bytes }) refl s (short refl) e
+taken_sorted Whole size p q number bytes s short e = asked_sorted (asked_at size p.names Whole bytes) size p q (record { number = number; bytes = bytes }) refl s (short refl)
+    (not_early (early_fault size p.names bytes) (take_asked size p (record { number = number; bytes = bytes })) q e)
 taken_sorted TooLong size p q number bytes s short e = absurd (is_refused Long q e)
 taken_sorted IsCut size p q number bytes s short e = absurd (is_refused Cut q e)
 

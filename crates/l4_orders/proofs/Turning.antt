@@ -7,6 +7,7 @@ use Rattle.l4_merges.specs.declared.found.Found.{Found}
 use Rattle.l4_orders.specs.declared.plans.Block.{Block}
 use Rattle.l4_orders.specs.declared.plans.Plan.{Plan}
 use Rattle.l4_orders.specs.declared.plans.PlanLine.{PlanLine}
+use Rattle.l4_orders.specs.declared.telling.OrderStyle.{OrderStyle}
 use Rattle.l4_orders.specs.Plans.{gone_after, line_at, gone_with}
 use Rattle.l4_orders.specs.Telling.{lines_from, outcome_text, outcomes_text}
 
@@ -88,21 +89,21 @@ counted r next now place good is = ok_of r good is
 
 -- OUTCOMES
 
-pub outcomes_more : (plan : Plan) (brief : Bool) (number : ℕ) (found : List Found) (one : Found)
-    → outcomes_text plan brief number (found ++ one ∷ []) ≡ outcomes_text plan brief number found ++ outcome_text plan brief (number + length found) one
-outcomes_more plan brief number [] one = append-nil (outcome_text plan brief number one) ∙ ap (λ (n : ℕ). outcome_text plan brief n one) (let same : number ≡ number + 0 = omega arith in same)
-outcomes_more plan brief number (f ∷ found) one =
-    ap (λ (t : List ℕ). outcome_text plan brief number f ++ t)
-    (outcomes_more plan brief (number + 1) found one ∙ ap (λ (n : ℕ). outcomes_text plan brief (number + 1) found ++ outcome_text plan brief n one)
+pub outcomes_more : (plan : Plan) (style : OrderStyle) (number : ℕ) (found : List Found) (one : Found)
+    → outcomes_text plan style number (found ++ one ∷ []) ≡ outcomes_text plan style number found ++ outcome_text plan style (number + length found) one
+outcomes_more plan style number [] one = append-nil (outcome_text plan style number one) ∙ ap (λ (n : ℕ). outcome_text plan style n one) (let same : number ≡ number + 0 = omega arith in same)
+outcomes_more plan style number (f ∷ found) one =
+    ap (λ (t : List ℕ). outcome_text plan style number f ++ t)
+    (outcomes_more plan style (number + 1) found one ∙ ap (λ (n : ℕ). outcomes_text plan style (number + 1) found ++ outcome_text plan style n one)
     (let same : number + 1 + length found ≡ number + length (f ∷ found) = omega arith in same))
-    ∙ sym (append_assoc (outcome_text plan brief number f) (outcomes_text plan brief (number + 1) found) (outcome_text plan brief (number + length (f ∷ found)) one))
+    ∙ sym (append_assoc (outcome_text plan style number f) (outcomes_text plan style (number + 1) found) (outcome_text plan style (number + length (f ∷ found)) one))
 
-pub outcomes_next : (plan : Plan) (brief : Bool) (found : List Found) (i : ℕ) (one : Found) (number : ℕ) (out before after : List ℕ) → i < length found → one ≡ get_or found i one → number ≡ i + 1
-    → before ≡ out ++ outcomes_text plan brief 1 (take i found) → after ≡ before ++ outcome_text plan brief number one → after ≡ out ++ outcomes_text plan brief 1 (take (i + 1) found)
-outcomes_next plan brief found i one number out before after lt item number_is is added =
+pub outcomes_next : (plan : Plan) (style : OrderStyle) (found : List Found) (i : ℕ) (one : Found) (number : ℕ) (out before after : List ℕ) → i < length found → one ≡ get_or found i one → number ≡ i + 1
+    → before ≡ out ++ outcomes_text plan style 1 (take i found) → after ≡ before ++ outcome_text plan style number one → after ≡ out ++ outcomes_text plan style 1 (take (i + 1) found)
+outcomes_next plan style found i one number out before after lt item number_is is added =
     let count : number ≡ 1 + length (take i found) = omega (arith, number_is, length-take-le i found (omega (arith, lt))) in
-    added ∙ ap (λ (t : List ℕ). t ++ outcome_text plan brief number one) is ∙ append_assoc out (outcomes_text plan brief 1 (take i found)) (outcome_text plan brief number one)
+    added ∙ ap (λ (t : List ℕ). t ++ outcome_text plan style number one) is ∙ append_assoc out (outcomes_text plan style 1 (take i found)) (outcome_text plan style number one)
     ∙ ap (λ (t : List ℕ). out ++ t)
-    (ap (λ (n : ℕ). outcomes_text plan brief 1 (take i found) ++ outcome_text plan brief n one) count
-    ∙ sym (outcomes_more plan brief 1 (take i found) one)
-    ∙ ap (λ (l : List Found). outcomes_text plan brief 1 l) (sym (take_more found i one lt ∙ ap (λ (x : Found). take i found ++ x ∷ []) (sym item))))
+    (ap (λ (n : ℕ). outcomes_text plan style 1 (take i found) ++ outcome_text plan style n one) count
+    ∙ sym (outcomes_more plan style 1 (take i found) one)
+    ∙ ap (λ (l : List Found). outcomes_text plan style 1 l) (sym (take_more found i one lt ∙ ap (λ (x : Found). take i found ++ x ∷ []) (sym item))))

@@ -25,10 +25,13 @@ use Rattle.l4_orders.specs.declared.plans.Plan.{Plan}
 use Rattle.l4_orders.specs.declared.plans.PlanLine.{PlanLine}
 use Rattle.l4_orders.specs.Orders.{IsStart, OneOutcome}
 use Rattle.l4_orders.specs.Plans.{line_in, next_of}
-use Rattle.l4_orders.specs.Reading.{Line, Group, Parts, lines_in, groups_in, IsPlanOf, IsRead}
+use Rattle.l4_orders.specs.Reading.{Line, Group, Parts, lines_in, groups_in}
+use Rattle.l4_orders.specs.Possible.{threads_of}
+use Rattle.l4_orders.specs.Whole.{IsPlanOf, IsRead}
 use Rattle.l4_orders.specs.Turns.{PlanPoint, AnswersInTurn, may_turn, Turns, HasOutcome, line_of}
 use Rattle.l4_orders.proofs.Asking.{AreAsked, one_outcome}
 use Rattle.l4_orders.proofs.Naming.{AllLines, AllGroups, names_through, IsShort, GivesNone, Asks, IsSorted, file_sorted}
+use Rattle.l4_orders.proofs.Replies.{all_ask}
 
 -- ONE LINE
 
@@ -129,9 +132,10 @@ pub one_end : OneOutcome
 one_end frames size plan start read starts order end run outcome other x y =
     let is : IsPlanOf size read.0 plan = read.1 in
     let s : IsSorted size is.parts = file_sorted size is.parts read.0 is.read in
-    let at : IsOf size plan is.parts.names end = run_of size plan is.parts.names start end order (subst (AllGroups (GivesNone size is.parts.names)) (sym is.groups) s.groups)
-    (start_of frames size plan start is.parts is.first s starts) run in
-    let asked : AreAsked size is.parts.names plan.queries.items = asked_in size is.parts.names plan.queries.items (subst (AllLines (Asks size is.parts.names)) (sym is.queries) s.queries) in
+    let at : IsOf size plan is.parts.names end = run_of size plan is.parts.names start end order (subst (AllGroups (GivesNone size is.parts.names)) (sym is.has.groups) s.groups)
+    (start_of frames size plan start is.parts is.has.first s starts) run in
+    let asked : AreAsked size is.parts.names plan.queries.items = asked_in size is.parts.names plan.queries.items (subst (AllLines (Asks size is.parts.names)) (sym is.has.queries)
+    (all_ask size is.parts.names is.parts.queries (threads_of is.parts.created plan.blocks.items) s.queries)) in
     one_outcome end outcome other
     (subst (λ (p : PageSize × Names × Plan). AreAsked p.0 p.1 p.2.queries.items) (λ i. (sym at.machine i, sym at.names_are i, sym at.plan_is i)) asked) x y
 

@@ -6,11 +6,12 @@ use Rattle.l4_text.specs.Grammar.{TextLine, lines_of, ending_of}
 use Rattle.l4_text.specs.declared.faults.RunFault.TheVariants.{Read, Write, Memory}
 use Rattle.l4_text.specs.declared.lines.Ending.TheVariants.{Cut as IsCut}
 use Rattle.l4_orders.specs.declared.parts.LineFault.{LineFault}
-use Rattle.l4_orders.specs.declared.parts.LineFault.TheVariants.{NoThread}
+use Rattle.l4_orders.specs.declared.parts.LineFault.TheVariants.{NoThread, NoAnswer}
 use Rattle.l4_orders.specs.declared.parts.PlanFault.{PlanFault}
 use Rattle.l4_orders.specs.declared.parts.PlanFault.TheVariants.{Stopped, Malformed, NoUnordered}
 use Rattle.l4_orders.specs.declared.plans.Plan.{Plan}
-use Rattle.l4_orders.specs.Reading.{Group, Parts, no_parts, take_line, is_known, AreKnown, AreRead, HasBegun, first_number, IsPlanOf}
+use Rattle.l4_orders.specs.Reading.{Group, Parts, no_parts, take_line, is_known, AreKnown, AreRead, HasBegun, first_number}
+use Rattle.l4_orders.specs.Whole.{HasParts, IsImpossible, IsPlanOf}
 
 -- of the lines that were read, the first ones have these parts, and others follow
 pub record ReadsFirst (size : PageSize) (old new : Option (List ℕ)) : Type 0 where
@@ -48,9 +49,10 @@ pub record IsUnknown (created : List ℕ) (groups : List Group) (number thread :
   pub thread_is : thread ≡ group.thread
 
 -- why a file with these lines is not a plan: its first line that cannot be part of one; or no line is `unordered`; or the first line of a
--- thread that neither is there at boot nor is created
+-- thread that neither is there at boot nor is created; or the first rule that names an answer that no outcome can have
 abbrev pub FailsPlan : PageSize → Option (List ℕ) → Option (List ℕ) → PlanFault → Type 0
 FailsPlan size old new (Malformed number (NoThread thread)) = (a : ReadsAll size old new) × HasBegun a.parts.part × IsUnknown a.parts.created a.parts.groups number thread
+FailsPlan size old new (Malformed number NoAnswer) = (a : ReadsAll size old new) × (plan : Plan) × HasParts size a.parts plan × IsImpossible size a.parts plan number
 FailsPlan size old new (Malformed number fault) =
     (a : ReadsFirst size old new) × (number ≡ 1 + length a.lines) × FailsNext size new a.parts number a.later fault
 FailsPlan size old new NoUnordered = (a : ReadsAll size old new) × (HasBegun a.parts.part → ⊥)

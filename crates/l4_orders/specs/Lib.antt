@@ -2,8 +2,9 @@ pub mod Plans
 pub mod Turns
 pub mod Orders
 pub mod Reading
+pub mod Possible
+pub mod Whole
 pub mod Codes
-pub mod Drawing
 pub mod Files
 pub mod Telling
 pub mod Rules

@@ -13,7 +13,7 @@ use Rattle.l4_merges.specs.Orders.{IsRun, IsOrder, IsFound, IsSound, AreDistinct
 use Rattle.l4_orders.specs.declared.plans.Plan.{Plan}
 use Rattle.l4_orders.specs.Words.{HasWords}
 use Rattle.l4_orders.specs.Plans.{none_gone}
-use Rattle.l4_orders.specs.Reading.{IsRead}
+use Rattle.l4_orders.specs.Whole.{IsRead}
 use Rattle.l4_orders.specs.Witnesses.{IsWitness}
 use Rattle.l4_orders.specs.Turns.{PlanPoint, point, AnswersInTurn, may_turn, Turns, next_line, HasOutcome}
 

@@ -1,21 +1,27 @@
 -- What a file says as a plan (this profile's own).
-use Rattle.std.specs.Prelude.{◌≡◌, ℕ, ◌+◌, ◌==◌, ◌||◌, Bool, true, if◌then◌else◌, List, [], ◌∷◌, ◌++◌, map, Result, Ok, Err}
+use Rattle.std.specs.Prelude.{◌≡◌, ℕ, ◌+◌, ◌==◌, ◌||◌, Bool, true, if◌then◌else◌, is_some, Option, Some, None, List, [], ◌∷◌, ◌++◌, map, Result, Ok, Err}
 use Rattle.std.specs.List.{list_any}
+use Rattle.std.specs.Option.{option_map_or}
 use Rattle.l4_fpage.specs.declared.sizes.PageSize.{PageSize}
-use Rattle.l4_names.specs.Names.{Names}
+use Rattle.l4_names.specs.Names.{Names, given}
 use Rattle.l4_text.specs.Grammar.{TextLine, ending_of}
 use Rattle.l4_text.specs.declared.lines.Ending.{Ending}
 use Rattle.l4_text.specs.declared.lines.Ending.TheVariants.{Whole, Long, Cut}
 use Rattle.l4_commands.specs.Calls.{root}
 use Rattle.l4_commands.specs.LineKinds.{kind_of, names_by}
-use Rattle.l4_commands.specs.Requests.{asked_at}
+use Rattle.l4_commands.specs.Requests.{asked_at, Unread as AnUnread}
+use Rattle.l4_commands.specs.declared.commands.ScriptFault.{ScriptFault}
+use Rattle.l4_commands.specs.declared.commands.ScriptFault.TheVariants.{UnknownCommand}
+use Rattle.l4_commands.specs.declared.requests.Request.{Request}
+use Rattle.l4_commands.specs.declared.requests.Request.TheVariants.{GiveName}
+use Rattle.l4_expectations.specs.Expectations.{is_marked}
 use Rattle.l4_commands.specs.declared.line_kinds.LineKind.{LineKind}
 use Rattle.l4_commands.specs.declared.line_kinds.LineKind.TheVariants.{Silent, Unread, OfThread, Creates, Names as GivesName, Query, Steps, Unordered, Finally}
 use Rattle.l4_orders.specs.declared.plans.Block.{Block}
 use Rattle.l4_orders.specs.declared.plans.Plan.{Plan}
 use Rattle.l4_orders.specs.declared.plans.PlanLine.{PlanLine}
 use Rattle.l4_orders.specs.declared.parts.LineFault.{LineFault}
-use Rattle.l4_orders.specs.declared.parts.LineFault.TheVariants.{Long as TooLong, Cut as CutOff, Unread as NotRead, Repeated, OfNoThread, NoQuery, Steps as AsksSteps}
+use Rattle.l4_orders.specs.declared.parts.LineFault.TheVariants.{Long as TooLong, Cut as CutOff, Unknown, Unread as NotRead, NamesFull, Repeated, OfNoThread, NoQuery, Steps as AsksSteps, Expectation}
 use Rattle.l4_orders.specs.declared.parts.Part.{Part}
 use Rattle.l4_orders.specs.declared.parts.Part.TheVariants.{First, Unordered as Free, Finally as Last}
 
@@ -93,10 +99,32 @@ add_line Steps p line = Err AsksSteps
 add_line Unordered p line = begin_free p.part p
 add_line Finally p line = begin_last p.part p
 
--- the same by what the line asks for, where threads have the names so far
-abbrev pub take_whole : PageSize → Parts → Line → Result Parts LineFault
-take_whole size p line =
+-- a name may be given while there are fewer than 64, or again
+abbrev pub fault_in : Names → Request → Option LineFault
+fault_in names (GiveName name number) = if is_some (given names name number) then None else Some NamesFull
+fault_in names request = None
+
+-- why a line that asks for this can be part of no test, whatever lines are around it
+abbrev pub unread_fault : ScriptFault → LineFault
+unread_fault UnknownCommand = Unknown
+unread_fault fault = NotRead
+
+abbrev pub asked_fault : Names → Result (Option Request) AnUnread → Option LineFault
+asked_fault names (Ok None) = None
+asked_fault names (Ok (Some request)) = fault_in names request
+asked_fault names (Err unread) = Some (unread_fault unread.fault)
+
+-- an expectation (`#=`) has no place in a test
+abbrev pub early_fault : PageSize → Names → List ℕ → Option LineFault
+early_fault size names bytes = if is_marked bytes then Some Expectation else asked_fault names (asked_at size names Whole bytes)
+
+-- the parts with one line more, by what the line asks for, where threads have the names so far
+abbrev pub take_asked : PageSize → Parts → Line → Result Parts LineFault
+take_asked size p line =
     add_line (kind_of (asked_at size p.names Whole line.bytes)) (record p { names = names_by p.names (asked_at size p.names Whole line.bytes) }) line
+
+abbrev pub take_whole : PageSize → Parts → Line → Result Parts LineFault
+take_whole size p line = option_map_or (λ fault. Err fault) (early_fault size p.names line.bytes) (take_asked size p line)
 
 abbrev pub take_line : PageSize → Parts → ℕ → Ending → List ℕ → Result Parts LineFault
 take_line size p number Whole bytes = take_whole size p (record { number = number; bytes = bytes })
@@ -143,17 +171,3 @@ group_in block = record { thread = block.thread; lines = lines_in block.lines.it
 
 abbrev pub groups_in : List Block → List Group
 groups_in blocks = map group_in blocks
-
--- THE PLAN OF A FILE
-pub record IsPlanOf (size : PageSize) (lines : List TextLine) (plan : Plan) : Type 0 where
-  pub parts : Parts
-  pub read : AreRead size 1 no_parts lines parts
-  pub begun : HasBegun parts.part
-  pub known : AreKnown parts.created parts.groups
-  pub first : lines_in plan.first.items ≡ parts.first
-  pub groups : groups_in plan.blocks.items ≡ parts.groups
-  pub queries : lines_in plan.queries.items ≡ parts.queries
-
--- the plan is that of some lines
-abbrev pub IsRead : PageSize → Plan → Type 0
-IsRead size plan = (lines : List TextLine) × IsPlanOf size lines plan

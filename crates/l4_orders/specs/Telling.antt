@@ -10,6 +10,7 @@ use Rattle.l4_merges.specs.declared.found.Found.{Found}
 use Rattle.l4_orders.specs.declared.plans.Block.{Block}
 use Rattle.l4_orders.specs.declared.plans.Plan.{Plan}
 use Rattle.l4_orders.specs.declared.plans.PlanLine.{PlanLine}
+use Rattle.l4_orders.specs.declared.telling.OrderStyle.{OrderStyle}
 use Rattle.l4_orders.specs.Plans.{line_at, gone_with, none_gone}
 
 -- THE LINES OF AN ORDER
@@ -28,23 +29,23 @@ line_numbers plan order = map (λ line. line.number) (lines_of_order plan order)
 
 -- OUTCOMES
 
--- ` N`, for the line of this number
-abbrev pub number_text : PlanLine → List ℕ
-number_text line = codes " " ++ decimal line.number
+-- ` N`, for the line of this number; or where orders are explained, a line of its own with the number and what the line says
+abbrev pub number_text : Bool → PlanLine → List ℕ
+number_text explain line = if explain then codes "\n  " ++ (decimal line.number ++ (codes ": " ++ line.bytes.items)) else codes " " ++ decimal line.number
 
 -- `order` and the numbers of its lines
-abbrev pub order_text : Plan → List ℕ → List ℕ
-order_text plan order = codes "order" ++ flat_map number_text (lines_of_order plan order) ++ codes "\n"
+abbrev pub order_text : Plan → Bool → List ℕ → List ℕ
+order_text plan explain order = codes "order" ++ flat_map (number_text explain) (lines_of_order plan order) ++ codes "\n"
 
--- `outcome N`, the outcome, and unless the text is brief an order that produces it
-abbrev pub outcome_text : Plan → Bool → ℕ → Found → List ℕ
-outcome_text plan brief number one =
-    codes "outcome " ++ decimal number ++ codes "\n" ++ one.outcome.items ++ (if brief then [] else order_text plan one.order.items)
+-- `outcome N`, the outcome, and unless the style is brief an order that produces it
+abbrev pub outcome_text : Plan → OrderStyle → ℕ → Found → List ℕ
+outcome_text plan style number one =
+    codes "outcome " ++ decimal number ++ codes "\n" ++ one.outcome.items ++ (if style.brief then [] else order_text plan style.explain one.order.items)
 
 -- the outcomes, of which the first has this number
-abbrev pub outcomes_text : Plan → Bool → ℕ → List Found → List ℕ
-outcomes_text plan brief number [] = []
-outcomes_text plan brief number (one ∷ found) = outcome_text plan brief number one ++ outcomes_text plan brief (number + 1) found
+abbrev pub outcomes_text : Plan → OrderStyle → ℕ → List Found → List ℕ
+outcomes_text plan style number [] = []
+outcomes_text plan style number (one ∷ found) = outcome_text plan style number one ++ outcomes_text plan style (number + 1) found
 
 -- THE SUMMARY
 
@@ -71,8 +72,8 @@ abbrev pub summary_text : Explored → List ℕ
 summary_text e = counted_text (length e.found.items) (codes " outcome") ++ ended_text e.ended e.orders e.states
 
 -- all that is printed of a search
-abbrev pub orders_text : Plan → Explored → Bool → List ℕ
-orders_text plan e brief = outcomes_text plan brief 1 e.found.items ++ summary_text e
+abbrev pub orders_text : Plan → Explored → OrderStyle → List ℕ
+orders_text plan e style = outcomes_text plan style 1 e.found.items ++ summary_text e
 
 -- WITNESSES
 

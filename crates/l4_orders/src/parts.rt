@@ -1,4 +1,4 @@
-//! The parts of a plan whose lines are read one after another.
+//! The parts of a litmus test whose lines are read one after another.
 ghost use Rattle.std.specs.Prelude.{◌≡◌, ◌∷◌, ◌++◌, ◌==◌, [], IfErr, OnOk};
 ghost use Rattle.std.specs.List.{position, list_any};
 ghost use Rattle.l4_commands.specs.declared.line_kinds.LineKind.TheVariants.{Creates};
@@ -8,6 +8,8 @@ ghost use Rattle.l4_orders.specs.Reading.{line_in, lines_in, groups_in, with_lin
 ghost use Rattle.l4_orders.specs.Inside.Parts.{is_of, parts_of, Takes, IsNew, AreOfKnown, Finishes};
 
 use crate::plans::{Block, Plan, PlanLine};
+use crate::possible::complete;
+use crate::refused::early_fault;
 use l4_commands::{LineKind, read_kind};
 use l4_fpage::PageSize;
 use l4_names::Names;
@@ -17,15 +19,19 @@ use std::alloc::Global;
 /// Root, which creates and deletes threads.
 const ROOT: u32 = 2;
 
-/// Why a line cannot be part of a plan.
+/// Why a line cannot be part of a litmus test.
 #[derive(Clone, Copy, Debug, PartialEq, Eq)]
 pub enum LineFault {
     /// It has more than 4,096 bytes (S3).
     Long,
     /// It does not end with a newline (S4).
     Cut,
-    /// It cannot be read (S1 or S2).
+    /// The command is unknown (S1).
+    Unknown,
+    /// It cannot be read (S2).
     Unread,
+    /// It gives a name, but there are 64 names already (S5).
+    NamesFull,
     /// O1: a second line `unordered`, a second line `finally`, or a line `finally` that is not after `unordered`.
     Repeated,
     /// O2: before `finally`, a query or a rule; or after `unordered`, a line that gives a name.
@@ -36,14 +42,18 @@ pub enum LineFault {
     Steps,
     /// O5: a line of a thread that no `thread` line creates.
     NoThread(u32),
+    /// O7: a rule that names an answer that no outcome can have.
+    NoAnswer,
+    /// O8: an expectation.
+    Expectation,
 }
 
-/// Why a file is not a plan.
+/// Why a file is not a litmus test.
 #[derive(Clone, Copy, Debug, PartialEq, Eq)]
 pub enum PlanFault {
     /// A read failed, or there was not enough memory.
     Stopped(RunFault),
-    /// The line of this number cannot be part of a plan.
+    /// The line of this number cannot be part of a litmus test.
     Malformed(u64, LineFault),
     /// O6: there is no line `unordered`.
     NoUnordered,
@@ -57,18 +67,17 @@ pub(crate) enum Part {
     Finally,
 }
 
-/// A plan that is read: its parts so far, the part of the next line, the threads that its lines create, and the names that they give.
+/// A litmus test that is read: its parts so far, the part of the next line, and the threads that its lines create.
 #[derive(Drop)]
 pub(crate) struct Reading {
     alloc: Global,
     plan: Plan,
     part: Part,
     created: Vec<u32>,
-    pub(crate) names: Names,
 }
 
 /// Adds a line to others.
-fn add(lines: &mut Vec<PlanLine>, line: PlanLine) -> Result<(), PlanFault>
+pub(crate) fn add(lines: &mut Vec<PlanLine>, line: PlanLine) -> Result<(), PlanFault>
     ensures ok { OnOk result
         (lines_in lines.new.items ≡ lines_in lines.old.items ++ line_in line ∷ []) }
     ensures err { IfErr result (λ e. e ≡ Stopped Memory) }
@@ -169,7 +178,7 @@ fn check_known(created: &[u32], blocks: &[Block]) -> Result<(), PlanFault>
 }
 
 impl Reading {
-    /// Begins a plan.
+    /// Begins a litmus test.
     pub(crate) fn new(alloc: Global) -> Reading
         ensures { IsNew result }
     {
@@ -179,10 +188,10 @@ impl Reading {
                 first: Vec::new(alloc),
                 blocks: Vec::new(alloc),
                 queries: Vec::new(alloc),
+                names: Names::new(),
             },
             part: Part::First,
             created: Vec::new(alloc),
-            names: Names::new(),
         }
     }
 
@@ -294,22 +303,19 @@ impl Reading {
     }
 
     /// Adds a line that ends with a newline and is not too long.
-    fn take_whole(&mut self, size: PageSize, number: u64, bytes: &[u8]) -> Result<(), PlanFault>
+    fn take_whole(&mut self, size: PageSize, number: u64, text: &[u8]) -> Result<(), PlanFault>
         ensures { Takes
-            (take_whole size (parts_of self.old) (record { number = number; bytes = bytes.now }))
+            (take_whole size (parts_of self.old) (record { number = number; bytes = text.now }))
             (parts_of self.new) number result }
     {
-        let Ok(copy) = Vec::from_slice(self.alloc, bytes) else {
+        if let Some(fault) = early_fault(size, &self.plan.names, text) {
+            return Err(PlanFault::Malformed(number, fault));
+        }
+        let Ok(bytes) = Vec::from_slice(self.alloc, text) else {
             return Err(PlanFault::Stopped(RunFault::Memory));
         };
-        let kind = read_kind(size, &mut self.names, Ending::Whole, bytes);
-        self.add_line(
-            kind,
-            PlanLine {
-                number,
-                bytes: copy,
-            },
-        )
+        let kind = read_kind(size, &mut self.plan.names, Ending::Whole, text);
+        self.add_line(kind, PlanLine { number, bytes })
     }
 
     /// Adds the line with this number and this ending.
@@ -331,22 +337,22 @@ impl Reading {
         }
     }
 
-    /// Returns the plan, if it has a line `unordered`, and each of its threads is there at boot or is created.
-    pub(crate) fn finish(self) -> Result<Plan, PlanFault>
-        ensures { Finishes (parts_of self) result }
+    /// Returns the test, if it has a line `unordered`, each of its threads is there at boot or is created, and each rule names an answer
+    /// that an outcome can have. Adds the queries for which rules ask.
+    pub(crate) fn finish(self, size: PageSize) -> Result<Plan, PlanFault>
+        ensures { Finishes size (parts_of self) result }
     {
         let Reading {
-            alloc: _,
+            alloc,
             plan,
             part,
             created,
-            names: _,
         } = self;
         if let Part::First = part {
             return Err(PlanFault::NoUnordered);
         }
         match check_known(created.as_slice(), plan.blocks.as_slice()) {
-            Ok(()) => Ok(plan),
+            Ok(()) => complete(alloc, size, created, plan),
             Err(fault) => Err(fault),
         }
     }

@@ -1,11 +1,12 @@
-//! Plans: the parts of a file.
+//! Litmus tests: the parts of a file.
 ghost use Rattle.std.specs.Prelude.{◌≡◌, IfOk, OnOk, option_map, slice_get};
 ghost use Rattle.std.specs.Option.{option_copied};
 ghost use Rattle.l4_orders.specs.Plans.{line_at, next_of, gone_with, none_gone};
 
+use l4_names::Names;
 use std::alloc::{AllocError, Global};
 
-/// A line of a plan, with its number in the file.
+/// A line of a litmus test, with its number in the file.
 #[derive(Drop)]
 pub struct PlanLine {
     pub number: u64,
@@ -19,12 +20,14 @@ pub struct Block {
     pub lines: Vec<PlanLine>,
 }
 
-/// A plan: the lines before `unordered`, the lines of each thread after it, and the queries and rules after `finally`.
+/// A litmus test: the lines before `unordered`, the lines of each thread after it, the queries and rules after `finally`, and the names of
+/// threads. With a rule that is about all threads, the queries of their replies follow (as lines of number 0).
 #[derive(Drop)]
 pub struct Plan {
     pub first: Vec<PlanLine>,
     pub blocks: Vec<Block>,
     pub queries: Vec<PlanLine>,
+    pub names: Names,
 }
 
 /// Counts one more line of the thread at a place. Returns an error if there is no such count.

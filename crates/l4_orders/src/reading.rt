@@ -1,4 +1,4 @@
-//! Reads plans.
+//! Reads litmus tests.
 ghost use Rattle.l4_orders.specs.Files.{ReadsPlan};
 ghost use Rattle.l4_orders.specs.Inside.Parts.{parts_of, IsNew};
 ghost use Rattle.l4_orders.specs.Inside.Taking.{ReadsLines};
@@ -10,7 +10,7 @@ use l4_text::{LineReader, RunFault};
 use std::alloc::Global;
 use std::io::Read;
 
-/// Reads line after line, to the end of the file or to the first line that cannot be part of a plan.
+/// Reads line after line, to the end of the file or to the first line that cannot be part of a litmus test.
 fn read_lines<R: Read>(
     size: PageSize,
     reading: &mut Reading,
@@ -37,20 +37,21 @@ fn read_lines<R: Read>(
     Err(PlanFault::Stopped(RunFault::Read))
 }
 
-/// Reads a plan for pages of this size: lines of a script, with a line `unordered` and, if there are queries, a line `finally`.
+/// Reads a litmus test for pages of this size: lines of a script, with a line `unordered` and, if there are queries, a line `finally`.
 ///
 /// Before `finally`, only lines of threads are allowed, and before `unordered` also lines that give names. After `finally`, only `show`,
 /// `parent`, `reply`, `never` and `always` are allowed. A line belongs to the thread that starts its call: root for `thread`, `setpager` and `delete`, and P for
 /// `region P` and `serve P`.
 ///
-/// Returns `Malformed` with the first line that cannot be part of a plan; `NoUnordered` if there is no line `unordered`; then `Malformed` with
-/// the first line of a thread that neither is there at boot nor is created; and `Stopped` if a read failed or there was not enough memory.
+/// Returns `Malformed` with the first line that cannot be part of a litmus test; `NoUnordered` if there is no line `unordered`; then
+/// `Malformed` with the first line of a thread that neither is there at boot nor is created; then with the first rule that names an answer
+/// that no outcome can have; and `Stopped` if a read failed or there was not enough memory.
 pub fn read_plan<R: Read>(alloc: Global, size: PageSize, reader: &mut R) -> Result<Plan, PlanFault>
     ensures { ReadsPlan size (R.remaining reader.old) (R.remaining reader.new) result }
 {
     let mut reading = Reading::new(alloc);
     match read_lines(size, &mut reading, reader) {
-        Ok(()) => reading.finish(),
+        Ok(()) => reading.finish(size),
         Err(fault) => Err(fault),
     }
 }

@@ -1,5 +1,5 @@
 //! Outcomes and witnesses as text.
-ghost use Rattle.std.specs.Prelude.{◌≡◌, ◌++◌, IfOk, OnOk};
+ghost use Rattle.std.specs.Prelude.{◌≡◌, ◌++◌, true, IfOk, OnOk};
 ghost use Rattle.std.specs.List.{flat_map};
 ghost use Rattle.l4_orders.specs.Telling.{lines_of_order, line_numbers, number_text, order_text, outcome_text, outcomes_text, counted_text, orders_counted, reason_text, ended_text, summary_text, orders_text, line_text, witness_text};
 
@@ -9,10 +9,37 @@ use l4_merges::{Explored, Found, GaveUp};
 use l4_naturals::Natural;
 use std::alloc::{AllocError, Global};
 
-/// Appends a space and the number of a line.
-fn put_line_number(alloc: Global, line: &PlanLine, out: &mut Vec<u8>) -> Result<(), AllocError>
-    ensures { OnOk result (out.new.items ≡ out.old.items ++ number_text line.now) }
+/// How outcomes are printed.
+#[derive(Clone, Copy, Debug, PartialEq, Eq)]
+pub struct OrderStyle {
+    /// Whether the orders are left out.
+    pub brief: bool,
+    /// Whether an order has its lines, and not only their numbers.
+    pub explain: bool,
+}
+
+/// Appends the number of a line and what it says, in a line of its own.
+fn put_explained(alloc: Global, line: &PlanLine, out: &mut Vec<u8>) -> Result<(), AllocError>
+    ensures { OnOk result (out.new.items ≡ out.old.items ++ number_text true line.now) }
 {
+    out.extend_from_slice(b"\n  ")?;
+    put_number(alloc, line.number, out)?;
+    out.extend_from_slice(b": ")?;
+    out.extend_from_slice(line.bytes.as_slice())
+}
+
+/// Appends a space and the number of a line, or with `explain` what it says too.
+fn put_line_number(
+    alloc: Global,
+    explain: bool,
+    line: &PlanLine,
+    out: &mut Vec<u8>,
+) -> Result<(), AllocError>
+    ensures { OnOk result (out.new.items ≡ out.old.items ++ number_text explain line.now) }
+{
+    if explain {
+        return put_explained(alloc, line, out);
+    }
     out.extend_from_slice(b" ")?;
     put_number(alloc, line.number, out)
 }
@@ -21,16 +48,17 @@ fn put_line_number(alloc: Global, line: &PlanLine, out: &mut Vec<u8>) -> Result<
 fn put_numbers(
     alloc: Global,
     plan: &Plan,
+    explain: bool,
     order: &[usize],
     out: &mut Vec<u8>,
 ) -> Result<(), AllocError>
     ensures { OnOk result (out.new.items
-        ≡ out.old.items ++ flat_map number_text (lines_of_order plan.now order.now)) }
+        ≡ out.old.items ++ flat_map (number_text explain) (lines_of_order plan.now order.now)) }
 {
     let mut gone = plan.none_gone(alloc)?;
     for place in order {
         if let Some(line) = plan.line_at(gone.as_slice(), *place) {
-            put_line_number(alloc, line, out)?;
+            put_line_number(alloc, explain, line, out)?;
         }
         advance(&mut gone, *place)?;
     }
@@ -56,52 +84,53 @@ pub fn line_numbers(alloc: Global, plan: &Plan, order: &[usize]) -> Result<Vec<u
 pub(crate) fn put_order(
     alloc: Global,
     plan: &Plan,
+    explain: bool,
     order: &[usize],
     out: &mut Vec<u8>,
 ) -> Result<(), AllocError>
-    ensures { OnOk result (out.new.items ≡ out.old.items ++ order_text plan.now order.now) }
+    ensures { OnOk result (out.new.items ≡ out.old.items ++ order_text plan.now explain order.now) }
 {
     out.extend_from_slice(b"order")?;
-    put_numbers(alloc, plan, order, out)?;
+    put_numbers(alloc, plan, explain, order, out)?;
     out.extend_from_slice(b"\n")
 }
 
-/// Appends an outcome, and unless `brief` an order that produces it.
+/// Appends an outcome, and unless the style is brief an order that produces it.
 fn put_outcome(
     alloc: Global,
     plan: &Plan,
-    brief: bool,
+    style: OrderStyle,
     number: u64,
     one: &Found,
     out: &mut Vec<u8>,
 ) -> Result<(), AllocError>
     ensures { OnOk result (out.new.items
-        ≡ out.old.items ++ outcome_text plan.now brief number one.now) }
+        ≡ out.old.items ++ outcome_text plan.now style number one.now) }
 {
     out.extend_from_slice(b"outcome ")?;
     put_number(alloc, number, out)?;
     out.extend_from_slice(b"\n")?;
     out.extend_from_slice(one.outcome.as_slice())?;
-    if brief {
+    if style.brief {
         return Ok(());
     }
-    put_order(alloc, plan, one.order.as_slice(), out)
+    put_order(alloc, plan, style.explain, one.order.as_slice(), out)
 }
 
 /// Appends outcomes, of which the first has the number 1.
 fn put_outcomes(
     alloc: Global,
     plan: &Plan,
-    brief: bool,
+    style: OrderStyle,
     found: &[Found],
     out: &mut Vec<u8>,
 ) -> Result<(), AllocError>
     ensures { OnOk result (out.new.items
-        ≡ out.old.items ++ outcomes_text plan.now brief 1 found.now) }
+        ≡ out.old.items ++ outcomes_text plan.now style 1 found.now) }
 {
     let mut number = 1u64;
     for one in found {
-        put_outcome(alloc, plan, brief, number, one, out)?;
+        put_outcome(alloc, plan, style, number, one, out)?;
         let Some(next) = number.checked_add(1) else {
             return Err(AllocError);
         };
@@ -167,11 +196,7 @@ fn put_ended(alloc: Global, explored: &Explored, out: &mut Vec<u8>) -> Result<()
 }
 
 /// Appends the last line: the numbers of outcomes, orders and states, or why the search ended early.
-pub(crate) fn put_summary(
-    alloc: Global,
-    explored: &Explored,
-    out: &mut Vec<u8>,
-) -> Result<(), AllocError>
+fn put_summary(alloc: Global, explored: &Explored, out: &mut Vec<u8>) -> Result<(), AllocError>
     ensures { OnOk result (out.new.items ≡ out.old.items ++ summary_text explored.now) }
 {
     put_count(alloc, explored.found.len() as u64, b" outcome", out)?;
@@ -187,17 +212,17 @@ pub fn summary_text(alloc: Global, explored: &Explored) -> Result<Vec<u8>, Alloc
     Ok(out)
 }
 
-/// Returns the text of the outcomes, each with an order that produces it unless `brief`, and of the summary.
+/// Returns the text of the outcomes, each with an order that produces it unless the style is brief, and of the summary.
 pub fn orders_text(
     alloc: Global,
     plan: &Plan,
     explored: &Explored,
-    brief: bool,
+    style: OrderStyle,
 ) -> Result<Vec<u8>, AllocError>
-    ensures { IfOk result (λ text. text.items ≡ orders_text plan.now explored.now brief) }
+    ensures { IfOk result (λ text. text.items ≡ orders_text plan.now explored.now style) }
 {
     let mut out = Vec::new(alloc);
-    put_outcomes(alloc, plan, brief, explored.found.as_slice(), &mut out)?;
+    put_outcomes(alloc, plan, style, explored.found.as_slice(), &mut out)?;
     put_summary(alloc, explored, &mut out)?;
     Ok(out)
 }

@@ -6,7 +6,7 @@ use l4_merges::Failure;
 use l4_orders::{LineFault, PlanFault, line_code};
 use l4_refusals::number_of;
 
-/// The result of a search: 0 if there is one, or a refusal. `line` is the number of the line of the plan that is refused, and `detail` the
+/// The result of a search: 0 if there is one, or a refusal. `line` is the number of the line of the test that is refused, and `detail` the
 /// thread that no line creates (O5).
 #[repr(C)]
 #[derive(Clone, Copy)]
@@ -37,7 +37,7 @@ fn line_thread(fault: LineFault) -> u32
     }
 }
 
-/// Returns the result for a text that is not a plan.
+/// Returns the result for a text that is not a litmus test.
 pub(crate) fn fault_told(fault: PlanFault) -> SearchResult
     ensures { result ≡ fault_result fault }
 {
@@ -52,7 +52,7 @@ pub(crate) fn fault_told(fault: PlanFault) -> SearchResult
     }
 }
 
-/// Returns the result for a plan whose orders cannot be executed.
+/// Returns the result for a litmus test whose orders cannot be executed.
 pub(crate) fn failure_told(failure: Failure) -> SearchResult
     ensures { result ≡ failure_result failure }
 {

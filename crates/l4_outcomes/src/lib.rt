@@ -1,4 +1,4 @@
-//! What the search of a plan's orders found, and why there is no search: in the form in which other languages get it.
+//! What the search of a litmus test's orders found, and why there is no search: in the form in which other languages get it.
 #![tactic(auto)]
 
 mod counts;

@@ -1,8 +1,8 @@
-//! Plans whose orders were searched.
+//! Litmus tests whose orders were searched.
 
 use l4_orders::{Explored, Plan};
 
-/// A plan, and what the search of its orders found.
+/// A litmus test, and what the search of its orders found.
 #[derive(Drop)]
 pub struct Searched {
     pub plan: Plan,

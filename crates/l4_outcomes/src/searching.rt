@@ -1,4 +1,4 @@
-//! Searches the orders of plans.
+//! Searches the orders of litmus tests.
 ghost use Rattle.std.specs.Prelude.{◌≡◌, MatchResult, true, false};
 ghost use Rattle.l4_outcomes.specs.Searching.{HasFrames, HasNoFrames, IsSearched, IsUnsearched};
 
@@ -17,9 +17,10 @@ fn has_frames(frames: u32) -> bool
     frames >= 1 && frames <= 4096
 }
 
-/// Reads a plan, and searches all its orders on a new kernel with this number of frames of this size. It visits at most `most` states.
+/// Reads a litmus test, and searches all its orders on a new kernel with this number of frames of this size. It visits at most `most`
+/// states.
 ///
-/// The refusals are K6, those of the text (S2 to S4, O1 to O6), NoMemory and L1, in this order. NoMemory may come before those of the text.
+/// The refusals are K6, those of the text (S1 to S5, O1 to O8), NoMemory and L1, in this order. NoMemory may come before those of the text.
 pub fn search(
     alloc: Global,
     frames: u32,

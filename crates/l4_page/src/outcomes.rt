@@ -142,7 +142,7 @@ fn searched(
 }
 
 /// Searches all orders of a plan. Writes for each outcome its answers, the script of an order that produces it, the rules that it breaks, and
-/// the lengths of these texts. After a refusal, writes what it means. The refusals are B4, K6, those of the text (S2 to S4, O1 to O6),
+/// the lengths of these texts. After a refusal, writes what it means. The refusals are B4, K6, those of the text (S1 to S5, O1 to O8),
 /// NoMemory and L1, in this order.
 #[unsafe(no_mangle)]
 pub extern "C" fn page_orders(

@@ -4,4 +4,4 @@ use Rattle.l4_orders.proofs.rules.put_first.Given as goal
 
 abbrev pub invariant-loop-one : goal.invariant-loop-one
 invariant-loop-one l =
-    (l.out.items ≡ l.initial.out.items) × (first_text l.plan l.line 1 l.found ≡ first_text l.plan l.line l.number (drop l.one-index l.found))
+    (l.out.items ≡ l.initial.out.items) × (first_text l.plan l.explain l.line 1 l.found ≡ first_text l.plan l.explain l.line l.number (drop l.one-index l.found))
