@@ -51,7 +51,7 @@ PAGE = $(TRY)/l4.html
 BED = $(TRY)/bed
 else
 OUT = crates/l4_c/out
-PARTS = $(OUT)/libl4_c.a crates/l4_c_orders/out/libl4_c_orders.a crates/l4_c_checkpoints/out/libl4_c_checkpoints.a
+PARTS = $(OUT)/libl4_c.a $(foreach part,l4_c_locks l4_c_orders l4_c_checkpoints,crates/$(part)/out/lib$(part).a)
 MODULE = crates/l4_page/out/l4_page.wasm
 PAGE = web/l4.html
 BED = bed/out

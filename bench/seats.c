@@ -23,19 +23,17 @@ static void make(uint32_t seat, const l4_call *call, size_t count) {
     static const uint32_t words[2] = {1, 1};
     l4_seated entered;
     l4_reply reply;
-    uint64_t number;
+    uint64_t number, place, woken;
+    uint32_t threads[L4_MAX_THREADS];
     pthread_mutex_lock(&mutex);
     number = l4_lock_length(&kernel).count;
     entered = l4_lock_enter(&kernel, seat, call, words, count);
     if (entered.refusal != L4_OK)
         exit(1);
-    for (; number < l4_lock_length(&kernel).count; number++) {
-        l4_entry entry = l4_lock_entry(&kernel, (size_t)number);
-        uint32_t place;
-        for (place = 0; place < entry.ended_count; place++)
-            if (entry.ended[place] != seat)
-                pthread_cond_signal(&ended[entry.ended[place]]);
-    }
+    woken = l4_lock_ended(&kernel, (size_t)number, threads, L4_MAX_THREADS).count;
+    for (place = 0; place < woken; place++)
+        if (threads[place] != seat)
+            pthread_cond_signal(&ended[threads[place]]);
     for (reply = entered.reply; reply.kind == L4_NONE; reply = l4_lock_take(&kernel, seat))
         pthread_cond_wait(&ended[seat], &mutex);
     pthread_mutex_unlock(&mutex);

@@ -31,14 +31,11 @@ static void stop(const char *where, uint32_t refusal) {
 
 /* Makes the descriptors of the seats readable whose calls ended in the entries from this one on, except that of the caller. */
 static void wake(uint64_t number, uint32_t caller) {
-    uint64_t count = l4_lock_length(&kernel).count;
-    for (; number < count; number++) {
-        l4_entry entry = l4_lock_entry(&kernel, (size_t)number);
-        uint32_t place;
-        for (place = 0; place < entry.ended_count; place++)
-            if (entry.ended[place] != caller && entry.ended[place] >= FIRST && write(pipes[entry.ended[place] - FIRST][1], "", 1) != 1)
-                exit(1);
-    }
+    uint32_t threads[L4_MAX_THREADS];
+    uint64_t place, count = l4_lock_ended(&kernel, (size_t)number, threads, L4_MAX_THREADS).count;
+    for (place = 0; place < count; place++)
+        if (threads[place] != caller && threads[place] >= FIRST && write(pipes[threads[place] - FIRST][1], "", 1) != 1)
+            exit(1);
 }
 
 /* Enters a call of a seat, and returns its reply; the kind is L4_NONE if the call waits. */

@@ -31,13 +31,10 @@ static void stop(const char *where, uint32_t refusal) {
 
 /* Wakes the seats whose calls ended in the entries from this one on. */
 static void wake(uint64_t number) {
-    uint64_t count = l4_lock_length(&kernel).count;
-    for (; number < count; number++) {
-        l4_entry entry = l4_lock_entry(&kernel, (size_t)number);
-        uint32_t place;
-        for (place = 0; place < entry.ended_count; place++)
-            pthread_cond_signal(&ended[entry.ended[place]]);
-    }
+    uint32_t threads[L4_MAX_THREADS];
+    uint64_t place, count = l4_lock_ended(&kernel, (size_t)number, threads, L4_MAX_THREADS).count;
+    for (place = 0; place < count; place++)
+        pthread_cond_signal(&ended[threads[place]]);
 }
 
 /* Makes a call of the seat's thread, and returns its reply, which another thread's call may have to bring about first. */

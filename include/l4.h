@@ -59,7 +59,8 @@
  * RESERVED MEMBERS
  *
  * Structs that may get further members have spare ones, named reserved, so that their layout need not change. The library writes them as 0.
- * In a struct that you pass (l4_call, l4_link) they must be 0: initialize the whole struct to 0 before you fill it in.
+ * In a struct that you pass (l4_call, l4_link) they must be 0: initialize the whole struct to 0 before you fill it in. A function to which you
+ * pass one that is not 0 refuses it (B3).
  *
  * THREAD NUMBERS, THREAD IDS, PAGES AND RIGHTS
  *
@@ -144,10 +145,11 @@ uint32_t l4_version(void);
 #define L4_OK UINT32_C(0)
 #define L4_B1 UINT32_C(0x4231) /* the handle is empty: it was never created, or it was freed */
 #define L4_B2 UINT32_C(0x4232) /* the handle is not empty: free it before you use it again */
-#define L4_B3 UINT32_C(0x4233) /* the kind of call is unknown */
+#define L4_B3 UINT32_C(0x4233) /* the kind of call is unknown, or a reserved member is not 0 */
 #define L4_B4 UINT32_C(0x4234) /* the page size must be 4,096 or 1,024 bytes */
 #define L4_B5 UINT32_C(0x4235) /* the line is not a step or query of a step list */
 #define L4_B6 UINT32_C(0x4236) /* the bytes cannot be read as a checkpoint */
+#define L4_B7 UINT32_C(0x4237) /* a number of entries exceeds 2^63 */
 #define L4_K1 UINT32_C(0x4B31) /* the step is not enabled: this transfer or expiry cannot happen now */
 #define L4_K2 UINT32_C(0x4B32) /* there is no thread with this number */
 #define L4_K3 UINT32_C(0x4B33) /* the thread's previous call has not ended yet */
@@ -215,6 +217,7 @@ uint32_t l4_version(void);
 #define L4_EMPTY_HANDLE L4_B1
 #define L4_NOT_A_STEP L4_B5
 #define L4_NOT_A_CHECKPOINT L4_B6
+#define L4_TOO_MANY_ENTRIES L4_B7
 #define L4_STEP_NOT_ENABLED L4_K1
 #define L4_NO_SUCH_THREAD L4_K2
 #define L4_STILL_WAITING L4_K3
@@ -439,6 +442,21 @@ l4_reply l4_reply_of(l4_kernel *kernel, uint32_t thread);
 size_t l4_reply_text(uint32_t thread, const l4_reply *reply, char *out, size_t room);
 size_t l4_step_text(const l4_step *step, char *out, size_t room);
 
+/* A number of pages, of entries or of bytes. */
+typedef struct l4_count {
+    uint32_t refusal;
+    uint64_t count;
+} l4_count;
+
+/* Executes a line of a step list, without its newline, such as "transfer 4 2" or "reply 3": a step or a query. Writes the lines that l4_steps
+ * prints for it, such as "done\n4 ipc 00000000 0 00000000\n", to out. At most the first `room` - 1 bytes are written, and a 0 after them;
+ * nothing is written if room is 0. The count is the length of the whole text without the 0. A line has at most 656 bytes, and there is at most
+ * one for each thread whose call ended, after the first.
+ *
+ * Refusals in this order: B1, B5, NoMemory. After B5 nothing has changed. After NoMemory the step has been executed. Nothing is written after a
+ * refusal. If the kernel refuses the step, that is its answer, such as "refused K1\n". */
+l4_count l4_execute(l4_kernel *kernel, const char *step, size_t step_length, char *out, size_t room);
+
 /* Verdicts on another kernel's answer to a step. */
 #define L4_AGREES UINT32_C(1)
 #define L4_DIFFERS UINT32_C(2)
@@ -557,11 +575,21 @@ typedef struct l4_page {
 /* Returns the lowest present page of a space that is not below `page`. Refusals: B1. */
 l4_page l4_next_page(l4_kernel *kernel, uint64_t space, uint32_t page);
 
-/* A number of pages or of entries. */
-typedef struct l4_count {
-    uint32_t refusal;
-    uint64_t count;
-} l4_count;
+/* A present page of a space, with its mapping: the members of l4_mapping. */
+typedef struct l4_mapped {
+    uint32_t page;
+    uint32_t frame;
+    uint32_t rights;
+    uint32_t has_parent;
+    uint64_t parent_space;
+    uint32_t parent_page;
+    uint32_t reserved;
+} l4_mapped;
+
+/* Lists the present pages of a space from `page` on, with their mappings, by rising page number. The first `room` of them are written to
+ * pages, and the array elements after them stay as they are; the count is that of all. To list a space in pieces, continue with the page
+ * after the last one that was written. Refusals: B1, and then nothing is written. */
+l4_count l4_mappings(l4_kernel *kernel, uint64_t space, uint32_t page, l4_mapped *pages, size_t room);
 
 /* A page of a space. */
 typedef struct l4_place {
@@ -763,13 +791,12 @@ l4_verdict l4_check_too_long_sized(const l4_region *region, const uint32_t *page
  * call waiting, a later call of another seat may end it. Let the waiting thread sleep, for instance on a condition variable of its seat,
  * and then fetch the reply with l4_lock_take.
  *
- * After l4_lock_enter, wake the seats whose calls ended. These are the members `ended` of the entries that the call appended: those from
- * the length that l4_lock_length returned before the call. examples/threads.c does this. If you wake every waiting thread instead, each
- * call costs a wake-up of all of them.
+ * After l4_lock_enter, wake the seats whose calls ended. l4_lock_ended lists them, from the length that l4_lock_length returned before the
+ * call. examples/threads.c does this. If you wake every waiting thread instead, each call costs a wake-up of all of them.
  *
  * The lock keeps at most 1,000,000 entries of the history. Once it keeps more than 999,871, l4_lock_enter refuses every call with L1, and
- * every other function still works. To run longer, hand out the entries from time to time with l4_lock_hand_out. Entries and receipts are
- * numbered from 0 since boot, and the numbers continue after a hand-out. */
+ * every other function still works. To run longer, hand out the entries from time to time with l4_lock_hand_out, or drop them with
+ * l4_lock_forget. Entries and receipts are numbered from 0 since boot, and the numbers continue after a hand-out. */
 typedef struct l4_lock {
     void *hidden;
 } l4_lock;
@@ -796,8 +823,8 @@ typedef struct l4_seated {
 } l4_seated;
 
 /* Enters a call of the seat's thread as l4_enter does. The start of the call, and the steps that are executed until no step is enabled, are
- * appended to the history. After a refusal nothing has changed. Refusals in this order: B1, B3, L3, L1, NoMemory, K2 if the seat was not
- * given, and then those of l4_start from K2 on. */
+ * appended to the history. After a refusal nothing has changed. Refusals in this order: B1, B3, X2 if the seat was not given, L3, L1,
+ * NoMemory, and then those of l4_start from K2 on. */
 l4_seated l4_lock_enter(l4_lock *lock, uint32_t seat, const l4_call *call, const uint32_t *words, size_t count);
 
 /* Takes the reply of a call of the seat that was left waiting and has since ended. Each reply can be taken once; the kind is L4_NONE if
@@ -833,6 +860,15 @@ typedef struct l4_entry {
 /* Returns the entry with this number since boot, from 0. Refusals in this order: B1; L8 if the entry was handed out. */
 l4_entry l4_lock_entry(l4_lock *lock, size_t number);
 
+/* Lists the threads whose calls ended in the entries from this number on: entry by entry, and in each entry in its order. To learn which
+ * calls an l4_lock_enter ended, pass the length that l4_lock_length returned before it. Each thread is then listed at most once, so a room of
+ * L4_MAX_THREADS is enough. The first `room` numbers are written to threads, and the array elements after them stay as they are; the count is
+ * that of all. Refusals in this order: B1; L8 if the entry was handed out. After a refusal nothing is written. */
+l4_count l4_lock_ended(l4_lock *lock, size_t number, uint32_t *threads, size_t room);
+
+/* Returns the number of frames with which the locked kernel was booted. Pass it to l4_checkpoint_write for a copy. Refusals: B1. */
+l4_count l4_lock_frames_of(l4_lock *lock);
+
 /* A segment of a history: entries that a locked kernel handed out. All segments of a locked kernel in their order, followed by the entries
  * that it keeps, are its history since boot. */
 typedef struct l4_segment {
@@ -844,7 +880,7 @@ typedef struct l4_segment {
  * from time to time. Calls that wait are not affected.
  *
  * The segment's handle must be empty; it then owns the entries, and you free it with l4_segment_free. After a refusal nothing has changed.
- * Refusals in this order: B1; B2 if the segment's handle is not empty; NoMemory; L1 after more than 2^63 entries. */
+ * Refusals in this order: B1; B2 if the segment's handle is not empty; NoMemory; B7 after more than 2^63 entries. */
 uint32_t l4_lock_hand_out(l4_lock *lock, l4_segment *segment);
 
 /* Frees a segment, and leaves the handle empty. */
@@ -928,8 +964,8 @@ l4_chain l4_lock_provenance(l4_lock *lock, uint64_t space, uint32_t page, l4_lin
 
 /* Checks that exactly these links are the provenance of a page of a space. If the page is not present, the check refuses every list of
  * links. Any value of grant other than 0 means a grant. The check shares no code with l4_lock_provenance, replays the whole history once on
- * a second kernel, even if the links are wrong, and changes nothing. Refusals in this order: B1; NoMemory, if there is no memory for the
- * links; L8 if entries were handed out; NoMemory, if there is no memory for a second kernel; then the refusal at the first entry whose
+ * a second kernel, even if the links are wrong, and changes nothing. Refusals in this order: B1; B3, if a reserved member of a link is not 0;
+ * NoMemory, if there is no memory for the links; L8 if entries were handed out; NoMemory, if there is no memory for a second kernel; then the refusal at the first entry whose
  * replay fails: NoMemory if memory runs out, and L6 with the entry if the replay gets any other answer; L7, if every entry was replayed and
  * the links are not the provenance. */
 l4_verdict l4_lock_check_provenance(l4_lock *lock, uint64_t space, uint32_t page, const l4_link *links, size_t count);
@@ -944,6 +980,7 @@ l4_reply l4_lock_reply_of(l4_lock *lock, uint32_t thread);
 l4_page_size l4_lock_page_size_of(l4_lock *lock);
 l4_mapping l4_lock_mapping_of(l4_lock *lock, uint64_t space, uint32_t page);
 l4_page l4_lock_next_page(l4_lock *lock, uint64_t space, uint32_t page);
+l4_count l4_lock_mappings(l4_lock *lock, uint64_t space, uint32_t page, l4_mapped *pages, size_t room);
 l4_count l4_lock_descendants(l4_lock *lock, uint64_t space, uint32_t page, l4_place *places, size_t room);
 
 /* Copies the kernel of a locked kernel into an empty handle, as l4_copy does. So you can let the copy continue in another way than the locked
@@ -978,7 +1015,9 @@ typedef struct l4_searched {
 } l4_searched;
 
 /* Reads a litmus test of `length` bytes, and executes it in all its orders on a new kernel with 1 to 4,096 frames. It visits at most `most`
- * states. If several orders lead to one state, it is visited once as a rule. Fewer frames make a search faster.
+ * states. If several orders lead to one state, it is visited once as a rule. Fewer frames make a search faster. A search cannot be stopped
+ * before that. To show progress or to be able to stop, begin with a small `most`, and search again with ten times as much until the search
+ * ends by itself: all these searches together visit few more states than the last one.
  *
  * The handle must be empty; it then owns the search, and you free it with l4_orders_free. Each outcome that was found is that of an order,
  * and none was found twice. Every order's outcome was found if l4_orders_found says so. After a refusal the handle is unchanged. Refusals
@@ -1054,7 +1093,7 @@ void l4_orders_free(l4_orders *orders);
  * steps in its history since boot, or 0 if you keep none.
  *
  * With a room of 0, the call only counts the bytes. The array has the whole checkpoint if count is at most room: a step between two calls
- * may change the count. The kernel is unchanged. Refusals in this order: B1; K6 if frames is not 1 to 4,096; L1 if entries exceeds 2^63;
+ * may change the count. The kernel is unchanged. Refusals in this order: B1; K6 if frames is not 1 to 4,096; B7 if entries exceeds 2^63;
  * NoMemory. Nothing is written then. */
 l4_count l4_checkpoint_write(l4_kernel *kernel, uint32_t frames, size_t entries, uint8_t *out, size_t room);
 
@@ -1251,6 +1290,38 @@ static inline l4_thread l4_lock_next_thread_in(l4_lock *lock, uint64_t space, ui
     while (next.there && l4_lock_space_of(lock, next.thread).space != space)
         next = l4_lock_next_thread(lock, next.thread + 1);
     return next;
+}
+
+/* Returns the lowest page of a space, not below `page`, whose mapping is another one in a second kernel: the page is present in one of the two
+ * kernels alone, or its frame, its rights or its parent differ. `there` is 0 if there is none. To list the pages that a step changed, copy the
+ * kernel before the step, start at 0, and continue at the number found plus 1. Refusals: B1. */
+static inline l4_page l4_next_change(l4_kernel *kernel, l4_kernel *other, uint64_t space, uint32_t page) {
+    for (;; page++) {
+        l4_page next = l4_next_page(kernel, space, page), second = l4_next_page(other, space, page);
+        l4_mapping one, two;
+        if (next.refusal != L4_OK || (!next.there && !second.there))
+            return next;
+        if (second.refusal != L4_OK || !next.there || (second.there && second.page < next.page))
+            next = second;
+        if (next.refusal != L4_OK)
+            return next;
+        page = next.page;
+        one = l4_mapping_of(kernel, space, page);
+        two = l4_mapping_of(other, space, page);
+        if (one.there != two.there || one.frame != two.frame || one.rights != two.rights || one.has_parent != two.has_parent ||
+            one.parent_page != two.parent_page || one.parent_space != two.parent_space)
+            return next;
+    }
+}
+
+/* Drops the entries that a locked kernel keeps, and the receipts of all seats, as l4_lock_hand_out followed by l4_segment_free does. A program
+ * that needs no history calls it from time to time, for instance whenever the kernel keeps 1,000 entries, and its memory does not grow.
+ * Refusals in this order: B1, NoMemory, B7. */
+static inline uint32_t l4_lock_forget(l4_lock *lock) {
+    l4_segment segment = L4_EMPTY;
+    uint32_t refusal = l4_lock_hand_out(lock, &segment);
+    l4_segment_free(&segment);
+    return refusal;
 }
 
 /* Returns 1 if l4_lock_take would return a reply for this seat, and 0 if not: its last call still waits, or was taken, or there is none. */

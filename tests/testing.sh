@@ -101,7 +101,7 @@ needs() {
     for tool; do there "$tool" || { skip "$name" "no $tool"; finish; }; done
     [ -f "$library" ] || { skip "$name" 'the C library is not built: `make` builds it, and `make try-library` builds it without proofs'; finish; }
     [ -z "$UNPROVED" ] || return
-    for part in l4_c_orders l4_c_checkpoints; do
+    for part in l4_c_locks l4_c_orders l4_c_checkpoints; do
         [ -f crates/$part/out/lib$part.a ] || { skip "$name" "crates/$part/out/lib$part.a is not built: \`make\` builds it"; finish; }
     done
 }

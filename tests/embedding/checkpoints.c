@@ -304,7 +304,7 @@ static void numbers(void) {
     EXPECT(l4_checkpoint_write(&kernel, 0, SIZE_MAX, out, 8).refusal == L4_B1);
     EXPECT(l4_boot(&kernel, 1) == L4_OK);
     EXPECT(l4_checkpoint_write(&kernel, 0, SIZE_MAX, out, 8).refusal == L4_K6 && l4_checkpoint_write(&kernel, L4_MAX_FRAMES + 1, 0, out, 8).refusal == L4_K6);
-    EXPECT(l4_checkpoint_write(&kernel, 1, ((size_t)1 << 63) + 1, out, 8).refusal == L4_L1 && out[0] == 0);
+    EXPECT(l4_checkpoint_write(&kernel, 1, ((size_t)1 << 63) + 1, out, 8).refusal == L4_B7 && out[0] == 0);
     EXPECT(l4_checkpoint_write(&kernel, L4_MAX_FRAMES, (size_t)1 << 63, out, 8).refusal == L4_OK && memcmp(out, "LCP4", 4) == 0);
     l4_free(&kernel);
 }

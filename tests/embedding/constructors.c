@@ -147,6 +147,28 @@ static void threads(l4_kernel *kernel) {
     }
 }
 
+/* A page that sigma0 maps, one whose rights it takes, and a copy from before. */
+static void changes(void) {
+    static const uint32_t words[3] = {0x80, 0x20008, 0x100c7}, taken = 0x110c2;
+    l4_kernel kernel = L4_EMPTY, before = L4_EMPTY;
+    l4_call receive = kind(L4_IPC), send = kind(L4_IPC), unmap = kind(L4_UNMAP);
+    EXPECT(l4_next_change(&kernel, &before, 0, 0).refusal == L4_B1, 0);
+    EXPECT(l4_boot(&kernel, 64) == L4_OK && l4_next_change(&kernel, &before, 0, 0).refusal == L4_B1, 0);
+    EXPECT(l4_copy(&kernel, &before) == L4_OK && l4_next_change(&kernel, &before, 0, 0).there == 0, 0);
+    receive.from = L4_ANYTHREAD;
+    receive.acceptor = L4_COMPLETE_FPAGE;
+    send.to = L4_ROOT_ID;
+    unmap.control = 0x40;
+    EXPECT(l4_enter(&kernel, 2, &receive, NULL, 0, NULL, 0).start.refusal == L4_OK && l4_enter(&kernel, 1, &send, words, 3, NULL, 0).step_count == 1, 16);
+    EXPECT(l4_next_change(&kernel, &before, 1, 0).page == 32 && l4_next_change(&before, &kernel, 1, 32).page == 32, 32);
+    EXPECT(l4_next_change(&kernel, &before, 1, 33).there == 0 && l4_next_change(&before, &kernel, 0, 0).there == 0, 33);
+    EXPECT(l4_start(&kernel, 1, &unmap, &taken, 1).refusal == L4_OK, taken);
+    EXPECT(l4_next_change(&kernel, &before, 0, 0).page == 17 && l4_next_change(&kernel, &before, 0, 18).there == 0, 17);
+    l4_free(&kernel);
+    EXPECT(l4_next_change(&before, &kernel, 0, 0).refusal == L4_B1, 0);
+    l4_free(&before);
+}
+
 int main(void) {
     l4_kernel kernel = L4_EMPTY;
     EXPECT(l4_next_thread_in(&kernel, 0, 0).refusal == L4_B1, 0);
@@ -159,5 +181,6 @@ int main(void) {
     messages(&kernel);
     threads(&kernel);
     l4_free(&kernel);
+    changes();
     return failures == 0 ? 0 : 1;
 }

@@ -291,6 +291,38 @@ static int descend(l4_kernel *kernel, uint64_t space, uint32_t page, const l4_pl
     return told.refusal == L4_OK && told.count == count;
 }
 
+/* Whether the listed page has this mapping. */
+static int same_mapping(const l4_mapped *listed, l4_mapping asked) {
+    return asked.there == 1 && listed->frame == asked.frame && listed->rights == asked.rights && listed->has_parent == asked.has_parent
+        && listed->parent_page == asked.parent_page && listed->parent_space == asked.parent_space && listed->reserved == 0;
+}
+
+/* The present pages of a space, with their mappings. */
+static void mappings(void) {
+    static const l4_mapped other = {9, 9, 9, 9, 9, 9, 9};
+    l4_kernel kernel = L4_EMPTY;
+    l4_mapped pages[5];
+    size_t i;
+    for (i = 0; i < 5; i++)
+        pages[i] = other;
+    EXPECT(l4_mappings(&kernel, 0, 0, pages, 5).refusal == L4_B1 && memcmp(&pages[0], &other, sizeof other) == 0);
+    EXPECT(l4_boot(&kernel, 256) == L4_OK && l4_mappings(&kernel, 0, 0, NULL, 0).count == 256 && l4_mappings(&kernel, 1, 0, pages, 5).count == 0);
+    /* page 16 of sigma0 is at page 32 of space 2, and then at pages 40 and 7 of space 1 */
+    delivers(&kernel);
+    maps_page(&kernel, 1, 16, 2, 40);
+    maps_page(&kernel, 1, 17, 2, 7);
+    EXPECT(l4_mappings(&kernel, 1, 0, pages, 5).count == 2 && pages[0].page == 7 && pages[0].frame == 17 && pages[1].page == 40);
+    EXPECT(same_mapping(&pages[0], l4_mapping_of(&kernel, 1, 7)) && same_mapping(&pages[1], l4_mapping_of(&kernel, 1, 40)));
+    EXPECT(memcmp(&pages[2], &other, sizeof other) == 0);
+    /* from a page on; pages for which there is no room are counted, and nothing is written behind the room */
+    EXPECT(l4_mappings(&kernel, 1, 8, pages, 5).count == 1 && pages[0].page == 40 && l4_mappings(&kernel, 1, 41, pages, 5).count == 0);
+    EXPECT(l4_mappings(&kernel, 0, 254, pages, 1).count == 2 && pages[0].page == 254 && pages[0].has_parent == 0 && pages[1].page == 40);
+    /* absent: a space that does not exist, and a page beyond the space */
+    EXPECT(l4_mappings(&kernel, 7, 0, pages, 5).count == 0 && l4_mappings(&kernel, 0, UINT32_MAX, pages, 5).count == 0);
+    EXPECT(l4_mappings(&kernel, 0, 0, NULL, 0).count == 256);
+    l4_free(&kernel);
+}
+
 /* The pages that descend from a page. */
 static void descendants(void) {
     static const uint32_t page_16[1] = {0x100c7};
@@ -362,12 +394,21 @@ static void calls(l4_kernel *kernel) {
     EXPECT(l4_space_of(kernel, 3).there == 0 && l4_reply_of(kernel, 3).kind == L4_NONE);
 }
 
+/* A call whose reserved members are 0, except one. */
+static l4_call unplain(l4_call call, size_t place) {
+    call.reserved[place] = 1;
+    return call;
+}
+
 /* Refusals of what only C can pass. */
 static void refusals(l4_kernel *kernel) {
-    uint32_t words[70];
+    uint32_t words[70], i;
     l4_call call = send(2);
     memset(words, 0, sizeof words);
     EXPECT(plainly(kernel, 1, kind(0)).refusal == L4_B3 && plainly(kernel, 1, kind(7)).refusal == L4_B3);
+    EXPECT(plainly(kernel, 1, unplain(call, 0)).refusal == L4_B3 && plainly(kernel, 1, unplain(call, 3)).refusal == L4_B3);
+    for (i = L4_IPC; i <= L4_DELETE; i++)
+        EXPECT(plainly(kernel, 1, unplain(kind(i), i % 4)).refusal == L4_B3);
     EXPECT(plainly(kernel, 9, kind(L4_DELETE)).refusal == L4_K2);
     EXPECT(plainly(kernel, 1, call).refusal == L4_M7);
     words[0] = 0xfff;
@@ -511,6 +552,9 @@ static void chain_of_maps(l4_lock *lock) {
     EXPECT(l4_lock_check_provenance(lock, 3, 7, links, 2).refusal == L4_OK && l4_lock_check_provenance(lock, 2, 32, links, 1).refusal == L4_OK);
     EXPECT(l4_lock_check_provenance(lock, 3, 7, links, 1).refusal == L4_L7 && l4_lock_check_provenance(lock, 3, 7, links + 1, 1).refusal == L4_L7);
     EXPECT(l4_lock_check_provenance(lock, 3, 7, links, 0).refusal == L4_L7 && l4_lock_check_provenance(lock, 2, 32, links, 2).refusal == L4_L7);
+    links[1].reserved = 1;
+    EXPECT(l4_lock_check_provenance(lock, 3, 7, links, 2).refusal == L4_B3 && l4_lock_check_provenance(lock, 3, 7, links, 1).refusal == L4_L7);
+    links[1].reserved = 0;
     EXPECT(l4_lock_check_provenance(lock, 3, 8, links, 2).refusal == L4_L7 && l4_lock_check_provenance(lock, 3, 8, links, 0).refusal == L4_L7);
     links[1].item_rights = L4_READ;
     EXPECT(l4_lock_check_provenance(lock, 3, 7, links, 2).refusal == L4_L7);
@@ -545,12 +589,21 @@ static void provenance(void) {
 /* The first 8 entries are handed out. Those of later calls continue their numbers, and nothing is replayed. */
 static void first_segment(l4_lock *lock, l4_segment *segment) {
     l4_link links[2];
+    uint32_t ended[3] = {0, 0, 9};
+    const l4_entry last = l4_lock_entry(lock, 7);
+    /* the last transfer ended two calls; those for which there is no room are counted, and nothing is written behind the room */
+    EXPECT(l4_lock_ended(lock, 7, ended, 3).count == 2 && last.ended_count == 2 && ended[2] == 9);
+    EXPECT(ended[0] == last.ended[0] && ended[1] == last.ended[1] && l4_lock_ended(lock, 8, ended, 3).count == 0);
+    ended[0] = ended[1] = 9;
+    EXPECT(l4_lock_ended(lock, 7, ended, 1).count == 2 && ended[0] == last.ended[0] && ended[1] == 9);
     EXPECT(l4_lock_hand_out(lock, segment) == L4_OK && l4_lock_hand_out(lock, segment) == L4_B2);
     EXPECT(l4_segment_first(segment).count == 0 && l4_segment_length(segment).count == 8);
     EXPECT(l4_segment_entry(segment, 0).kind == L4_START && l4_segment_entry(segment, 7).kind == L4_TRANSFER);
     EXPECT(l4_segment_entry(segment, 7).thread == 3 && l4_segment_entry(segment, 7).receiver == 4);
     EXPECT(l4_segment_entry(segment, 8).refusal == L4_OK && l4_segment_entry(segment, 8).kind == L4_NONE);
     EXPECT(l4_lock_length(lock).count == 8 && l4_lock_kept_from(lock).count == 8);
+    ended[0] = 9;
+    EXPECT(l4_lock_ended(lock, 7, ended, 1).refusal == L4_L8 && ended[0] == 9 && l4_lock_ended(lock, 8, NULL, 0).refusal == L4_OK);
     EXPECT(l4_lock_entry(lock, 7).refusal == L4_L8 && l4_lock_entry(lock, 8).refusal == L4_OK && l4_lock_entry(lock, 8).kind == L4_NONE);
     EXPECT(l4_lock_receipt(lock, 2, 1).refusal == L4_L8 && l4_lock_receipt(lock, 2, 1).there == 0 && l4_lock_receipt(lock, 2, 2).refusal == L4_OK);
     EXPECT(l4_lock_seat_of(lock, 2).receipts == 2 && l4_lock_seat_of(lock, 2).kept_from == 2 && l4_lock_seat_of(lock, 2).starts == 2);
@@ -593,7 +646,9 @@ static void segments(void) {
     EXPECT(l4_lock_entry(&lock, 8).refusal == L4_L8 && l4_lock_entry(&lock, 10).kind == L4_TRANSFER && l4_lock_length(&lock).count == 11);
     EXPECT(l4_lock_receipt(&lock, 2, 2).there == 1 && l4_lock_receipt(&lock, 2, 2).start == 8 && l4_lock_receipt(&lock, 2, 2).end == 10);
     EXPECT(l4_lock_copy(&lock, &copy) == L4_OK && l4_lock_copy(&lock, &copy) == L4_B2 && l4_mapping_of(&copy, 1, 3).frame == 16);
-    EXPECT(l4_lock_close(&lock, seats, 4).refusal == L4_OK && l4_segment_length(&first).count == 8);
+    EXPECT(l4_lock_forget(&lock) == L4_OK && l4_lock_kept_from(&lock).count == 11 && l4_lock_length(&lock).count == 11);
+    EXPECT(l4_lock_receipt(&lock, 2, 2).refusal == L4_L8 && l4_lock_seat_of(&lock, 2).receipts == 3);
+    EXPECT(l4_lock_close(&lock, seats, 4).refusal == L4_OK && l4_segment_length(&first).count == 8 && l4_lock_forget(&lock) == L4_B1);
     EXPECT(l4_lock_copy(&lock, &copy) == L4_B1 && l4_space_of(&copy, 4).space == 3);
     l4_free(&copy);
     l4_segment_free(&first);
@@ -640,8 +695,11 @@ static void empty_locks(void) {
     EXPECT(by_seat(&lock, 1, kind(7), no_words, 0).refusal == L4_B1 && l4_lock_take(&lock, 1).refusal == L4_B1);
     EXPECT(l4_lock_entry(&lock, 0).refusal == L4_B1 && l4_lock_seat_of(&lock, 1).refusal == L4_B1);
     EXPECT(l4_lock_receipt(&lock, 1, 0).refusal == L4_B1 && l4_lock_close(&lock, no_words, 0).refusal == L4_B1);
+    EXPECT(l4_lock_frames_of(&lock).refusal == L4_B1 && l4_lock_ended(&lock, 0, NULL, 0).refusal == L4_B1);
+    EXPECT(l4_lock_mappings(&lock, 0, 0, NULL, 0).refusal == L4_B1);
     EXPECT(l4_lock_new(&lock, 0) == L4_K6 && l4_lock_new_sized(&lock, 0, 512) == L4_B4);
     EXPECT(l4_lock_new_sized(&lock, 16, L4_SMALL_PAGE_BYTES) == L4_OK && l4_lock_new(&lock, 1) == L4_B2);
+    EXPECT(l4_lock_frames_of(&lock).count == 16 && l4_lock_ended(&lock, 0, NULL, 0).count == 0 && l4_lock_mappings(&lock, 0, 3, NULL, 0).count == 13);
     EXPECT(l4_lock_close(&lock, no_words, 0).refusal == L4_OK && l4_lock_length(&lock).refusal == L4_B1);
 }
 
@@ -652,8 +710,9 @@ static void locks_wait(l4_lock *lock) {
     fault.address = 0x20123;
     fault.access = L4_READ;
     EXPECT(l4_lock_give(lock, 2) == L4_OK && l4_lock_give(lock, 3) == L4_OK && l4_lock_give(lock, 1) == L4_OK && l4_lock_give(lock, 3) == L4_L4);
-    EXPECT(by_seat(lock, 3, fault, no_words, 0).refusal == L4_K2 && by_seat(lock, 9, fault, no_words, 0).refusal == L4_K2);
-    EXPECT(by_seat(lock, 2, kind(0), no_words, 0).refusal == L4_B3);
+    EXPECT(by_seat(lock, 3, fault, no_words, 0).refusal == L4_K2 && by_seat(lock, 9, fault, no_words, 0).refusal == L4_X2);
+    EXPECT(by_seat(lock, 9, fault, no_words, 0).detail == 9);
+    EXPECT(by_seat(lock, 2, kind(0), no_words, 0).refusal == L4_B3 && by_seat(lock, 2, unplain(create(3, 2), 1), no_words, 0).refusal == L4_B3);
     EXPECT(by_seat(lock, 2, create(3, 2), no_words, 0).reply.kind == L4_REPLY_CONTROLLED);
     entered = by_seat(lock, 3, fault, no_words, 0);
     EXPECT(entered.refusal == L4_OK && entered.reply.kind == L4_NONE && l4_lock_poll(lock, 3) == 0 && l4_lock_take(lock, 3).kind == L4_NONE);
@@ -1073,6 +1132,22 @@ static int is_no_step(l4_kernel *kernel, const char *step) {
     return seen.refusal == L4_B5 && seen.verdict == 0 && seen.enabled.kind == L4_NONE && text[0] == 'x';
 }
 
+/* Lines of a step list and their answers. */
+static void executes(void) {
+    l4_kernel kernel = L4_EMPTY;
+    char text[64] = "x";
+    EXPECT(l4_execute(&kernel, "enabled", 7, text, sizeof text).refusal == L4_B1 && text[0] == 'x');
+    EXPECT(l4_boot(&kernel, 256) == L4_OK && l4_execute(&kernel, "start 1 ipc 0x8001 0 0 0 0x70000", 32, NULL, 0).count == 8);
+    EXPECT(l4_execute(&kernel, "trnsfer 1 2", 11, text, sizeof text).refusal == L4_B5 && text[0] == 'x');
+    EXPECT(l4_execute(&kernel, NULL, 0, text, sizeof text).refusal == L4_B5 && l4_state_of(&kernel, 1).state == L4_STATE_SENDING);
+    EXPECT(l4_execute(&kernel, "transfer 1 2", 12, text, sizeof text).count == 11 && strcmp(text, "refused K1\n") == 0);
+    EXPECT(l4_execute(&kernel, "start 2 ipc 0 0xffffffff 0 0", 28, text, 4).count == 8 && strcmp(text, "sta") == 0 && text[4] == 's');
+    EXPECT(l4_execute(&kernel, "transfer 1 2", 12, text, sizeof text).count == 57);
+    EXPECT(strcmp(text, "done\n1 ipc 00000000 0 00000000\n2 ipc 00070000 0 00004001\n") == 0 && l4_enabled(&kernel).kind == L4_NONE);
+    EXPECT(l4_execute(&kernel, "reply 2", 7, text, sizeof text).count == 24 && strcmp(text, "ipc 00070000 0 00004001\n") == 0);
+    l4_free(&kernel);
+}
+
 /* Another kernel's answers are compared as `l4 judge` compares them. */
 static void judges(void) {
     l4_kernel kernel = L4_EMPTY;
@@ -1120,7 +1195,7 @@ static void texts(int shows) {
             }
         }
     }
-    EXPECT(found == 61);
+    EXPECT(found == 66);
     EXPECT(l4_refusal_code(L4_OK, code, sizeof code) == 0 && code[0] == 0);
     EXPECT(l4_refusal_code(0x10000 | L4_K1, code, sizeof code) == 0);
     EXPECT(l4_refusal_code(L4_K1, cut, 2) == 2 && cut[0] == 'K' && cut[1] == 0 && cut[2] == 'x');
@@ -1143,6 +1218,7 @@ int main(int count, char **words) {
     l4_free(&kernel);
     states();
     copies();
+    mappings();
     descendants();
     readers();
     plans();
@@ -1161,6 +1237,7 @@ int main(int count, char **words) {
     nulls_of_locks();
     reserved();
     lines_of_text();
+    executes();
     judges();
     EXPECT(l4_version() == L4_VERSION && L4_VERSION == 1000);
     texts(shows);

@@ -32,7 +32,7 @@ from .kernel import Answer, Done, Entered, Expire, Kernel, Outcome, Step, Transf
 from .outcomes import Orders, PlanOutcome, SearchEnd, orders
 from .plans import Plan, Region
 from .protocols import FrameRequest, PageFault
-from .queries import Mapping, Place, Thread, ThreadState
+from .queries import Change, Mapping, Place, Thread, ThreadState
 from .refusals import BadCheckpoint, BadPlan, CheckpointFault, IpcFailed, Refused, TooLong
 from .replies import Reply, ReplyKind
 from .shared import Entry, Link, Receipt, Seat, Segment, SharedKernel, Start
@@ -71,6 +71,7 @@ __all__ = [
     "BadCheckpoint",
     "BadPlan",
     "Call",
+    "Change",
     "CheckpointFault",
     "Difference",
     "Done",

@@ -47,6 +47,7 @@ L4_B3 = 0x4233
 L4_B4 = 0x4234
 L4_B5 = 0x4235
 L4_B6 = 0x4236
+L4_B7 = 0x4237
 L4_K1 = 0x4B31
 L4_K2 = 0x4B32
 L4_K3 = 0x4B33
@@ -233,6 +234,10 @@ class l4_count(Structure):
     _fields_ = numbers("refusal") + [("count", c_uint64)]
 
 
+class l4_mapped(Structure):
+    _fields_ = numbers("page frame rights has_parent") + [("parent_space", c_uint64)] + numbers("parent_page reserved")
+
+
 class l4_place(Structure):
     _fields_ = [("space", c_uint64)] + numbers("page reserved")
 
@@ -375,6 +380,7 @@ STRUCTS = [
 ]
 
 KERNEL = POINTER(l4_kernel)
+MAPPED = POINTER(l4_mapped)
 PLACES = POINTER(l4_place)
 WORDS = POINTER(c_uint32)
 PAGER = POINTER(l4_pager)
@@ -404,6 +410,7 @@ FUNCTIONS: Dict[str, Tuple[Any, List[Any]]] = {
     "l4_next": (l4_step, [KERNEL]),
     "l4_enter": (l4_entered, [KERNEL, c_uint32, POINTER(l4_call), WORDS, c_size_t, POINTER(l4_step), c_size_t]),
     "l4_reply_of": (l4_reply, [KERNEL, c_uint32]),
+    "l4_execute": (l4_count, [KERNEL, c_char_p, c_size_t, c_char_p, c_size_t]),
     "l4_judge": (l4_judgement, [KERNEL, c_char_p, c_size_t, c_char_p, c_size_t, c_char_p, c_size_t]),
     "l4_space_of": (l4_space, [KERNEL, c_uint32]),
     "l4_next_space": (l4_space, [KERNEL, c_uint64]),
@@ -412,6 +419,7 @@ FUNCTIONS: Dict[str, Tuple[Any, List[Any]]] = {
     "l4_page_size_of": (l4_page_size, [KERNEL]),
     "l4_mapping_of": (l4_mapping, [KERNEL, c_uint64, c_uint32]),
     "l4_next_page": (l4_page, [KERNEL, c_uint64, c_uint32]),
+    "l4_mappings": (l4_count, [KERNEL, c_uint64, c_uint32, MAPPED, c_size_t]),
     "l4_descendants": (l4_count, [KERNEL, c_uint64, c_uint32, PLACES, c_size_t]),
     "l4_read_fault": (l4_fault, [WORDS, c_size_t]),
     "l4_read_request": (l4_request, [WORDS, c_size_t]),
@@ -444,6 +452,8 @@ FUNCTIONS: Dict[str, Tuple[Any, List[Any]]] = {
     "l4_lock_length": (l4_count, [LOCK]),
     "l4_lock_kept_from": (l4_count, [LOCK]),
     "l4_lock_entry": (l4_entry, [LOCK, c_size_t]),
+    "l4_lock_ended": (l4_count, [LOCK, c_size_t, WORDS, c_size_t]),
+    "l4_lock_frames_of": (l4_count, [LOCK]),
     "l4_lock_hand_out": (c_uint32, [LOCK, SEGMENT]),
     "l4_segment_free": (None, [SEGMENT]),
     "l4_segment_first": (l4_count, [SEGMENT]),
@@ -462,6 +472,7 @@ FUNCTIONS: Dict[str, Tuple[Any, List[Any]]] = {
     "l4_lock_page_size_of": (l4_page_size, [LOCK]),
     "l4_lock_mapping_of": (l4_mapping, [LOCK, c_uint64, c_uint32]),
     "l4_lock_next_page": (l4_page, [LOCK, c_uint64, c_uint32]),
+    "l4_lock_mappings": (l4_count, [LOCK, c_uint64, c_uint32, MAPPED, c_size_t]),
     "l4_lock_descendants": (l4_count, [LOCK, c_uint64, c_uint32, PLACES, c_size_t]),
     "l4_lock_copy": (c_uint32, [LOCK, KERNEL]),
     "l4_lock_close": (l4_verdict, [LOCK, WORDS, c_size_t]),

@@ -4,15 +4,18 @@ from __future__ import annotations
 import enum
 from ctypes import byref, c_char, create_string_buffer
 from dataclasses import dataclass
-from typing import Any, Callable, Iterator, Optional, Tuple, Union
+from typing import Any, Callable, Dict, Iterator, Optional, Tuple, Union
 
 from . import _library
 from ._handles import Handle, all_items
 from ._library import library, number, of_type
 from .calls import Call
-from .queries import Queries
+from .queries import Change, Mapping, Place, Queries
 from .refusals import BadCheckpoint, Refused
 from .words import MAX_THREADS, PAGE_BYTES
+
+# room for a line of each thread whose call ends in a step
+_ANSWER_ROOM = 1 << 16
 
 
 class Outcome(enum.Enum):
@@ -174,10 +177,35 @@ class Kernel(Handle, Queries):
         """
         return Kernel._copied(lambda made: self._ask(library.l4_copy, made), self, self._frames)
 
+    def changes_since(self, before: Kernel) -> Tuple[Change, ...]:
+        """Returns the pages whose mappings are others than those of another kernel, by rising space and page number: pages that are present
+        in one of the two kernels alone, and pages whose frame, rights or parent differ.
+
+        To learn which pages a step changed, copy the kernel before the step. Both kernels' mappings are compared in full.
+
+        >>> from l4 import Call, Fpage, Item, Message, Rights, ThreadId
+        >>> kernel = Kernel(2)
+        >>> page = Item.map(Fpage.page(1, Rights.READ), 0x20000)
+        >>> _ = kernel.start(2, Call.receive(window=Fpage.complete()))
+        >>> _ = kernel.start(1, Call.send(ThreadId.ROOT, Message.of(items=[page])))
+        >>> before = kernel.copy()
+        >>> _ = kernel.transfer(1, 2)
+        >>> [(change.place.page, change.before, str(change.after.rights)) for change in kernel.changes_since(before)]
+        [(32, None, 'r--')]
+        """
+        old, new = (kernel._all_mappings() for kernel in (of_type(before, Kernel, "the other kernel"), self))
+        places = sorted({*old, *new})
+        return tuple(Change(place, old.get(place), new.get(place)) for place in places if old.get(place) != new.get(place))
+
+    def _all_mappings(self) -> Dict[Place, Mapping]:
+        """Returns the mappings of all spaces by their pages."""
+        with self._turn:
+            return {mapping.place: mapping for space in self.spaces() for mapping in self.mappings(space)}
+
     def checkpoint(self, entries: int = 0) -> bytes:
         """Returns the state of the kernel as bytes. You keep them as a file, to continue a run later or to share a fault.
 
-        `entries` is the number of steps in its history since boot, or 0 if you keep none. Raises Refused, in this order, with L1 if `entries`
+        `entries` is the number of steps in its history since boot, or 0 if you keep none. Raises Refused, in this order, with B7 if `entries`
         exceeds 2^63, and with NoMemory if an allocation fails.
 
         >>> from l4 import Call, Message, ThreadId
@@ -286,6 +314,22 @@ class Kernel(Handle, Queries):
         """Executes the next step again and again, until no step is enabled, and yields each."""
         return iter(self.next, None)
 
+    def execute(self, step: str) -> str:
+        """Executes a line of a step list, without its newline: a step or a query. Returns the lines that `l4_steps` prints for it. If the kernel
+        refuses the step, that is its answer.
+
+        Raises Refused, in this order, with B5 if the line is not a step or query, and nothing has changed, and with NoMemory if there is no
+        memory for the answer: the step has been executed.
+
+        >>> kernel = Kernel(1)
+        >>> [kernel.execute(line) for line in ("start 1 ipc 0x8001 0 0 0 0", "reply 1", "transfer 2 1")]
+        ['started\\n', 'none\\n', 'refused K1\\n']
+        """
+        line, out = step.encode(), create_string_buffer(_ANSWER_ROOM)
+        told = self._told(self._ask(library.l4_execute, line, len(line), out, _ANSWER_ROOM))
+        if told.refusal:
+            raise Refused(told.refusal)
+        return out.value.decode()
 
     def _judge(self, step: bytes, found: bytes) -> Tuple[_library.l4_judgement, str]:
         """Executes a step or query, which is a line of a step list, and compares another kernel's answer. Returns what the library found, and

@@ -9,9 +9,10 @@ from . import _library
 from ._library import number
 from .refusals import Refused
 from .replies import Reply, reply_of
-from .words import SMALL_SPACE_PAGES, Rights, ThreadId
+from .words import Rights, ThreadId
 
-# room for as many pages as descend from most pages
+# room for as many pages as most spaces have, and as descend from most pages
+_MAPPED_ROOM = 64
 _PLACE_ROOM = 16
 
 
@@ -35,6 +36,16 @@ class Mapping:
     frame: int
     rights: Rights
     parent: Optional[Place]
+
+
+@dataclass(frozen=True)
+class Change:
+    """A page whose mapping is another one in two kernels, from `Kernel.changes_since`: its mapping in the kernel that was passed, and in the
+    one that was asked. Each is None if the page is not present there."""
+
+    place: Place
+    before: Optional[Mapping]
+    after: Optional[Mapping]
 
 
 class ThreadState(enum.Enum):
@@ -78,6 +89,12 @@ def _thread(told: _library.l4_state) -> Optional[Thread]:
         return None
     ids = ThreadId(told.id), told.space, ThreadId(told.pager)
     return Thread(*ids, ThreadState(told.state), ThreadId(told.partner), bool(told.expires), bool(told.fault))
+
+
+def _mapped(space: int, told: _library.l4_mapped) -> Mapping:
+    """Returns the mapping of a page of a space that the library lists."""
+    parent = Place(told.parent_space, told.parent_page) if told.has_parent else None
+    return Mapping(Place(space, told.page), told.frame, Rights.of_bits(told.rights), parent)
 
 
 class Queries:
@@ -136,17 +153,23 @@ class Queries:
         told = self._query("next_page", *place)
         return told.page if told.there else None
 
-    def mappings(self, space: int) -> Iterator[Mapping]:
-        """Yields the mappings of a space's present pages, by rising page number.
+    def mappings(self, space: int) -> Tuple[Mapping, ...]:
+        """Returns the mappings of a space's present pages, by rising page number.
 
-        You may execute steps in between: a page is yielded if it is present when its turn comes.
+        >>> from l4 import Kernel
+        >>> kernel = Kernel(3)
+        >>> [mapping.frame for mapping in kernel.mappings(0)]
+        [0, 1, 2]
         """
-        page = self.next_page(space, 0)
-        while page is not None:
-            mapping = self.mapping(space, page)
-            if mapping is not None:
-                yield mapping
-            page = self.next_page(space, page + 1) if page + 1 < SMALL_SPACE_PAGES else None
+        number(space, "a space", 64)
+        with self._turn:
+            room = _MAPPED_ROOM
+            while True:
+                pages = (_library.l4_mapped * room)()
+                told = self._query("mappings", space, 0, pages, room)
+                if told.count <= room:
+                    return tuple(_mapped(space, found) for found in pages[: told.count])
+                room = told.count
 
     def descendants(self, space: int, page: int) -> Tuple[Place, ...]:
         """Returns the pages that descend from a page of a space: those that were mapped from it, those that were mapped from these, and so

@@ -5,7 +5,7 @@ import asyncio
 import contextlib
 import threading
 import time
-from ctypes import byref, c_char
+from ctypes import byref, c_char, c_uint32
 from dataclasses import dataclass
 from itertools import count
 from typing import Any, Callable, ContextManager, Dict, Iterable, Iterator, List, Optional, Set, Tuple, Union
@@ -15,7 +15,7 @@ from ._handles import Handle, Unique, all_items
 from ._library import Forks, library, number, of_type
 from .calls import Call
 from .kernel import Expire, Kernel, Outcome, Transfer, step_of
-from .queries import Mapping, Place, Queries
+from .queries import Place, Queries
 from .refusals import Refused
 from .replies import Reply, reply_of
 from .words import PAGE_BYTES, Rights
@@ -23,6 +23,8 @@ from .words import PAGE_BYTES, Rights
 
 # room for as many links as most pages have
 _LINK_ROOM = 16
+# a kernel without a history drops its steps once it keeps this many
+_DROPPED = 1024
 
 
 @dataclass(frozen=True)
@@ -234,6 +236,9 @@ class SharedKernel(Unique, Queries):
     run and other seats can make calls. The kernel keeps at most 1,000,000 entries of its history. Once it keeps more than 999,871, every
     further call of a seat is refused with L1; queries and `close` still work. To run longer, call `hand_out` from time to time.
 
+    With `history=False`, the kernel keeps no history: it drops its steps and the receipts of its seats from time to time, so its memory does
+    not grow. Between two calls it keeps fewer than 1,024 steps. Methods that need dropped steps raise Refused with L8, as after `hand_out`.
+
     The memory is freed by `close`, at the end of a `with` block, or with the last reference to the kernel and its seats. From then on, every
     call raises ValueError; so does each call that still waits then.
 
@@ -250,11 +255,11 @@ class SharedKernel(Unique, Queries):
     3
     """
 
-    def __init__(self, frames: int = 256, page_bytes: int = PAGE_BYTES) -> None:
+    def __init__(self, frames: int = 256, page_bytes: int = PAGE_BYTES, history: bool = True) -> None:
         given = number(frames, "the number of frames"), number(page_bytes, "the number of bytes")
         self._lock = _Lock(*given)
-        self._frames = given[0]
         self._steps = 0
+        self._has_history = history
 
     def __enter__(self) -> SharedKernel:
         return self
@@ -324,6 +329,7 @@ class SharedKernel(Unique, Queries):
         any time; calls that wait are not affected. Raises Refused with NoMemory. Then nothing has changed.
         """
         with self._lock.entered:
+            self._wake()
             try:
                 return Segment(self._lock)
             except Refused as refused:
@@ -338,16 +344,37 @@ class SharedKernel(Unique, Queries):
     def _query(self, name: str, *values: Any) -> Any:
         return self._lock.answer(getattr(library, f"l4_lock_{name}"), *values)
 
-    def mappings(self, space: int) -> Iterator[Mapping]:
-        """Yields the mappings of a space's present pages at one moment, by rising page number."""
-        with self._turn:
-            return iter(tuple(super().mappings(space)))
+    def _ended(self) -> List[int]:
+        """Returns the seats whose calls ended in the entries that were appended since the seats were last woken."""
+        room = _library.L4_MAX_THREADS
+        while True:
+            threads = (c_uint32 * room)()
+            count = self._lock.answer(library.l4_lock_ended, self._steps, threads, room).count
+            if count <= room:
+                return threads[:count]
+            room = count
+
+    def _wake(self) -> None:
+        """Wakes the seats whose calls ended since the seats were last woken. The lock must be held."""
+        steps = self._lock.answer(library.l4_lock_length).count
+        # if an exception ends this loop, the next call wakes these seats
+        for seat in self._ended():
+            self._lock.wake(seat)
+        self._steps = steps
+
+    def _drop_steps(self) -> None:
+        """Drops the steps that the kernel keeps if there are enough of them, and if it keeps no history. If there is no memory for that, a later
+        call does it. The lock must be held."""
+        if not self._has_history and self._steps - self._lock.answer(library.l4_lock_kept_from).count >= _DROPPED:
+            with contextlib.suppress(Refused):
+                Segment(self._lock).close()
 
     def copy(self) -> Kernel:
         """Returns a copy of the kernel, in memory of its own, at one moment between two calls. You can query it while calls go on, or let
         it continue in another way. The copy has no history and no seats. Raises Refused with NoMemory.
         """
-        return Kernel._copied(lambda made: self._lock._ask(library.l4_lock_copy, made), self._lock, self._frames)
+        frames = self._lock.answer(library.l4_lock_frames_of).count
+        return Kernel._copied(lambda made: self._lock._ask(library.l4_lock_copy, made), self._lock, frames)
 
     def provenance(self, space: int, page: int) -> Optional[List[Link]]:
         """Finds how a page of a space got to where it is.
@@ -491,13 +518,8 @@ class Seat(Unique):
         told = kernel._lock.answer(library.l4_lock_enter, self._number, *given)
         if told.refusal:
             raise Refused(told.refusal, told.detail)
-        steps = kernel._lock.answer(library.l4_lock_length).count
-        # if an exception ends this loop, the next call wakes these seats
-        for place in range(kernel._steps, steps):
-            entry = kernel._lock.answer(library.l4_lock_entry, place)
-            for seat in entry.ended[: entry.ended_count]:
-                kernel._lock.wake(seat)
-        kernel._steps = steps
+        kernel._wake()
+        kernel._drop_steps()
         return reply_of(told.reply)
 
     def call_for(self, call: Call, seconds: float) -> Optional[Reply]:

@@ -90,7 +90,7 @@ class Checkpoints(unittest.TestCase):
         kernel = Kernel(1)
         with self.assertRaises(Refused) as raised:
             kernel.checkpoint((1 << 63) + 1)
-        self.assertEqual(raised.exception.code, "L1")
+        self.assertEqual(raised.exception.code, "B7")
         self.assertEqual(Kernel.from_checkpoint(kernel.checkpoint(1 << 63))[1], 1 << 63)
         kernel.close()
         with self.assertRaises(ValueError):

@@ -310,8 +310,6 @@ class Kernels(unittest.TestCase):
 
     def test_a_closed_kernel_is_refused(self):
         with delivered() as kernel:
-            mappings = kernel.mappings(0)
-            next(mappings)
             self.assertFalse(kernel.closed)
         self.assertTrue(kernel.closed)
         kernel.close()
@@ -330,7 +328,7 @@ class Kernels(unittest.TestCase):
             (kernel.threads,),
             (kernel.threads_in, 0),
             (kernel.descendants, 0, 0),
-            (next, mappings),
+            (kernel.mappings, 0),
         ):
             with self.assertRaisesRegex(ValueError, "closed"):
                 step(*values)

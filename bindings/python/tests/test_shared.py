@@ -146,6 +146,21 @@ class Shared(unittest.TestCase):
         self.assertEqual((root.starts, sigma0.starts), (200, 200))
         self.assertEqual(len(kernel.close([root, sigma0])), len(rest))
 
+    def test_a_kernel_without_a_history_drops_its_steps(self):
+        kernel = SharedKernel(1, history=False)
+        sigma0, root = kernel.seat(1), kernel.seat(2)
+        parties = Parties()
+        parties.begin("receives", lambda: [root.call(Call.receive()) for _ in range(1000)])
+        parties.begin("sends", lambda: [sigma0.call(Call.send(ThreadId.ROOT, Message.of(untyped=[5]))) for _ in range(1000)])
+        parties.end()
+        self.assertEqual((kernel.steps(), root.starts, sigma0.starts), (3000, 1000, 1000))
+        self.assertLess(len(kernel.history()), 1024)
+        self.assertLess(len(root.receipts), 1024)
+        for needs_all in (lambda: kernel.entries(0), lambda: kernel.provenance(0, 0)):
+            with self.assertRaisesRegex(Refused, "^L8: "):
+                needs_all()
+        kernel.close([root, sigma0])
+
     def test_receipts_and_steps_of_later_calls_continue_their_numbers(self):
         kernel = SharedKernel(1)
         root = kernel.seat(2)

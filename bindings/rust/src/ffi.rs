@@ -94,6 +94,7 @@ constants! {
     L4_B4 = 0x4234;
     L4_B5 = 0x4235;
     L4_B6 = 0x4236;
+    L4_B7 = 0x4237;
     L4_K1 = 0x4B31;
     L4_K2 = 0x4B32;
     L4_K3 = 0x4B33;
@@ -321,6 +322,16 @@ structs! {
         count: u64,
     }
 
+    struct l4_mapped {
+        page: u32,
+        frame: u32,
+        rights: u32,
+        has_parent: u32,
+        parent_space: u64,
+        parent_page: u32,
+        reserved: u32,
+    }
+
     struct l4_place {
         space: u64,
         page: u32,
@@ -497,6 +508,7 @@ functions! {
     fn l4_next(kernel: *mut l4_kernel) -> l4_step;
     fn l4_enter(kernel: *mut l4_kernel, thread: u32, call: *const l4_call, words: *const u32, count: usize, steps: *mut l4_step, room: usize) -> l4_entered;
     fn l4_reply_of(kernel: *mut l4_kernel, thread: u32) -> l4_reply;
+    fn l4_execute(kernel: *mut l4_kernel, step: *const c_char, step_length: usize, out: *mut c_char, room: usize) -> l4_count;
     fn l4_judge(kernel: *mut l4_kernel, step: *const c_char, step_length: usize, found: *const c_char, found_length: usize, expected: *mut c_char, room: usize) -> l4_judgement;
     fn l4_space_of(kernel: *mut l4_kernel, thread: u32) -> l4_space;
     fn l4_next_space(kernel: *mut l4_kernel, space: u64) -> l4_space;
@@ -505,6 +517,7 @@ functions! {
     fn l4_page_size_of(kernel: *mut l4_kernel) -> l4_page_size;
     fn l4_mapping_of(kernel: *mut l4_kernel, space: u64, page: u32) -> l4_mapping;
     fn l4_next_page(kernel: *mut l4_kernel, space: u64, page: u32) -> l4_page;
+    fn l4_mappings(kernel: *mut l4_kernel, space: u64, page: u32, pages: *mut l4_mapped, room: usize) -> l4_count;
     fn l4_descendants(kernel: *mut l4_kernel, space: u64, page: u32, places: *mut l4_place, room: usize) -> l4_count;
     fn l4_read_fault(words: *const u32, count: usize) -> l4_fault;
     fn l4_read_request(words: *const u32, count: usize) -> l4_request;
@@ -537,6 +550,8 @@ functions! {
     fn l4_lock_length(lock: *mut l4_lock) -> l4_count;
     fn l4_lock_kept_from(lock: *mut l4_lock) -> l4_count;
     fn l4_lock_entry(lock: *mut l4_lock, number: usize) -> l4_entry;
+    fn l4_lock_ended(lock: *mut l4_lock, number: usize, threads: *mut u32, room: usize) -> l4_count;
+    fn l4_lock_frames_of(lock: *mut l4_lock) -> l4_count;
     fn l4_lock_hand_out(lock: *mut l4_lock, segment: *mut l4_segment) -> u32;
     fn l4_segment_free(segment: *mut l4_segment) -> ();
     fn l4_segment_first(segment: *mut l4_segment) -> l4_count;
@@ -555,6 +570,7 @@ functions! {
     fn l4_lock_page_size_of(lock: *mut l4_lock) -> l4_page_size;
     fn l4_lock_mapping_of(lock: *mut l4_lock, space: u64, page: u32) -> l4_mapping;
     fn l4_lock_next_page(lock: *mut l4_lock, space: u64, page: u32) -> l4_page;
+    fn l4_lock_mappings(lock: *mut l4_lock, space: u64, page: u32, pages: *mut l4_mapped, room: usize) -> l4_count;
     fn l4_lock_descendants(lock: *mut l4_lock, space: u64, page: u32, places: *mut l4_place, room: usize) -> l4_count;
     fn l4_lock_copy(lock: *mut l4_lock, copy: *mut l4_kernel) -> u32;
     fn l4_lock_close(lock: *mut l4_lock, seats: *const u32, count: usize) -> l4_verdict;
@@ -607,6 +623,20 @@ const NO_LINK: l4_link = l4_link {
     item_rights: 0,
     reserved: 0,
 };
+
+/// No page with a mapping.
+const NOT_MAPPED: l4_mapped = l4_mapped {
+    page: 0,
+    frame: 0,
+    rights: 0,
+    has_parent: 0,
+    parent_space: 0,
+    parent_page: 0,
+    reserved: 0,
+};
+
+/// Room for as many pages as most spaces have.
+const MAPPED_ROOM: usize = 64;
 
 /// No page.
 const NO_PLACE: l4_place = l4_place {
@@ -806,6 +836,25 @@ impl Handle<l4_kernel> {
         (entered, steps)
     }
 
+    /// Executes a line, and returns the lines of its answer too.
+    pub(crate) fn execute(&mut self, step: &str) -> (l4_count, String) {
+        let mut out = vec![0u8; ANSWER_ROOM];
+        let (kernel, room) = (self.cell.get(), out.len());
+        // SAFETY: the handle is live and borrowed alone, so it does not overlap the step, which lives as long as its borrow; the array belongs
+        // to this function, and its room is its length.
+        let told = unsafe {
+            l4_execute(
+                kernel,
+                step.as_ptr().cast(),
+                step.len(),
+                out.as_mut_ptr().cast(),
+                room,
+            )
+        };
+        out.truncate(told.count as usize);
+        (told, String::from_utf8_lossy(&out).into_owned())
+    }
+
     /// Compares an answer, and returns the line that was expected too.
     pub(crate) fn judge(&mut self, step: &str, found: &str) -> (l4_judgement, String) {
         let mut line = [0u8; TEXT_ROOM];
@@ -839,6 +888,8 @@ pub(crate) trait Asked {
     fn page_size(&self) -> l4_page_size;
     fn mapping_of(&self, space: u64, page: u32) -> l4_mapping;
     fn next_page(&self, space: u64, page: u32) -> l4_page;
+    /// Returns the present pages of a space from this one on.
+    fn mappings(&self, space: u64, page: u32) -> Vec<l4_mapped>;
     /// Returns the pages that descend from a page, as many as the result counts.
     fn descendants(&self, space: u64, page: u32) -> (l4_count, Vec<l4_place>);
 }
@@ -855,6 +906,7 @@ macro_rules! asked {
         $page_size_of:ident,
         $mapping_of:ident,
         $next_page:ident,
+        $mappings:ident,
         $descendants:ident
     ) => {
         impl Asked for Handle<$handle> {
@@ -898,6 +950,20 @@ macro_rules! asked {
                 unsafe { $next_page(self.cell.get(), space, page) }
             }
 
+            fn mappings(&self, space: u64, page: u32) -> Vec<l4_mapped> {
+                let mut pages = vec![NOT_MAPPED; MAPPED_ROOM];
+                loop {
+                    let (room, first) = (pages.len(), pages.as_mut_ptr());
+                    // SAFETY: as in `enabled`; the pages belong to this function, and their room is their length.
+                    let told = unsafe { $mappings(self.cell.get(), space, page, first, room) };
+                    let count = told.count as usize;
+                    pages.resize(count, NOT_MAPPED);
+                    if count <= room {
+                        return pages;
+                    }
+                }
+            }
+
             fn descendants(&self, space: u64, page: u32) -> (l4_count, Vec<l4_place>) {
                 let mut places = vec![NO_PLACE; PLACE_ROOM];
                 loop {
@@ -925,6 +991,7 @@ asked!(
     l4_page_size_of,
     l4_mapping_of,
     l4_next_page,
+    l4_mappings,
     l4_descendants
 );
 
@@ -938,6 +1005,7 @@ asked!(
     l4_lock_page_size_of,
     l4_lock_mapping_of,
     l4_lock_next_page,
+    l4_lock_mappings,
     l4_lock_descendants
 );
 
@@ -976,6 +1044,20 @@ impl Handle<l4_lock> {
     pub(crate) fn entry(&self, number: usize) -> l4_entry {
         // SAFETY: as in `enabled`.
         unsafe { l4_lock_entry(self.cell.get(), number) }
+    }
+
+    /// Returns the threads whose calls ended in the entries from this number on, and how many they are: at most as many as threads exist.
+    pub(crate) fn ended(&self, number: usize) -> ([u32; L4_MAX_THREADS as usize], usize) {
+        let mut threads = [0; L4_MAX_THREADS as usize];
+        // SAFETY: as in `enabled`; the array has room for that many numbers, and is borrowed alone.
+        let told =
+            unsafe { l4_lock_ended(self.cell.get(), number, threads.as_mut_ptr(), threads.len()) };
+        (threads, threads.len().min(told.count as usize))
+    }
+
+    pub(crate) fn frames(&self) -> u32 {
+        // SAFETY: as in `enabled`.
+        unsafe { l4_lock_frames_of(self.cell.get()) }.count as u32
     }
 
     /// Hands out the entries that are kept, into a handle of their own, or returns the number of the refusal.

@@ -2,7 +2,9 @@
 use crate::ffi;
 use crate::refusals::unknown;
 use crate::{queries, BadCheckpoint, Call, PageSize, Refusal, Reply, Rights, Thread, MAX_THREADS};
-use std::{fmt, iter};
+use std::collections::BTreeMap;
+use std::marker::PhantomData;
+use std::{fmt, iter, vec};
 
 /// A step that does not start a call.
 #[derive(Clone, Copy, PartialEq, Eq, Hash, Debug)]
@@ -239,6 +241,17 @@ pub struct Mapping {
     pub parent: Option<Place>,
 }
 
+/// A page whose mapping is another one in two kernels, from [`Kernel::changes_since`].
+#[derive(Clone, Copy, PartialEq, Eq, Hash, Debug)]
+pub struct Change {
+    /// The page.
+    pub place: Place,
+    /// Its mapping in the kernel that was passed, or `None` if it is not present there.
+    pub before: Option<Mapping>,
+    /// Its mapping in the kernel that was asked, or `None` if it is not present there.
+    pub after: Option<Mapping>,
+}
+
 /// A kernel with its threads, spaces and mappings.
 ///
 /// It owns its memory, and frees it when it is dropped. It is [`Send`] but not [`Sync`]: one thread at a time uses it. Threads that share a
@@ -321,7 +334,7 @@ impl Kernel {
     ///
     /// # Errors
     ///
-    /// In this order: L1 if `entries` exceeds 2^63; NoMemory.
+    /// In this order: B7 if `entries` exceeds 2^63; NoMemory.
     ///
     /// # Examples
     ///
@@ -466,6 +479,29 @@ impl Kernel {
         queries::reply(&self.handle, thread)
     }
 
+    /// Executes a line of a step list, without its newline: a step or a query. Returns the lines that `l4_steps` prints for it. If the kernel
+    /// refuses the step, that is its answer.
+    ///
+    /// # Errors
+    ///
+    /// In this order: B5 if the line is not a step or query, and nothing has changed; NoMemory if there is no memory for the answer: the step
+    /// has been executed.
+    ///
+    /// ```
+    /// let mut kernel = l4::Kernel::boot(1)?;
+    /// assert_eq!(kernel.execute("start 1 ipc 0x8001 0 0 0 0")?, "started\n");
+    /// assert_eq!(kernel.execute("start 2 ipc 0 0xffffffff 0 0")?, "started\n");
+    /// assert_eq!(kernel.execute("transfer 1 2")?, "done\n1 ipc 00000000 0 00000000\n2 ipc 00000000 0 00004001\n");
+    /// # Ok::<(), l4::Refusal>(())
+    /// ```
+    pub fn execute(&mut self, step: &str) -> Result<String, Refusal> {
+        let (told, answer) = self.handle.execute(step);
+        match told.refusal {
+            ffi::L4_OK => Ok(answer),
+            number => Err(Refusal::of(number, 0)),
+        }
+    }
+
     /// Watches another kernel: executes a step that the other kernel executed, and compares the other kernel's answer with this kernel's,
     /// as `l4 judge` does.
     ///
@@ -567,6 +603,44 @@ impl Kernel {
         queries::descendants(&self.handle, space, page)
     }
 
+    /// Returns the pages whose mappings are others than those of another kernel, by rising space and page number: pages that are present in
+    /// one of the two kernels alone, and pages whose frame, rights or parent differ.
+    ///
+    /// To learn which pages a step changed, copy the kernel before the step. Both kernels' mappings are compared in full.
+    ///
+    /// ```
+    /// use l4::{Call, Fpage, Item, Kernel, Message, Rights, ThreadId, Timeout};
+    /// let mut kernel = Kernel::boot(2)?;
+    /// kernel.start(2, &Call::receive(ThreadId::ANY, Fpage::complete(Rights::NONE), Timeout::Never))?;
+    /// let page = Item::map(Fpage::page(1, Rights::READ)?, 0x20000);
+    /// kernel.start(1, &Call::send(ThreadId::ROOT, &Message::new(0, &[], &[page])?, Timeout::Never))?;
+    /// let before = kernel.copy()?;
+    /// kernel.transfer(1, 2)?;
+    /// let changes = kernel.changes_since(&before);
+    /// assert_eq!((changes.len(), changes[0].place.page, changes[0].before), (1, 32, None));
+    /// # Ok::<(), Box<dyn std::error::Error>>(())
+    /// ```
+    pub fn changes_since(&self, before: &Kernel) -> Vec<Change> {
+        let (old, new) = (before.all_mappings(), self.all_mappings());
+        let mut places: Vec<Place> = old.keys().chain(new.keys()).copied().collect();
+        places.sort_unstable();
+        places.dedup();
+        let change = |place| Change {
+            place,
+            before: old.get(&place).copied(),
+            after: new.get(&place).copied(),
+        };
+        let differs = |change: &Change| change.before != change.after;
+        places.into_iter().map(change).filter(differs).collect()
+    }
+
+    /// Returns the mappings of all spaces by their pages.
+    fn all_mappings(&self) -> BTreeMap<Place, Mapping> {
+        let spaces = self.spaces().into_iter();
+        let mappings = spaces.flat_map(|space| queries::mappings(&self.handle, space));
+        mappings.map(|mapping| (mapping.place, mapping)).collect()
+    }
+
     /// Returns an iterator over the mappings of a space's present pages, by rising page number.
     ///
     /// ```
@@ -577,8 +651,8 @@ impl Kernel {
     /// ```
     pub fn mappings(&self, space: u64) -> Mappings<'_> {
         Mappings {
-            kernel: self,
-            place: Place { space, page: 0 },
+            kernel: PhantomData,
+            found: queries::mappings(&self.handle, space).into_iter(),
         }
     }
 }
@@ -592,26 +666,16 @@ impl fmt::Debug for Kernel {
 /// An iterator over the mappings of a space, from [`Kernel::mappings`].
 #[derive(Clone, Debug)]
 pub struct Mappings<'kernel> {
-    kernel: &'kernel Kernel,
-    /// The first page that the iterator has not examined.
-    place: Place,
+    kernel: PhantomData<&'kernel Kernel>,
+    /// The mappings that are left.
+    found: vec::IntoIter<Mapping>,
 }
 
 impl Iterator for Mappings<'_> {
     type Item = Mapping;
 
     fn next(&mut self) -> Option<Mapping> {
-        let Place { space, page } = self.place;
-        match self.kernel.next_page(space, page) {
-            Some(page) => {
-                self.place.page = page + 1;
-                self.kernel.mapping(space, page)
-            }
-            None => {
-                self.place.page = self.kernel.page_size().space_pages();
-                None
-            }
-        }
+        self.found.next()
     }
 }
 

@@ -96,7 +96,9 @@ mod words;
 
 pub use calls::{Call, FpageCount, Ipc, Timeout};
 pub use checkpoints::{BadCheckpoint, CheckpointFault};
-pub use kernel::{Answer, Done, Entered, Kernel, Mapping, Mappings, Outcome, Place, Step, Verdict};
+pub use kernel::{
+    Answer, Change, Done, Entered, Kernel, Mapping, Mappings, Outcome, Place, Step, Verdict,
+};
 pub use outcomes::{orders, orders_sized, BadPlan, Orders, PlanOutcome, SearchEnd};
 pub use plans::{NoPlan, Plan, Region};
 pub use protocols::{FrameRequest, PageFault};

@@ -134,10 +134,19 @@ pub(crate) fn next_page(asked: &impl Asked, space: u64, page: u32) -> Option<u32
 }
 
 pub(crate) fn mappings(asked: &impl Asked, space: u64) -> Vec<Mapping> {
-    let next = |page| next_page(asked, space, page);
-    iter::successors(next(0), |page| next(page + 1))
-        .filter_map(|page| mapping(asked, space, page))
-        .collect()
+    let mapped = |told: &ffi::l4_mapped| Mapping {
+        place: Place {
+            space,
+            page: told.page,
+        },
+        frame: told.frame,
+        rights: Rights::of_bits(told.rights),
+        parent: (told.has_parent != 0).then_some(Place {
+            space: told.parent_space,
+            page: told.parent_page,
+        }),
+    };
+    asked.mappings(space, 0).iter().map(mapped).collect()
 }
 
 pub(crate) fn descendants(

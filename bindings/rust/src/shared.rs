@@ -216,15 +216,18 @@ impl fmt::Debug for Segment {
     }
 }
 
-/// What threads share: the locked kernel, the condition variable of each seat, the seats whose waits are to end, the history's length, and
-/// the number of frames at boot. All but the length are used only while the kernel is locked.
+/// A kernel without a history drops its steps once it keeps this many.
+const DROPPED: u64 = 1024;
+
+/// What threads share: the locked kernel, the condition variable of each seat, the seats whose waits are to end, the history's length, the
+/// size of pages, and whether the kernel keeps its history. All but the last three are used only while the kernel is locked.
 struct Shared {
     lock: Mutex<Handle<ffi::l4_lock>>,
     wakers: Mutex<HashMap<u32, Arc<Condvar>>>,
     ended: Mutex<HashSet<u32>>,
     steps: AtomicU64,
-    frames: u32,
     page_size: PageSize,
+    has_history: bool,
 }
 
 impl Shared {
@@ -245,16 +248,22 @@ impl Shared {
 
     /// Wakes the threads of other seats whose calls ended in the entries since `first`, and notes the history's length.
     fn wake(&self, lock: &Handle<ffi::l4_lock>, first: u64, own: u32) {
-        let count = lock.length().count;
-        self.steps.store(count, Ordering::SeqCst);
+        self.steps.store(lock.length().count, Ordering::SeqCst);
         let wakers = self.wakers();
-        for number in first..count {
-            let entry = lock.entry(number as usize);
-            for ended in &entry.ended[..entry.ended_count as usize] {
-                if let Some(waker) = wakers.get(ended).filter(|_| *ended != own) {
-                    waker.notify_one();
-                }
+        let (threads, count) = lock.ended(first as usize);
+        for ended in &threads[..count] {
+            if let Some(waker) = wakers.get(ended).filter(|_| *ended != own) {
+                waker.notify_one();
             }
+        }
+    }
+
+    /// Drops the steps that the kernel keeps if there are enough of them, and if it keeps no history. If there is no memory for that, a later
+    /// call does it.
+    fn drop_steps(&self, lock: &mut Handle<ffi::l4_lock>) {
+        let kept = self.steps.load(Ordering::SeqCst) - lock.kept_from().count;
+        if !self.has_history && kept >= DROPPED {
+            let _ = lock.hand_out();
         }
     }
 }
@@ -263,9 +272,12 @@ impl Shared {
 ///
 /// While the call of one seat waits, other threads can run and other seats can make calls. The kernel keeps at most 1,000,000 entries of
 /// its history. Once it keeps more than 999,871, every further call of a seat is refused with L1; queries and
-/// [`close`](SharedKernel::close) still work. To run longer, call [`hand_out`](SharedKernel::hand_out) from time to time. A clone is the same
-/// kernel, so each thread of the program may have one. The memory is freed when all clones and seats are dropped. After one clone was closed,
-/// the others find nothing: queries return nothing, and methods that can be refused return [`Refusal::EmptyHandle`].
+/// [`close`](SharedKernel::close) still work. To run longer, call [`hand_out`](SharedKernel::hand_out) from time to time, or boot the
+/// kernel [`without_history`](SharedKernel::without_history).
+///
+/// A clone is the same kernel, so each thread of the program may have one. The memory is freed when all clones and seats are dropped. After
+/// one clone was closed, the others find nothing: queries return nothing, and methods that can be refused return
+/// [`Refusal::EmptyHandle`].
 ///
 /// ```
 /// use l4::{Call, Fpage, Message, SharedKernel, ThreadId, Timeout};
@@ -294,6 +306,29 @@ impl SharedKernel {
 
     /// Boots a kernel with pages of this size. The errors are the same.
     pub fn new_sized(frames: u32, size: PageSize) -> Result<SharedKernel, Refusal> {
+        SharedKernel::made(frames, size, true)
+    }
+
+    /// Boots a kernel that keeps no history: it drops its steps and the receipts of its seats from time to time, so its memory does not grow.
+    /// Between two calls it keeps fewer than 1,024 steps. Methods that need dropped steps return L8, as after
+    /// [`hand_out`](SharedKernel::hand_out). The errors are those of [`new`](SharedKernel::new).
+    ///
+    /// ```
+    /// use l4::{Call, PageSize, SharedKernel, ThreadId};
+    /// let kernel = SharedKernel::without_history(1, PageSize::Kib4)?;
+    /// let mut root = kernel.seat(2)?;
+    /// for _ in 0..3000 {
+    ///     root.call(&Call::set_pager(ThreadId::ROOT, ThreadId::NIL))?;
+    /// }
+    /// assert_eq!(kernel.steps(), 3000);
+    /// assert!(kernel.history().len() < 1024);
+    /// # Ok::<(), l4::Refusal>(())
+    /// ```
+    pub fn without_history(frames: u32, size: PageSize) -> Result<SharedKernel, Refusal> {
+        SharedKernel::made(frames, size, false)
+    }
+
+    fn made(frames: u32, size: PageSize, has_history: bool) -> Result<SharedKernel, Refusal> {
         match Handle::lock(frames, size.bytes()) {
             Ok(handle) => Ok(SharedKernel {
                 shared: Arc::new(Shared {
@@ -301,8 +336,8 @@ impl SharedKernel {
                     wakers: Mutex::new(HashMap::new()),
                     ended: Mutex::new(HashSet::new()),
                     steps: AtomicU64::new(0),
-                    frames,
                     page_size: size,
+                    has_history,
                 }),
             }),
             Err(number) => Err(Refusal::of(number, 0)),
@@ -487,8 +522,9 @@ impl SharedKernel {
     ///
     /// NoMemory.
     pub fn copy(&self) -> Result<Kernel, Refusal> {
-        match self.shared.lock().copy() {
-            Ok(handle) => Ok(Kernel::of(handle, self.shared.frames)),
+        let lock = self.shared.lock();
+        match lock.copy() {
+            Ok(handle) => Ok(Kernel::of(handle, lock.frames())),
             Err(number) => Err(Refusal::of(number, 0)),
         }
     }
@@ -655,6 +691,7 @@ impl Seat {
             return Err(Refusal::of(told.refusal, told.detail));
         }
         self.shared.wake(lock, first, self.number);
+        self.shared.drop_steps(lock);
         Ok(Reply::of(&told.reply))
     }
 

@@ -130,7 +130,7 @@ fn a_number_that_no_history_has_is_refused() {
     let kernel = Kernel::boot(1).unwrap();
     assert_eq!(
         kernel.checkpoint((1 << 63) + 1).unwrap_err(),
-        Refusal::HistoryFull
+        Refusal::TooManyEntries
     );
     assert_eq!(
         Kernel::from_checkpoint(&kernel.checkpoint(1 << 63).unwrap())

@@ -172,6 +172,20 @@ fn a_thread_hands_out_segments_meanwhile() {
     }
 }
 
+#[test]
+fn a_kernel_without_a_history_drops_its_steps() {
+    let kernel = SharedKernel::without_history(1, PageSize::Kib4).unwrap();
+    let seats = storm(&kernel);
+    assert_eq!(kernel.steps(), 2108);
+    assert!(kernel.history().len() < 1024);
+    assert_eq!(kernel.entries(0).unwrap_err(), Refusal::HandedOut);
+    assert_eq!(kernel.provenance(0, 0).unwrap_err(), Refusal::HandedOut);
+    assert!(seats.iter().all(|seat| seat.starts() >= 7));
+    let kept: usize = seats.iter().map(|seat| seat.receipts().len()).sum();
+    assert!(kept < 1024, "{kept} receipts");
+    assert!(kernel.close(seats).is_ok());
+}
+
 /// The file of a segment that begins with entry 1, of a kernel with one frame: "LSG4", the version, the frames, the bytes of a page, and the
 /// number of the first entry.
 const HEADING: [u8; 24] = [

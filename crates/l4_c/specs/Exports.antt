@@ -11,7 +11,7 @@ use Rattle.l4_ipc.specs.declared.steps.Refused.{Refused}
 use Rattle.l4_ipc.specs.declared.steps.Answer.{Answer}
 use Rattle.l4_ipc.specs.declared.steps.Step.{Step}
 use Rattle.l4_ipc.specs.Following.{Done, AreNext}
-use Rattle.l4_c_values.specs.Called.{IsCall, IsNoKind}
+use Rattle.l4_c_values.specs.Called.{IsCall, IsNoCall}
 use Rattle.l4_refusals.specs.Texts.{spelled}
 use Rattle.l4_c_values.specs.Told.{refusal_result, answer_result, step_result, no_step_result, next_result, done_result}
 use Rattle.l4_c_values.specs.declared.calls.CallGiven.{CallGiven}
@@ -39,7 +39,7 @@ Boots None size frames number new =
 abbrev pub Starts : Option Machine → ℕ → CallGiven → List ℕ → StepResult → Option Machine → Type 0
 Starts None thread g words r new = (r ≡ refusal_result (spelled (codes "B1")) 0) × (new ≡ None)
 Starts (Some old) thread g words r new =
-    (IsNoKind g × (r ≡ refusal_result (spelled (codes "B3")) 0) × (new ≡ Some old))
+    (IsNoCall g × (r ≡ refusal_result (spelled (codes "B3")) 0) × (new ≡ Some old))
     ⊎ ((call : Call) × IsCall g words call × Answers (Some old) (Start thread call) r new)
 
 -- the next step, or none if no step is enabled
@@ -74,7 +74,7 @@ pub record Follows (old : Machine) (places : List NextResult) (count : ℕ) (wri
 -- and nothing is written.
 abbrev pub Goes : Machine → ℕ → CallGiven → List ℕ → List NextResult → EnterResult → List NextResult → Machine → Type 0
 Goes old thread g words places r written new =
-    (IsNoKind g × (r ≡ record { start = refusal_result (spelled (codes "B3")) 0; step_count = 0 }) × (written ≡ places) × (new ≡ old))
+    (IsNoCall g × (r ≡ record { start = refusal_result (spelled (codes "B3")) 0; step_count = 0 }) × (written ≡ places) × (new ≡ old))
     ⊎ ((call : Call) × IsCall g words call
     × (((e : Refused) × Steps old (Start thread call) (Err e) new × (r ≡ record { start = step_result (Err e); step_count = 0 }) × (written ≡ places))
     ⊎ ((answer : Answer) × (started : Machine) × Steps old (Start thread call) (Ok answer) started × (r.start ≡ answer_result answer)

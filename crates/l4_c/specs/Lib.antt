@@ -1,10 +1,8 @@
-pub mod Copied
 pub mod Read
 pub mod Checked
 pub mod Exports
-pub mod Locking
+pub mod Judged
 pub mod Planned
 pub mod Served
-pub mod Segmented
 pub mod Versions
 pub mod Watched

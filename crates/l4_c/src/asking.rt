@@ -2,11 +2,13 @@
 ghost use Rattle.std.specs.Prelude.{◌≡◌, None};
 ghost use Rattle.l4_c_queries.specs.Asked.{TellsSpace, TellsSize, TellsMapping, TellsPage, TellsReply};
 ghost use Rattle.l4_c_queries.specs.Listed.{TellsNextThread, TellsNextSpace};
+ghost use Rattle.l4_c_queries.specs.Mapped.{TellsMappings};
 ghost use Rattle.l4_c_queries.specs.States.{TellsState};
 
 use l4_c_queries::{
-    StateResult, ThreadResult, mapping_of, next_page, next_space, next_thread, no_mapping, no_size,
-    no_state, page_size_of, reply_of, space_of, space_told, state_of, thread_told,
+    CountResult, MappedResult, StateResult, ThreadResult, counted, list_mappings, mapping_of,
+    next_page, next_space, next_thread, no_mapping, no_size, no_state, page_size_of, reply_of,
+    space_of, space_told, state_of, thread_told,
 };
 use l4_c_values::{
     EMPTY, KernelHandle, MappingResult, PageResult, ReplyResult, SizeResult, SpaceResult, no_page,
@@ -76,6 +78,27 @@ pub extern "C" fn l4_next_page(
         return no_page(EMPTY);
     };
     let told = next_page(&kernel, space, page);
+    handle.put(kernel);
+    told
+}
+
+/// Writes the present pages of a space from `page` on, with their mappings, to the array, in rising order and up to its length, and returns
+/// how many there are. Refuses an empty handle (B1), and then writes nothing.
+#[unsafe(no_mangle)]
+pub extern "C" fn l4_mappings(
+    alloc: Global,
+    handle: &mut KernelHandle,
+    space: u64,
+    page: u32,
+    out: &mut [MappedResult],
+) -> CountResult
+    ensures kept { handle.new.value ≡ handle.old.value }
+    ensures told { TellsMappings handle.old.value space page out.old result out.new }
+{
+    let Some(kernel) = handle.take(alloc) else {
+        return counted(EMPTY, 0);
+    };
+    let told = list_mappings(&kernel, space, page, out);
     handle.put(kernel);
     told
 }

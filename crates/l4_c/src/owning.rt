@@ -3,12 +3,11 @@ ghost use Rattle.std.specs.Prelude.{◌≡◌, None, Some, codes};
 ghost use Rattle.l4_fpage.specs.declared.sizes.PageSize.TheVariants.{Kib4};
 ghost use Rattle.l4_refusals.specs.Texts.{spelled};
 ghost use Rattle.l4_c.specs.Exports.{Boots};
-ghost use Rattle.l4_c.specs.Copied.{Copies, kernel_of};
+ghost use Rattle.l4_c_queries.specs.Copied.{Copies};
 ghost use Rattle.l4_c_values.specs.InBytes.{InBytes};
 
-use l4_c_values::{
-    EMPTY, HELD, KernelHandle, LockHandle, NO_MEMORY, NO_SUCH_SIZE, kernel_number, size_of,
-};
+use l4_c_queries::fill;
+use l4_c_values::{EMPTY, HELD, KernelHandle, NO_MEMORY, NO_SUCH_SIZE, kernel_number, size_of};
 use l4_ipc::{Kernel, PageSize};
 use std::alloc::Global;
 
@@ -59,27 +58,6 @@ pub extern "C" fn l4_boot_sized(
     }
 }
 
-/// Fills an empty handle with a copy of the kernel. Refuses a handle that is not empty (B2), or returns NoMemory.
-fn fill(alloc: Global, copy: &mut KernelHandle, kernel: &Kernel) -> u32
-    ensures { Copies (Some kernel.now) copy.old.value result copy.new.value }
-{
-    if let Some(held) = copy.take(alloc) {
-        copy.put(held);
-        return HELD;
-    }
-    let copied = match kernel.copy() {
-        Ok(copied) => copied,
-        Err(_) => return NO_MEMORY,
-    };
-    match Box::new(alloc, copied) {
-        Ok(copied) => {
-            copy.put(copied);
-            0
-        }
-        Err(_) => NO_MEMORY,
-    }
-}
-
 /// Copies a kernel into a second, empty handle. Refuses an empty first handle (B1) and a second one that is not empty (B2), or returns
 /// NoMemory.
 #[unsafe(no_mangle)]
@@ -92,25 +70,6 @@ pub extern "C" fn l4_copy(alloc: Global, handle: &mut KernelHandle, copy: &mut K
     };
     let number = fill(alloc, copy, &original);
     handle.put(original);
-    number
-}
-
-/// Copies the kernel of a locked kernel into an empty handle. Refuses an empty first handle (B1) and a second one that is not empty (B2), or
-/// returns NoMemory.
-#[unsafe(no_mangle)]
-pub extern "C" fn l4_lock_copy(
-    alloc: Global,
-    handle: &mut LockHandle,
-    copy: &mut KernelHandle,
-) -> u32
-    ensures kept { handle.new.value ≡ handle.old.value }
-    ensures copied { Copies (kernel_of handle.old.value) copy.old.value result copy.new.value }
-{
-    let Some(lock) = handle.take(alloc) else {
-        return EMPTY;
-    };
-    let number = fill(alloc, copy, lock.kernel());
-    handle.put(lock);
     number
 }
 

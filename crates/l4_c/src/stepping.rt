@@ -7,9 +7,8 @@ ghost use Rattle.l4_ipc.specs.NextSteps.{step_of, answer_of};
 ghost use Rattle.l4_c_values.specs.Told.{done_result};
 
 use l4_c_values::{
-    CallGiven, DELETE, EMPTY, EnterResult, KernelHandle, NO_SUCH_CALL, NextResult, StepResult,
-    answered, delete, done_told, kernel_detail, kernel_number, no_step, refused, step_told, told,
-    write_call,
+    CallGiven, EMPTY, EnterResult, KernelHandle, NO_SUCH_CALL, NextResult, StepResult, answered,
+    done_told, kernel_detail, kernel_number, no_step, refused, step_told, told, write_call,
 };
 use l4_ipc::{Answer, ArrayVec, Call, IpcCall, Kernel, NextStep, Outcome, Step, ThreadId};
 use std::alloc::Global;
@@ -66,9 +65,6 @@ fn start_call(kernel: &mut Kernel, thread: u32, call: &Call) -> StepResult
 pub fn start(kernel: &mut Kernel, thread: u32, given: &CallGiven, words: &[u32]) -> StepResult
     ensures { Starts (Some kernel.old) thread given.now words.now result (Some kernel.new) }
 {
-    if given.kind == DELETE {
-        return start_call(kernel, thread, &delete(given, words));
-    }
     let mut call = Call::Ipc(IpcCall {
         to: ThreadId(0),
         from: ThreadId(0),

@@ -18,12 +18,12 @@ use Rattle.l4_c_checkpoints.specs.declared.reading.CheckpointResult.{CheckpointR
 abbrev pub count_result : ℕ → ℕ → CountResult
 count_result code count = record { refusal = code; count = count }
 
--- A number of frames that no kernel has is refused first (K6), and then a number of entries that no history has (L1). Otherwise the bytes of
+-- A number of frames that no kernel has is refused first (K6), and then a number of entries that no history has (B7). Otherwise the bytes of
 -- the machine's checkpoint are counted, and written as far as there is room, or memory ran out. Nothing is written after a refusal.
 abbrev pub Writes : ℕ → ℕ → Machine → List ℕ → CountResult → List ℕ → Type 0
 Writes frames entries m old r new =
     (((frames ≡ 0) ⊎ (max_frames < frames)) × (r ≡ count_result (spelled (codes "K6")) 0) × (new ≡ old))
-    ⊎ ((1 ≤ frames) × (frames ≤ max_frames) × (max_handed_out < entries) × (r ≡ count_result (spelled (codes "L1")) 0) × (new ≡ old))
+    ⊎ ((1 ≤ frames) × (frames ≤ max_frames) × (max_handed_out < entries) × (r ≡ count_result (spelled (codes "B7")) 0) × (new ≡ old))
     ⊎ ((bytes : List ℕ) × IsCheckpoint frames entries m bytes × (r ≡ count_result 0 (length bytes)) × (new ≡ placed bytes old))
     ⊎ ((1 ≤ frames) × (frames ≤ max_frames) × (entries ≤ max_handed_out) × (r ≡ count_result (spelled (codes "NoMemory")) 0) × (new ≡ old))
 

@@ -9,7 +9,7 @@ use l4_ipc::{Kernel, MAX_FRAMES};
 use l4_record::MAX_HANDED_OUT;
 use std::alloc::Global;
 
-/// Writes the checkpoint of a kernel to the array, up to its length, and returns how many bytes it has. The refusals are K6, L1 and NoMemory,
+/// Writes the checkpoint of a kernel to the array, up to its length, and returns how many bytes it has. The refusals are K6, B7 and NoMemory,
 /// in this order.
 fn write(alloc: Global, kernel: &Kernel, frames: u32, entries: usize, out: &mut [u8]) -> CountResult
     ensures { Writes frames entries kernel.now out.old result out.new }
@@ -30,7 +30,7 @@ fn write(alloc: Global, kernel: &Kernel, frames: u32, entries: usize, out: &mut 
 }
 
 /// Writes the checkpoint of a kernel to the array, up to its length, and returns how many bytes it has. `frames` is the number of frames with
-/// which the kernel was booted, and `entries` the number of entries in its history since boot. The refusals are B1, K6, L1 and NoMemory, in
+/// which the kernel was booted, and `entries` the number of entries in its history since boot. The refusals are B1, K6, B7 and NoMemory, in
 /// this order. Nothing is written after a refusal.
 #[unsafe(no_mangle)]
 pub extern "C" fn l4_checkpoint_write(

@@ -13,7 +13,7 @@ use Rattle.l4_c_values.specs.declared.links.ChainResult.{ChainResult}
 use Rattle.l4_c_values.specs.declared.links.Link.{Link}
 use Rattle.l4_c_queries.specs.Traced.{verdict_of}
 use Rattle.l4_c_queries.specs.Placed.{placed}
-use Rattle.l4_c_queries.specs.Traced.{TracesPage, JudgesLinks}
+use Rattle.l4_c_queries.specs.Traced.{TracesPage, ProvesLinks}
 use Rattle.l4_c_queries.specs.declared.tracing.Verdict.{Verdict}
 
 module _ (l : Lock) (place : Place) where
@@ -29,10 +29,10 @@ module _ (l : Lock) (place : Place) where
 
   module _ (given : List Link) (seen : List ChainLink) (same : seen ≡ map link_given given) (says : Bool) (v : Verdict)
       (judged : (boot : Machine) × IsBootWith l.frames l.kernel.size boot × IsReplayed boot l.history × (IsTrue says ↔ IsProvenance boot l.history place seen)) where
-    pub judged_right : says ≡ true → v ≡ verdict_of 0 0 → JudgesLinks l place given v
+    pub judged_right : says ≡ true → v ≡ verdict_of 0 0 → ProvesLinks l place given v
     judged_right right told =
         inl (judged.0, judged.1, subst (λ (ls : List ChainLink). IsProvenance judged.0 l.history place ls) same (judged.3.0 right), told)
 
-    pub judged_wrong : says ≡ false → v ≡ verdict_of (spelled (codes "L7")) 0 → JudgesLinks l place given v
+    pub judged_wrong : says ≡ false → v ≡ verdict_of (spelled (codes "L7")) 0 → ProvesLinks l place given v
     judged_wrong wrong told =
         inr (inl (judged.0, judged.1, judged.2, (λ is. false≢true (sym wrong ∙ judged.3.1 (subst (λ (ls : List ChainLink). IsProvenance judged.0 l.history place ls) (sym same) is))), told))

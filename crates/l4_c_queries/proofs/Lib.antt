@@ -3,3 +3,7 @@ pub mod Below
 pub mod Told
 pub mod Found
 pub mod Kept
+pub mod Ended
+pub mod Mapping
+pub mod Refused
+pub mod Plain

@@ -1,7 +1,7 @@
 -- Items that are put into places, one after another.
 use Rattle.std.proofs.Common.{◌≡◌, ℕ, zero, suc, ◌+◌, ◌<◌, ◌≤◌, ap, ◌∙◌, sym, refl, arith, add-one, List, [], ◌∷◌, ◌++◌, length, map, get_or, take, drop, set}
 use Rattle.std.proofs.lemmas.List.{at_drop_more}
-use Rattle.l4_c_queries.specs.Placed.{placed}
+use Rattle.l4_c_queries.specs.Placed.{placed, placed_behind}
 
 module _ {X : Type 0} where
   set_step : (others out : List X) (item : X) (at : ℕ) → at < length out
@@ -57,4 +57,37 @@ module _ {X : Type 0} where
       → take (at + 1) (set out at item) ++ placed (drop (at + 1) list) (drop (at + 1) (set out at item)) ≡ whole
   placed_item list out whole at d item e lt room h =
       placed_more (drop at list) (drop (at + 1) list) out whole item at
+      (at_drop_more (λ (l : List X). l) list at d lt ∙ ap (λ (y : X). y ∷ drop (at + 1) list) (sym e)) room h
+
+  -- items that are put behind others
+  behind_first : (items others out : List X) → placed_behind (length items) others (placed items out) ≡ placed (items ++ others) out
+  behind_first [] others [] = refl
+  behind_first [] others (o ∷ os) = refl
+  behind_first (x ∷ xs) others [] = no_place others
+  behind_first (x ∷ xs) others (o ∷ os) = ap (λ (l : List X). x ∷ l) (behind_first xs others os)
+
+  pub placed_then : (items others old out new : List X) (count : ℕ) → count ≡ length items → out ≡ placed items old → new ≡ placed_behind count others out → new ≡ placed (items ++ others) old
+  placed_then items others old out new count number before behind =
+      behind ∙ (λ i. placed_behind (number i) others (before i)) ∙ behind_first items others old
+
+  -- nothing is put behind others
+  pub placed_none : (out : List X) (at : ℕ) → out ≡ placed_behind at [] out
+  placed_none out at = sym (none_left out at)
+
+  -- one item is put behind others, where there is a place, and where there is none
+  pub placed_one : (out : List X) (item : X) (at : ℕ) → at < length out → set out at item ≡ placed_behind at (item ∷ []) out
+  placed_one [] item at lt = absurd (omega (arith, lt))
+  placed_one (o ∷ os) item zero lt = refl
+  placed_one (o ∷ os) item (suc at) lt = ap (λ (l : List X). o ∷ l) (placed_one os item at (omega (arith, lt)))
+
+  pub placed_beyond : (out items : List X) (at : ℕ) → length out ≤ at → out ≡ placed_behind at items out
+  placed_beyond out items at le = sym (full items out at le)
+
+  -- one item more of a list that is put behind others
+  pub placed_item_behind : (list out whole : List X) (behind at : ℕ) (d item : X) → item ≡ get_or list at d → at < length list → behind + at < length out
+      → placed_behind (behind + at) (drop at list) out ≡ whole → placed_behind (behind + (at + 1)) (drop (at + 1) list) (set out (behind + at) item) ≡ whole
+  placed_item_behind list out whole behind at d item e lt room h =
+      let next : behind + (at + 1) ≡ (behind + at) + 1 = omega arith in
+      ap (λ (n : ℕ). placed_behind n (drop (at + 1) list) (set out (behind + at) item)) next
+      ∙ placed_more (drop at list) (drop (at + 1) list) out whole item (behind + at)
       (at_drop_more (λ (l : List X). l) list at d lt ∙ ap (λ (y : X). y ∷ drop (at + 1) list) (sym e)) room h

@@ -1,7 +1,10 @@
 pub mod Asked
+pub mod Copied
 pub mod Descended
 pub mod Files
+pub mod Inside
 pub mod Listed
+pub mod Mapped
 pub mod Placed
 pub mod Recalled
 pub mod States

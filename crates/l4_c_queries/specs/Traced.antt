@@ -1,5 +1,5 @@
 -- The provenance of the pages of a locked kernel, as C gets it (this profile's own).
-use Rattle.std.specs.Prelude.{◌≡◌, ◌⊎◌, ℕ, List, length, map, codes, Option, None, Some}
+use Rattle.std.specs.Prelude.{◌≡◌, ◌⊎◌, ◌&&◌, ℕ, Bool, true, false, nat_eq, List, [], ◌∷◌, length, map, codes, Option, None, Some}
 use Rattle.l4_mapdb.specs.declared.Place.{Place}
 use Rattle.l4_ipc.specs.Machine.{Machine}
 use Rattle.l4_record.specs.declared.links.ChainLink.{ChainLink}
@@ -38,14 +38,24 @@ abbrev pub TellsProvenance : Option Lock → ℕ → ℕ → List Link → Chain
 TellsProvenance None space page old r new = (r ≡ chain_result (spelled (codes "B1")) 0 0 0) × (new ≡ old)
 TellsProvenance (Some l) space page old r new = TracesPage l (record { space = space; page = page }) old r new
 
+-- the reserved member of each link is 0
+abbrev pub are_plain : List Link → Bool
+are_plain [] = true
+are_plain (link ∷ links) = nat_eq link.reserved 0 && are_plain links
+
 -- The links are the page's provenance in the history, or the whole history is replayed and they are not (L7), or entries were handed out, or
 -- the history is not replayed, or there was no memory for the links.
-abbrev pub JudgesLinks : Lock → Place → List Link → Verdict → Type 0
-JudgesLinks l place links v =
+abbrev pub ProvesLinks : Lock → Place → List Link → Verdict → Type 0
+ProvesLinks l place links v =
     ((boot : Machine) × IsBootOf l boot × IsProvenance boot l.history place (map link_given links) × (v ≡ verdict_of 0 0))
     ⊎ ((boot : Machine) × IsBootOf l boot × IsReplayed boot l.history × ¬ (IsProvenance boot l.history place (map link_given links)) × (v ≡ verdict_of (spelled (codes "L7")) 0))
     ⊎ ((fault : TraceFault) × IsNotTraced l fault × (v ≡ verdict_of (fault_code fault) (fault_carries fault)))
     ⊎ (v ≡ verdict_of (spelled (codes "NoMemory")) 0)
+
+-- the same for links whose reserved members are 0; others are refused (B3)
+abbrev pub JudgesLinks : Lock → Place → List Link → Verdict → Type 0
+JudgesLinks l place links v =
+    ((are_plain links ≡ false) × (v ≡ verdict_of (spelled (codes "B3")) 0)) ⊎ ((are_plain links ≡ true) × ProvesLinks l place links v)
 
 -- the same for a page of a space in a handle's lock; an empty handle is refused (B1)
 abbrev pub TellsJudgement : Option Lock → ℕ → ℕ → List Link → Verdict → Type 0

@@ -2,11 +2,11 @@
 ghost use Rattle.std.specs.Prelude.{◌≡◌, map, IfSome};
 ghost use Rattle.l4_c_values.specs.Linked.{link_result, link_given};
 ghost use Rattle.l4_c_queries.specs.Placed.{placed};
-ghost use Rattle.l4_c_queries.specs.Traced.{verdict_of, TracesPage, JudgesLinks};
+ghost use Rattle.l4_c_queries.specs.Traced.{verdict_of, TracesPage, are_plain, ProvesLinks, JudgesLinks};
 
 use l4_c_values::{
-    ChainResult, Link, NO_MEMORY, OTHER_CHAIN, chain_told, fault_detail, fault_number, link_given,
-    link_told, no_chain,
+    ChainResult, Link, NO_MEMORY, NO_SUCH_CALL, OTHER_CHAIN, chain_told, fault_detail,
+    fault_number, link_given, link_told, no_chain,
 };
 use l4_ipc::Place;
 use l4_record::ChainLink;
@@ -54,6 +54,18 @@ pub fn trace(alloc: Global, lock: &SeatedLock, place: Place, out: &mut [Link]) -
     }
 }
 
+/// Returns whether the reserved member of each link is 0.
+fn are_plain(links: &[Link]) -> bool
+    ensures { result ≡ are_plain links.now }
+{
+    for at in 0..links.len() {
+        if links[at].reserved != 0 {
+            return false;
+        }
+    }
+    true
+}
+
 /// Converts the links that C passed, or returns None if an allocation fails.
 fn links_of(alloc: Global, given: &[Link]) -> Option<Vec<ChainLink>>
     ensures { IfSome result (λ links. links.items ≡ map link_given given.now) }
@@ -68,8 +80,8 @@ fn links_of(alloc: Global, given: &[Link]) -> Option<Vec<ChainLink>>
 }
 
 /// Checks that links from any source are the provenance of a page.
-pub fn judge_links(alloc: Global, lock: &SeatedLock, place: Place, given: &[Link]) -> Verdict
-    ensures { JudgesLinks lock.now place given.now result }
+fn prove_links(alloc: Global, lock: &SeatedLock, place: Place, given: &[Link]) -> Verdict
+    ensures { ProvesLinks lock.now place given.now result }
 {
     let Some(links) = links_of(alloc, given) else {
         return verdict_of(NO_MEMORY, 0);
@@ -79,4 +91,14 @@ pub fn judge_links(alloc: Global, lock: &SeatedLock, place: Place, given: &[Link
         Ok(false) => verdict_of(OTHER_CHAIN, 0),
         Err(fault) => verdict_of(fault_number(fault), fault_detail(fault)),
     }
+}
+
+/// Does the same for links whose reserved members are 0, and refuses others (B3).
+pub fn judge_links(alloc: Global, lock: &SeatedLock, place: Place, given: &[Link]) -> Verdict
+    ensures { JudgesLinks lock.now place given.now result }
+{
+    if !are_plain(given) {
+        return verdict_of(NO_SUCH_CALL, 0);
+    }
+    prove_links(alloc, lock, place, given)
 }

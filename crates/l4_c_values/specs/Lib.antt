@@ -1,7 +1,6 @@
 pub mod Called
 pub mod InBytes
 pub mod Inside
-pub mod Judged
 pub mod Lines
 pub mod Linked
 pub mod Messages

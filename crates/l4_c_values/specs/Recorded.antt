@@ -8,7 +8,7 @@ use Rattle.l4_ipc.specs.declared.steps.Answer.{Answer}
 use Rattle.l4_ipc.specs.declared.steps.Step.{Step}
 use Rattle.l4_ipc.specs.declared.steps.Step.TheVariants.{Start, Transfer, Expire}
 use Rattle.l4_record.specs.declared.entries.Entry.{Entry}
-use Rattle.l4_lock.specs.Books.{SeatState, starts}
+use Rattle.l4_lock.specs.Books.{SeatState, Book, starts}
 use Rattle.l4_lock.specs.declared.entries.Receipt.{Receipt}
 use Rattle.l4_lock.specs.declared.closing.Mismatch.{Mismatch}
 use Rattle.l4_lock.specs.declared.closing.Mismatch.TheVariants.{Missing, Foreign, Receipt as WrongReceipt}
@@ -55,6 +55,11 @@ mismatch_seat (WrongReceipt n) = n
 -- a call that was not entered
 abbrev pub unseated_result : ℕ → ℕ → SeatedResult
 unseated_result code number = record { refusal = code; detail = number; reply = plain_result 0 0 0 }
+
+-- a call that the lock refused: with X2 and its number if no seat has this number, and otherwise with the lock's reason
+abbrev pub refused_call : Option Book → ℕ → LockRefusal → SeatedResult
+refused_call None n e = unseated_result (spelled (codes "X2")) n
+refused_call (Some b) n e = unseated_result (lock_code e) (lock_carries e)
 
 -- the result for a call that was entered: its reply if it has ended, or none
 abbrev pub entered_result : Entered → SeatedResult

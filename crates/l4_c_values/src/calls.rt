@@ -1,7 +1,7 @@
 //! Calls as C passes them.
 ghost use Rattle.std.specs.Prelude.{◌≡◌, ◌≤◌, [], true, false, length, take};
 ghost use Rattle.l4_fpage.specs.Rights.{set_of_bits};
-ghost use Rattle.l4_c_values.specs.Called.{IsBlank, IsCall, IsNoKind};
+ghost use Rattle.l4_c_values.specs.Called.{IsBlank, IsPlain, HasMembers, IsCall, IsNoCall};
 
 use l4_ipc::{
     ArrayVec, Call, Control, Create, FaultCall, IpcCall, MAX_WORDS, Rights, SetPager, ThreadId,
@@ -60,7 +60,7 @@ pub fn rights(word: u32) -> Rights
 fn write_ipc(call: &mut Call, given: &CallGiven, words: &[u32])
     requires kind { given.now.kind ≡ 1 }
     requires blank { IsBlank call.old }
-    ensures { IsCall given.now words.now call.new }
+    ensures { HasMembers given.now words.now call.new }
 {
     if let Call::Ipc(ipc) = call {
         ipc.to = ThreadId(given.to);
@@ -73,7 +73,7 @@ fn write_ipc(call: &mut Call, given: &CallGiven, words: &[u32])
 
 fn write_unmap(call: &mut Call, given: &CallGiven, words: &[u32])
     requires { given.now.kind ≡ 3 }
-    ensures { IsCall given.now words.now call.new }
+    ensures { HasMembers given.now words.now call.new }
 {
     *call = Call::Unmap(UnmapCall {
         control: 0,
@@ -87,7 +87,7 @@ fn write_unmap(call: &mut Call, given: &CallGiven, words: &[u32])
 
 fn fault(given: &CallGiven, words: &[u32]) -> Call
     requires { given.now.kind ≡ 2 }
-    ensures { IsCall given.now words.now result }
+    ensures { HasMembers given.now words.now result }
 {
     Call::Fault(FaultCall {
         address: given.address,
@@ -98,7 +98,7 @@ fn fault(given: &CallGiven, words: &[u32]) -> Call
 
 fn create(given: &CallGiven, words: &[u32]) -> Call
     requires { given.now.kind ≡ 4 }
-    ensures { IsCall given.now words.now result }
+    ensures { HasMembers given.now words.now result }
 {
     Call::Control(Control::Create(Create {
         id: ThreadId(given.id),
@@ -109,7 +109,7 @@ fn create(given: &CallGiven, words: &[u32]) -> Call
 
 fn set_pager(given: &CallGiven, words: &[u32]) -> Call
     requires { given.now.kind ≡ 5 }
-    ensures { IsCall given.now words.now result }
+    ensures { HasMembers given.now words.now result }
 {
     Call::Control(Control::SetPager(SetPager {
         id: ThreadId(given.id),
@@ -119,19 +119,30 @@ fn set_pager(given: &CallGiven, words: &[u32]) -> Call
 
 pub fn delete(given: &CallGiven, words: &[u32]) -> Call
     requires { given.now.kind ≡ 6 }
-    ensures { IsCall given.now words.now result }
+    ensures { HasMembers given.now words.now result }
 {
     Call::Control(Control::Delete(ThreadId(given.id)))
 }
 
+/// Returns whether the reserved members are 0.
+fn is_plain(given: &CallGiven) -> bool
+    ensures yes { result ≡ true → IsPlain given.now }
+    ensures no { result ≡ false → ¬ (IsPlain given.now) }
+{
+    given.reserved.as_slice() == [0; 4].as_slice()
+}
+
 /// Overwrites a blank call with the call that C passed, because a call has room for a whole message, which a move would copy. Returns false
-/// if its kind is unknown.
+/// if its kind is unknown, or a reserved member is not 0.
 #[inline(always)]
 pub fn write_call(call: &mut Call, given: &CallGiven, words: &[u32]) -> bool
     requires { IsBlank call.old }
     ensures is { result ≡ true → IsCall given.now words.now call.new }
-    ensures none { result ≡ false → IsNoKind given.now }
+    ensures none { result ≡ false → IsNoCall given.now }
 {
+    if !is_plain(given) {
+        return false;
+    }
     match given.kind {
         1 => write_ipc(call, given, words),
         2 => *call = fault(given, words),

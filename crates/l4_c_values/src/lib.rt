@@ -4,7 +4,6 @@
 #![tactic(auto)]
 
 mod calls;
-mod judgements;
 mod kernels;
 mod lines;
 mod links;
@@ -21,7 +20,6 @@ mod segments;
 mod sigma0s;
 
 pub use calls::{CallGiven, DELETE, delete, rights, write_call};
-pub use judgements::{JudgeResult, expected_of, judge_told, unjudged};
 pub use kernels::KernelHandle;
 pub use lines::{Line, MAX_LINE, reply_line, step_line};
 pub use links::{
@@ -31,9 +29,9 @@ pub use locks::LockHandle;
 pub use loose::Loose;
 pub use messages::{MessageResult, message_told, no_message, no_reply, reply_told, unread};
 pub use numbers::{
-    BAD_FRAMES, EMPTY, HANDED_OUT, HELD, NO_MEMORY, NO_SUCH_CALL, NO_SUCH_SIZE, NO_SUCH_STEP,
-    OTHER_ANSWER, OTHER_CHAIN, TOO_LONG, kernel_detail, kernel_number, message_detail,
-    message_number,
+    BAD_FRAMES, EMPTY, HANDED_OUT, HELD, NO_MEMORY, NO_SUCH_CALL, NO_SUCH_SEAT, NO_SUCH_SIZE,
+    NO_SUCH_STEP, OTHER_ANSWER, OTHER_CHAIN, TOO_LONG, kernel_detail, kernel_number,
+    message_detail, message_number,
 };
 pub use pagers::PagerHandle;
 pub use protocols::{FaultResult, RequestResult, fault_told, no_fault, no_request, request_told};

@@ -15,7 +15,7 @@ pub const EMPTY: u32 = 0x4231;
 /// B2: the handle is not empty: free it before you use it again.
 pub const HELD: u32 = 0x4232;
 
-/// B3: the kind of call is unknown.
+/// B3: the kind of call is unknown, or a reserved member is not 0.
 pub const NO_SUCH_CALL: u32 = 0x4233;
 
 /// B4: the page size must be 4,096 or 1,024 bytes.
@@ -24,11 +24,11 @@ pub const NO_SUCH_SIZE: u32 = 0x4234;
 /// B5: the line is not a step or query of a step list.
 pub const NO_SUCH_STEP: u32 = 0x4235;
 
+/// B7: a number of entries exceeds 2^63.
+pub const TOO_LONG: u32 = 0x4237;
+
 /// K6: the number of frames must be from 1 to 4,096.
 pub const BAD_FRAMES: u32 = 0x4b36;
-
-/// L1: too many entries were recorded.
-pub const TOO_LONG: u32 = 0x4c31;
 
 /// L6: a transfer that ran out of memory in the history succeeded when the history was replayed.
 pub const OTHER_ANSWER: u32 = 0x4c36;
@@ -38,6 +38,9 @@ pub const OTHER_CHAIN: u32 = 0x4c37;
 
 /// L8: the entry or receipt was handed out, or the history cannot be replayed because entries were handed out.
 pub const HANDED_OUT: u32 = 0x4c38;
+
+/// X2: the seat of this number was never given out, or was returned twice.
+pub const NO_SUCH_SEAT: u32 = 0x5832;
 
 /// NoMemory: there was not enough memory.
 pub const NO_MEMORY: u32 = 0x4e6f;

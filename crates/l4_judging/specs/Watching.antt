@@ -27,6 +27,16 @@ differs_from place due (said ∷ lines) = if has_said due said then differs_from
 abbrev pub parts_of : Difference → ℕ × List ℕ
 parts_of difference = (difference.place, difference.expected.items)
 
+-- the machine does what the line asks for, and this is its answer
+abbrev pub Executes : Machine → List ℕ → List ℕ → Machine → Type 0
+Executes old line text new = (request : Request) × (request_of (tokens_of line) ≡ Some request) × Answers old request text new
+
+-- Why there is no answer: the line asks for nothing, and nothing has changed; or there is no memory for it, and the machine has done what the
+-- line asks for.
+abbrev pub HasNoAnswer : Machine → List ℕ → Unjudged → Machine → Type 0
+HasNoAnswer old line Unread new = (request_of (tokens_of line) ≡ None) × (new ≡ old)
+HasNoAnswer old line Memory new = (text : List ℕ) × Executes old line text new
+
 -- The machine does what the line asks for, and the answer is compared with the machine's. A line that asks for nothing changes nothing. Where
 -- there is no memory for the comparison, the machine has done what the line asks for.
 abbrev pub JudgesStep : Machine → List ℕ → List ℕ → Result Judgement Unjudged → Machine → Type 0

@@ -11,4 +11,4 @@ mod watching;
 
 pub use judging::{JudgeFault, Wanted, judge};
 pub use requests::read_requests;
-pub use watching::{Difference, Judgement, Unjudged, judge_step};
+pub use watching::{Difference, Judgement, Unjudged, execute_step, judge_step};

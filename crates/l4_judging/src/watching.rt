@@ -1,7 +1,7 @@
 //! Another kernel's answer to one step or query.
-ghost use Rattle.std.specs.Prelude.{◌≡◌, ◌==◌, length, Some, None, MatchOption, if◌then◌else◌};
+ghost use Rattle.std.specs.Prelude.{◌≡◌, ◌==◌, length, Some, None, MatchOption, IfOk, IfErr, if◌then◌else◌};
 ghost use Rattle.l4_answers.specs.Lines.{first_line};
-ghost use Rattle.l4_judging.specs.Watching.{said_lines, differs_from, JudgesStep};
+ghost use Rattle.l4_judging.specs.Watching.{said_lines, differs_from, Executes, HasNoAnswer, JudgesStep};
 
 use crate::expected::has_said;
 use crate::judging::{answered, copied};
@@ -29,13 +29,13 @@ pub struct Judgement {
     pub next: Option<Step>,
 }
 
-/// Why an answer was not compared.
+/// Why there is no answer, or why it was not compared.
 #[derive(Debug, Drop, Error)]
 pub enum Unjudged {
     /// The line is not a step or query. Nothing has changed.
     #[error("the line is not a step or query")]
     Unread,
-    /// There is not enough memory for the comparison. The step has been executed.
+    /// There is not enough memory for the answer or the comparison. The step has been executed.
     #[error("there was not enough memory")]
     Memory,
 }
@@ -65,6 +65,22 @@ fn first_difference(due: &mut AnswerLines, answer: &[u8]) -> Option<usize>
         rest = later_lines(rest);
     }
     lack_at(due, answer.len())
+}
+
+/// Executes a step or query, which is given as a line of a step list without its newline. Returns the lines that `run` writes for it.
+///
+/// Returns `Unread` if the line is not a step or query, a comment included.
+pub fn execute_step(alloc: Global, kernel: &mut Kernel, line: &[u8]) -> Result<Vec<u8>, Unjudged>
+    ensures ok { IfOk result (λ text. Executes kernel.old line.now text.items kernel.new) }
+    ensures err { IfErr result (λ why. HasNoAnswer kernel.old line.now why kernel.new) }
+{
+    let Some(request) = read_request(line) else {
+        return Err(Unjudged::Unread);
+    };
+    match answered(alloc, kernel, request) {
+        Some(text) => Ok(text),
+        None => Err(Unjudged::Memory),
+    }
 }
 
 /// Executes a step or query, which is given as a line of a step list without its newline, and compares another kernel's answer with this
