@@ -1,6 +1,10 @@
-//! After each of many random calls: each page has the frame of its parent and no more rights, a refused call has changed nothing, and a
-//! copy of the kernel has done the same.
+//! After each of many random calls: each page has the frame of its parent and no more rights, what descends from it are the pages below it, a
+//! refused call has changed nothing, and a copy of the kernel and one that was read from a checkpoint have done the same. Threads of the
+//! program make such calls of one shared kernel too.
 use l4::*;
+use std::collections::BTreeMap;
+use std::thread;
+use std::time::Duration;
 
 const FRAMES: u32 = 16;
 const THREADS: u32 = 6;
@@ -113,11 +117,35 @@ fn check_parents(kernel: &Kernel, mappings: &[Mapping]) {
     }
 }
 
+/// The pages that descend from a page are those whose parents lead to it.
+fn check_descendants(kernel: &Kernel, mappings: &[Mapping]) {
+    let parents: BTreeMap<Place, Option<Place>> = mappings
+        .iter()
+        .map(|mapping| (mapping.place, mapping.parent))
+        .collect();
+    let mut below: BTreeMap<Place, Vec<Place>> = BTreeMap::new();
+    for &place in parents.keys() {
+        let mut above = parents[&place];
+        while let Some(page) = above {
+            below.entry(page).or_default().push(place);
+            above = parents[&page];
+        }
+    }
+    for place in parents.keys() {
+        let mut found = kernel.descendants(place.space, place.page).unwrap();
+        found.sort_unstable();
+        assert_eq!(found, below.remove(place).unwrap_or_default(), "{place:?}");
+    }
+}
+
+fn creates() -> impl Iterator<Item = Call> {
+    (3..=THREADS).map(|number| Call::create(id(number), id(number), ThreadId::ROOT))
+}
+
 /// A kernel with all threads, each of them in a space of its own.
 fn boot() -> Kernel {
     let mut kernel = Kernel::boot(FRAMES).unwrap();
-    for number in 3..=THREADS {
-        let create = Call::create(id(number), id(number), ThreadId::ROOT);
+    for create in creates() {
         kernel.enter(2, &create).unwrap();
     }
     kernel
@@ -126,15 +154,22 @@ fn boot() -> Kernel {
 /// Makes a call, and checks what must hold then. Returns the transfers that it led to, or nothing if it was refused.
 fn check_call(kernel: &mut Kernel, thread: u32, call: &Call) -> Option<usize> {
     let before = state(kernel);
+    let checkpoint = kernel.checkpoint(0).unwrap();
+    let (mut read, _) = Kernel::from_checkpoint(&checkpoint).unwrap();
     let mut copy = kernel.copy().unwrap();
     let entered = kernel.enter(thread, call);
     let after = state(kernel);
     assert_eq!(entered, copy.enter(thread, call), "{thread} {call:?}");
     assert_eq!(after, state(&copy), "{thread} {call:?}");
+    assert_eq!(entered, read.enter(thread, call), "{thread} {call:?}");
+    assert_eq!(after, state(&read), "{thread} {call:?}");
+    assert_eq!(kernel.changes_since(&copy), []);
     assert_eq!(kernel.enabled(), None, "{thread} {call:?}");
     check_parents(kernel, &after.mappings);
+    check_descendants(kernel, &after.mappings);
     let Ok(entered) = entered else {
         assert_eq!(before, after, "{thread} {call:?}");
+        assert_eq!(kernel.checkpoint(0).unwrap(), checkpoint);
         return None;
     };
     let is_delivered = |done: &&Done| done.outcome == Outcome::Delivered;
@@ -162,4 +197,96 @@ fn random_calls_keep_what_must_hold() {
     }
     // the calls are of all kinds
     assert!(refused > 1000 && delivered > 500, "{refused} {delivered}");
+}
+
+/// Makes random calls under a seat, and waits for none of them. Returns the number of replies.
+fn act(seat: &mut Seat, mut random: Random) -> usize {
+    let mut replies = 0;
+    for _ in 0..200 {
+        // if an earlier call waits, this one is refused
+        let call = match random.below(2) {
+            0 => random.call(),
+            _ => Call::receive(ThreadId::ANY, WINDOW, Timeout::Never),
+        };
+        let at_once = matches!(seat.call_for(&call, Duration::ZERO), Ok(Some(_)));
+        replies += usize::from(at_once) + usize::from(seat.take().is_some());
+    }
+    replies
+}
+
+/// Executes the steps of a history on a new kernel.
+fn replay(history: &[Entry]) -> Kernel {
+    let mut kernel = Kernel::boot(FRAMES).unwrap();
+    for entry in history {
+        let answer = match &entry.step {
+            Recorded::Start { thread, call } => kernel.start(*thread, call),
+            Recorded::Next(Step::Transfer { sender, receiver }) => {
+                kernel.transfer(*sender, *receiver)
+            }
+            Recorded::Next(Step::Expire { thread }) => kernel.expire(*thread),
+            other => panic!("{other:?}"),
+        };
+        let answer = answer.unwrap();
+        assert_eq!(
+            (answer.outcome, answer.ended),
+            (entry.outcome, entry.ended.clone())
+        );
+    }
+    kernel
+}
+
+/// Threads of the program make random calls of one kernel at the same time. Returns their seats and the numbers of their replies.
+fn storm(kernel: &SharedKernel, round: u64) -> (Vec<Seat>, Vec<usize>) {
+    let mut seats: Vec<Seat> = (1..=THREADS)
+        .map(|number| kernel.seat(number).unwrap())
+        .collect();
+    for create in creates() {
+        seats[1].call(&create).unwrap();
+    }
+    let mut replies = thread::scope(|threads| {
+        let running: Vec<_> = seats
+            .iter_mut()
+            .map(|seat| {
+                let seed = 0x1234_5678_9abc_def1 ^ round << 8 ^ u64::from(seat.number());
+                threads.spawn(move || act(seat, Random(seed)))
+            })
+            .collect();
+        let joined = running.into_iter().map(|thread| thread.join().unwrap());
+        joined.collect::<Vec<usize>>()
+    });
+    replies[1] += creates().count();
+    (seats, replies)
+}
+
+/// Some pages have a provenance from sigma0's page of their frame, and a shorter list is refused.
+fn check_provenance(kernel: &SharedKernel, mappings: &[Mapping]) {
+    for mapping in mappings.iter().rev().take(20) {
+        let Place { space, page } = mapping.place;
+        let links = kernel.provenance(space, page).unwrap().unwrap();
+        assert_eq!(kernel.check_provenance(space, page, &links), Ok(()));
+        let Some((first, rest)) = links.split_first() else {
+            continue;
+        };
+        assert_eq!((first.source.space, first.source.page), (0, mapping.frame));
+        let shorter = kernel.check_provenance(space, page, rest);
+        assert_eq!(shorter, Err(Refusal::OtherProvenance));
+    }
+}
+
+#[test]
+fn threads_make_random_calls_of_one_kernel() {
+    for round in 1..=10 {
+        let kernel = SharedKernel::new(FRAMES).unwrap();
+        let (seats, replies) = storm(&kernel, round);
+        let copy = kernel.copy().unwrap();
+        let mappings = state(&copy).mappings;
+        check_parents(&copy, &mappings);
+        check_descendants(&copy, &mappings);
+        check_provenance(&kernel, &mappings);
+        let receipts = seats.iter().map(|seat| seat.receipts().len());
+        assert_eq!(receipts.collect::<Vec<_>>(), replies);
+        let replayed = replay(&kernel.close(seats).unwrap());
+        assert_eq!(replayed.changes_since(&copy), []);
+        assert_eq!(replayed.checkpoint(0).unwrap(), copy.checkpoint(0).unwrap());
+    }
 }
