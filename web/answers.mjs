@@ -1,5 +1,5 @@
 // Answers the page's questions by the program. It runs in a worker.
-import { Program, READINGS, failureText } from "./program.mjs";
+import { PRINTS, Program, READINGS, failureText } from "./program.mjs";
 import { MOST_TRIED, Run } from "./runs.mjs";
 import { glanceAt, shownAt } from "../bindings/python/l4/views/shown.mjs";
 import { runAt } from "../bindings/python/l4/views/changes.mjs";
@@ -7,7 +7,8 @@ import { stepText } from "../bindings/python/l4/views/kernel.mjs";
 import { rightsText } from "../bindings/python/l4/views/words.mjs";
 import { counted, cut, cutList, ended, grouped, linesIn, megabytes } from "../bindings/python/l4/views/texts.mjs";
 
-const MOST_SCRIPT = 16 << 20, MOST_SHOWN = 256, MOST_WRITTEN = 2 << 20, MOST_ITEMS_SAID = 3, MOST_EXPLAINED = 64, MOST_ORDERS = 2n ** 64n - 1n;
+const MOST_SCRIPT = 16 << 20, MOST_SHOWN = 256, MOST_WRITTEN = 2 << 20, MOST_ITEMS_SAID = 3, MOST_EXPLAINED = 64, MOST_DRAWN = 300;
+const MOST_ORDERS = 2n ** 64n - 1n;
 
 const machineOf = (asked) => ({ frames: asked.frames, pageBytes: asked.pageBytes });
 
@@ -115,7 +116,9 @@ class Answers {
     this.report("Searching the orders");
     const { end, orders, states, outcomes } = this.program.orders(ended(linesIn(asked.script)), machineOf(asked), asked.most);
     const shown = outcomes.slice(0, MOST_SHOWN).map(({ answers, witness, broken }) => ({ answers: cutList(answers), witness, broken: cutList(broken) }));
-    return { end, orders: end === "all" ? orderCount(orders) : "0", states, outcomeCount: outcomes.length, outcomes: shown };
+    const hasGraph = end === "all" && states <= MOST_DRAWN;
+    const graph = hasGraph ? this.program.ordersText(ended(linesIn(asked.script)), machineOf(asked), asked.most, PRINTS.graph) : null;
+    return { end, orders: end === "all" ? orderCount(orders) : "0", states, outcomeCount: outcomes.length, outcomes: shown, graph };
   }
 
   /** A text as `l4` writes it. */
@@ -125,6 +128,9 @@ class Answers {
       "run": () => this.program.run(script, machine), "run --explain": () => this.program.explain(script, machine),
       "run --number --moves": () => this.program.annotate(script, machine),
       "history": () => this.program.history(script, machine, false), "history --answers": () => this.program.history(script, machine, true),
+      "orders": () => this.program.ordersText(script, machine, asked.most, PRINTS.orders),
+      "orders --outcomes": () => this.program.ordersText(script, machine, asked.most, PRINTS.outcomes),
+      "orders --dot": () => this.program.ordersText(script, machine, asked.most, PRINTS.graph),
       "why": () => this.program.why(script, machine, words[0], words[1]).text, "decode": () => this.program.decode(words, READINGS.message, machine),
       "plan": () => this.program.plan(asked.region, machine).text, "check": () => this.program.check(asked.region, machine, asked.claim).text,
     };

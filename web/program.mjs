@@ -10,6 +10,8 @@ const SEARCH_ROOM = 1 << 22, LENGTHS = 1 << 13;
 export const RIGHTS = { x: 1, w: 2, r: 4 };
 /** How words are read: as a message, each alone, as an fpage, as a window, as a thread id, as the control of an Unmap. */
 export const READINGS = { message: 0, each: 1, fpage: 2, window: 3, id: 4, control: 5 };
+/** What `l4 orders` writes: the outcomes with an order of each, the outcomes alone (`--outcomes`), and the graph of the states (`--dot`). */
+export const PRINTS = { orders: 0, outcomes: 1, graph: 2 };
 
 const REFUSALS = {
   B4: "A page has 4,096 or 1,024 bytes.",
@@ -27,6 +29,9 @@ export class Refused extends Error {
     this.code = codeOf(refusal);
   }
 }
+
+/** The code `NoMemory`. */
+const NO_MEMORY = 0x4e6f;
 
 /** The ends of a search, by the module's numbers. */
 const ENDS = { 1: "all", 2: "most", 3: "memory", 4: "history" };
@@ -148,6 +153,15 @@ export class Program {
     return this.call("page_why", script, frames, pageBytes, new Given(thread, page));
   }
 
+  /** The number of the line that caused each step of a script's history, which has this number of steps. */
+  causes(script, { frames, pageBytes }, count) {
+    const { buffer, answer, rooms: [place] } = this.enter("page_causes", [script, frames, pageBytes, new Room(count, 8)]);
+    const refusal = answer.getUint32(0, true);
+    if (refusal) throw new Refused(refusal);
+    if (Number(answer.getBigUint64(8, true)) !== count) throw new Refused(NO_MEMORY);
+    return Float64Array.from(new BigUint64Array(buffer, place, count), Number);
+  }
+
   plan({ source, target, count, rights }, { pageBytes }) {
     return this.call("page_plan", new Given(source, target, count, rights), pageBytes);
   }
@@ -171,18 +185,32 @@ export class Program {
     return { end, orders, states, outcomes: outcomesIn(told.bytes, told.lengths) };
   }
 
-  search(plan, { frames, pageBytes }, most, room, count) {
-    const given = new Given(frames, pageBytes, most % 2 ** 32, Math.floor(most / 2 ** 32));
-    const { buffer, answer, rooms: [place, lengths] } = this.enter("page_orders", [plan, given, new Room(room), new Room(count, 8)]);
-    const number = (at) => answer.getBigUint64(at, true), refusal = answer.getUint32(0, true), length = Number(number(48));
-    const bytes = new Uint8Array(buffer, place, Math.min(length, room));
-    if (refusal) throw new Refused(refusal, refusalText(refusal, answer.getUint32(4, true), number(8), new TextDecoder().decode(bytes)));
-    const lengthCount = 3 * Number(number(24));
+  search(plan, machine, most, room, count) {
+    const { buffer, answer, rooms: [place, lengths] } = this.enter("page_orders", [plan, searchGiven(machine, most), new Room(room), new Room(count, 8)]);
+    const { bytes, length, number } = searchText(buffer, answer, place, room), lengthCount = 3 * Number(number(24));
     return {
       length, lengthCount, bytes, end: ENDS[answer.getUint32(16, true)], orders: number(32), states: Number(number(40)),
       lengths: Array.from(new BigUint64Array(buffer, lengths, Math.min(lengthCount, count)), Number),
     };
   }
+
+  /** What `l4 orders` writes about a plan: a kind of PRINTS. */
+  ordersText(plan, machine, most, kind, room = SEARCH_ROOM) {
+    const { buffer, answer, rooms: [place] } = this.enter("page_orders_text", [plan, searchGiven(machine, most), kind, new Room(room)]);
+    const { bytes, length } = searchText(buffer, answer, place, room);
+    if (length > MOST_TEXT) throw new Error(`The text has ${megabytes(length)}. The page shows up to ${megabytes(MOST_TEXT)}; \`l4 orders\` prints all of it.`);
+    return length > room ? this.ordersText(plan, machine, most, kind, length) : new TextDecoder().decode(bytes);
+  }
+}
+
+const searchGiven = ({ frames, pageBytes }, most) => new Given(frames, pageBytes, most % 2 ** 32, Math.floor(most / 2 ** 32));
+
+/** The text that a search wrote, as far as there was room, and its length. Throws an error if the search was refused. */
+function searchText(buffer, answer, place, room) {
+  const number = (at) => answer.getBigUint64(at, true), refusal = answer.getUint32(0, true), length = Number(number(48));
+  const bytes = new Uint8Array(buffer, place, Math.min(length, room));
+  if (refusal) throw new Refused(refusal, refusalText(refusal, answer.getUint32(4, true), number(8), new TextDecoder().decode(bytes)));
+  return { bytes, length, number };
 }
 
 /** Why a text is not a plan: the line, the code with the thread that it names, and what the code means. */

@@ -30,17 +30,6 @@ function stepsIn(text) {
   return steps;
 }
 
-/** The line of each step: the query `steps` behind each line prints how many steps there are by then. */
-function causesIn(program, lines, machine) {
-  const told = linesIn(program.annotate(ended(lines.flatMap((line) => [line, "steps"])), machine)), causes = [];
-  told.forEach((row) => {
-    const found = /^(\d+): steps (\d+)$/.exec(row);
-    // the query behind line L is line 2 L
-    if (found && Number(found[1]) % 2 === 0) while (causes.length < Number(found[2])) causes.push(Number(found[1]) / 2);
-  });
-  return causes;
-}
-
 /** How many of the things that lines caused there are by the end of each line. The numbers of their lines rise. */
 function countsBy(lines, lineCount) {
   const counts = new Float64Array(lineCount + 1);
@@ -90,7 +79,7 @@ export class Run {
     report("Reading the history");
     this.steps = stepsIn(program.history(ended(this.lines), machine, true));
     report("Finding the line of each step");
-    const causes = causesIn(program, this.lines, machine);
+    const causes = program.causes(ended(this.lines), machine, this.steps.length);
     this.steps.forEach((step, place) => { step.line = causes[place]; });
     Object.assign(this, { answers, answersBy: countsBy(lines, this.lines.length), stepsBy: countsBy(causes, this.lines.length) });
     this.timeline = new Timeline(this.steps, machine.pageBytes);

@@ -7,7 +7,7 @@
 import fs from "node:fs";
 import path from "node:path";
 import readline from "node:readline";
-import { Program, READINGS, RIGHTS } from "../../web/program.mjs";
+import { PRINTS, Program, READINGS, RIGHTS } from "../../web/program.mjs";
 import { Run } from "../../web/runs.mjs";
 import { changesBetween } from "../../bindings/python/l4/views/changes.mjs";
 
@@ -34,20 +34,6 @@ const regionOf = ([source, target, count, rights]) => ({
   source: Number(source), target: Number(target), count: Number(count), rights: [...rights].reduce((sum, letter) => sum + (RIGHTS[letter] ?? 0), 0),
 });
 
-/** The outcomes as `l4 orders --outcomes` prints them. */
-function outcomesText({ outcomes, end, orders, states }) {
-  const counted = (number, noun) => `${number} ${noun}${Number(number) === 1 ? "" : "s"}`, isWhole = end === "all";
-  const told = outcomes.map(({ answers }, k) => [`outcome ${k + 1}`, ...answers].map((line) => `${line}\n`).join(""));
-  const counts = [counted(outcomes.length, "outcome"), ...(isWhole ? [counted(orders, "order")] : []), counted(states, "state")];
-  return `${told.join("")}${[...counts, ...(isWhole ? [] : [`incomplete: ${end}`])].join(", ")}\n`;
-}
-
-/** What `l4 orders` writes. */
-function searched(found, witness) {
-  const text = witness === undefined ? outcomesText(found) : found.outcomes[Number(witness) - 1].witness;
-  return { text, found: found.end === "all" };
-}
-
 /** What `l4` writes for these words and this input, and its status. */
 function written(program, [command, ...words], input) {
   const { rest, options, machine } = parsed(words), done = (text) => ({ text, found: true });
@@ -55,7 +41,11 @@ function written(program, [command, ...words], input) {
     case "run":
       if (options.number && options.moves) return done(program.annotate(input, machine));
       return done(options.explain ? program.explain(input, machine) : program.run(input, machine));
-    case "orders": return searched(program.orders(input, machine, Number(options.most)), options.witness);
+    case "orders": {
+      const most = Number(options.most), found = program.orders(input, machine, most), prints = options.dot ? PRINTS.graph : options.outcomes ? PRINTS.outcomes : PRINTS.orders;
+      if (options.witness !== undefined) return { text: found.outcomes[Number(options.witness) - 1].witness, found: found.end === "all" };
+      return { text: program.ordersText(input, machine, most, prints), found: found.end === "all" && found.outcomes.every(({ broken }) => !broken.length) };
+    }
     case "steps": return program.call("page_steps", input, machine.frames, machine.pageBytes);
     case "history": return done(program.history(input, machine, options.answers === true));
     case "why": return program.why(input, machine, Number(rest[0]), Number(rest[1]));

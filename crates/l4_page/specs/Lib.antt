@@ -1,7 +1,9 @@
+pub mod Causes
 pub mod Given
 pub mod Lists
 pub mod Outcomes
 pub mod Plans
+pub mod Printed
 pub mod Scripts
 pub mod Told
 pub mod Words

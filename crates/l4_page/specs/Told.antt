@@ -7,7 +7,7 @@ use Rattle.l4_page.specs.declared.telling.Told.{Told as Answer}
 abbrev pub placed : {A : Type 0} → List A → List A → List A
 placed items places = take (min (length items) (length places)) items ++ drop (min (length items) (length places)) places
 
-abbrev pub text_told : List ℕ → Bool → ℕ → Answer
+abbrev pub text_told : {A : Type 0} → List A → Bool → ℕ → Answer
 text_told text found lines = record { refusal = 0; found = if found then 1 else 0; length = length text; lines = lines }
 
 abbrev pub refused : ℕ → Answer

@@ -90,7 +90,7 @@ fn put_outcomes(
 }
 
 /// Returns the result of a refused search, and writes what the refusal means.
-fn unsearched(refused: SearchResult, out: &mut [u8]) -> OutcomesTold
+pub(crate) fn unsearched(refused: SearchResult, out: &mut [u8]) -> OutcomesTold
     ensures { TellsRefusal refused out.old out.new result }
 {
     let line = text_of(refused.refusal).line;

@@ -38,8 +38,8 @@ pub fn place<T: Copy>(items: &[T], out: &mut [T])
     out[..count].copy_from_slice(&items[..count]);
 }
 
-/// Writes as much of a text as there is room for.
-pub fn tell(text: &[u8], found: bool, lines: u64, out: &mut [u8]) -> Told
+/// Writes as much of a text, or of a list of numbers, as there is room for.
+pub fn tell<T: Copy>(text: &[T], found: bool, lines: u64, out: &mut [T]) -> Told
     ensures told { result ≡ text_told text.now found lines }
     ensures written { out.new ≡ placed text.now out.old }
 {

@@ -1,5 +1,6 @@
-// Every order of a litmus test's calls: a table of outcomes, each with an order that produces it and the rules that it breaks. The number of an
-// outcome loads the script of its order.
+// Every order of a litmus test's calls: a table of outcomes, each with an order that produces it and the rules that it breaks, and the graph of
+// the states. The number of an outcome loads the script of its order.
+import { drawStates, readGraph, takenBy } from "./states.mjs";
 import { fill, it, link, made } from "./dom.mjs";
 import { isLitmus } from "./frames.mjs";
 import { fields, number } from "./state.mjs";
@@ -18,7 +19,7 @@ function clear() {
   found = null;
   it("orders-text").textContent = it("outcomes-more").textContent = "";
   fill("outcomes", []);
-  it("outcomes-table").hidden = it("plan-again").hidden = true;
+  it("outcomes-table").hidden = it("plan-again").hidden = it("states-part").hidden = true;
 }
 
 function summary({ outcomeCount, end, orders, states, outcomes }) {
@@ -73,11 +74,14 @@ export function loadedOrder(outcome, step = null) {
 /** The outcome whose order is in the editor, and its litmus test; null if there is none. */
 export const orderShown = () => loaded;
 
-/** Says of which outcome the script in the editor is an order. */
+/** Says of which outcome the script in the editor is an order, and marks that order in the graph. */
 export function showOrderNumber(outcome) {
   loaded = outcome === null || found === null ? null : { outcome, ...found.asked };
   it("order-shown").hidden = loaded === null;
   it("order-shown").textContent = loaded ? `This is the script of an order that produces outcome ${outcome} of the litmus test.` : "";
+  if (!found?.graph) return;
+  const calls = loaded ? callsOf(found.asked.script, found.outcomes[outcome - 1].witness) : [];
+  fill("states", [drawStates(found.graph, takenBy(found.graph, calls), { outcomes: found.outcomes, choose: loadedOrder, lines: found.asked.script.split("\n") })]);
 }
 
 /** Brings the outcomes into view. */
@@ -94,11 +98,14 @@ export function showLitmus(script) {
 }
 
 function show(told, asked) {
-  found = { ...told, asked };
+  found = { ...told, asked, graph: told.graph ? readGraph(told.graph) : null };
   it("orders-text").textContent = summary(told);
   it("outcomes-table").hidden = told.outcomes.length === 0;
   fill("outcomes", told.outcomes.map((outcome, place) => row(outcome, place, asked.script)));
   it("outcomes-more").textContent = told.outcomeCount > told.outcomes.length ? `${grouped(told.outcomeCount - told.outcomes.length)} more outcomes: \`l4 orders\` prints all.` : "";
+  it("states-part").hidden = told.states === undefined;
+  it("states-more").textContent = found.graph ? "" : `There are ${counted(told.states, "state")}: \`l4 orders --dot\` writes a graph of any number of states, if every order was followed. The page draws up to 300.`;
+  if (!found.graph) fill("states", []);
   it("plan-again").hidden = false;
   it("plan-again").onclick = () => load(asked);
   showOrderNumber(null);
