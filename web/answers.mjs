@@ -1,6 +1,7 @@
 // Answers the page's questions by the program. It runs in a worker.
 import { PRINTS, Program, READINGS, failureText } from "./program.mjs";
 import { MOST_TRIED, Run } from "./runs.mjs";
+import { tested } from "./testing.mjs";
 import { glanceAt, shownAt } from "../bindings/python/l4/views/shown.mjs";
 import { runAt } from "../bindings/python/l4/views/changes.mjs";
 import { stepText } from "../bindings/python/l4/views/kernel.mjs";
@@ -117,7 +118,7 @@ class Answers {
     const { end, orders, states, outcomes } = this.program.orders(ended(linesIn(asked.script)), machineOf(asked), asked.most);
     const shown = outcomes.slice(0, MOST_SHOWN).map(({ answers, witness, broken }) => ({ answers: cutList(answers), witness, broken: cutList(broken) }));
     const hasGraph = end === "all" && states <= MOST_DRAWN;
-    const graph = hasGraph ? this.program.ordersText(ended(linesIn(asked.script)), machineOf(asked), asked.most, PRINTS.graph) : null;
+    const graph = hasGraph ? this.program.ordersText(ended(linesIn(asked.script)), machineOf(asked), asked.most, PRINTS.graph).text : null;
     return { end, orders: end === "all" ? orderCount(orders) : "0", states, outcomeCount: outcomes.length, outcomes: shown, graph };
   }
 
@@ -128,9 +129,10 @@ class Answers {
       "run": () => this.program.run(script, machine), "run --explain": () => this.program.explain(script, machine),
       "run --number --moves": () => this.program.annotate(script, machine),
       "history": () => this.program.history(script, machine, false), "history --answers": () => this.program.history(script, machine, true),
-      "orders": () => this.program.ordersText(script, machine, asked.most, PRINTS.orders),
-      "orders --outcomes": () => this.program.ordersText(script, machine, asked.most, PRINTS.outcomes),
-      "orders --dot": () => this.program.ordersText(script, machine, asked.most, PRINTS.graph),
+      "orders": () => this.program.ordersText(script, machine, asked.most, PRINTS.orders).text,
+      "orders --outcomes": () => this.program.ordersText(script, machine, asked.most, PRINTS.outcomes).text,
+      "orders --dot": () => this.program.ordersText(script, machine, asked.most, PRINTS.graph).text,
+      "test": () => tested(this.program, script, machine, false), "test --lenient": () => tested(this.program, script, machine, true),
       "why": () => this.program.why(script, machine, words[0], words[1]).text, "decode": () => this.program.decode(words, READINGS.message, machine),
       "plan": () => this.program.plan(asked.region, machine).text, "check": () => this.program.check(asked.region, machine, asked.claim).text,
     };

@@ -162,6 +162,17 @@ export class Program {
     return Float64Array.from(new BigUint64Array(buffer, place, count), Number);
   }
 
+  /** What a test of a script finds: how it ends, by the module's numbers; the line; how many answers are expected; and the expected and the
+   * actual answer that differ, or the refusal that is not expected. */
+  test(script, machine, isLenient, room = ROOM) {
+    const { buffer, answer, rooms: [place] } = this.enter("page_test", [script, machine.frames, machine.pageBytes, isLenient ? 1 : 0, new Room(room)]);
+    const number = (at) => Number(answer.getBigUint64(at, true)), refusal = answer.getUint32(0, true), [expected, found] = [number(24), number(32)];
+    if (refusal) throw new Refused(refusal);
+    if (expected + found > room) return this.test(script, machine, isLenient, expected + found);
+    const text = (from, length) => new TextDecoder().decode(new Uint8Array(buffer, place + from, length));
+    return { end: answer.getUint32(4, true), line: number(8), expectations: number(16), expected: text(0, expected), found: text(expected, found) };
+  }
+
   plan({ source, target, count, rights }, { pageBytes }) {
     return this.call("page_plan", new Given(source, target, count, rights), pageBytes);
   }
@@ -194,12 +205,12 @@ export class Program {
     };
   }
 
-  /** What `l4 orders` writes about a plan: a kind of PRINTS. */
+  /** What `l4 orders` writes about a plan, a kind of PRINTS, and how the search ended. */
   ordersText(plan, machine, most, kind, room = SEARCH_ROOM) {
     const { buffer, answer, rooms: [place] } = this.enter("page_orders_text", [plan, searchGiven(machine, most), kind, new Room(room)]);
     const { bytes, length } = searchText(buffer, answer, place, room);
     if (length > MOST_TEXT) throw new Error(`The text has ${megabytes(length)}. The page shows up to ${megabytes(MOST_TEXT)}; \`l4 orders\` prints all of it.`);
-    return length > room ? this.ordersText(plan, machine, most, kind, length) : new TextDecoder().decode(bytes);
+    return length > room ? this.ordersText(plan, machine, most, kind, length) : { text: new TextDecoder().decode(bytes), end: ENDS[answer.getUint32(16, true)] };
   }
 }
 

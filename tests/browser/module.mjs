@@ -9,6 +9,7 @@ import path from "node:path";
 import readline from "node:readline";
 import { PRINTS, Program, READINGS, RIGHTS } from "../../web/program.mjs";
 import { Run } from "../../web/runs.mjs";
+import { tested } from "../../web/testing.mjs";
 import { changesBetween } from "../../bindings/python/l4/views/changes.mjs";
 
 const TESTS = path.dirname(import.meta.dirname);
@@ -44,7 +45,11 @@ function written(program, [command, ...words], input) {
     case "orders": {
       const most = Number(options.most), found = program.orders(input, machine, most), prints = options.dot ? PRINTS.graph : options.outcomes ? PRINTS.outcomes : PRINTS.orders;
       if (options.witness !== undefined) return { text: found.outcomes[Number(options.witness) - 1].witness, found: found.end === "all" };
-      return { text: program.ordersText(input, machine, most, prints), found: found.end === "all" && found.outcomes.every(({ broken }) => !broken.length) };
+      return { text: program.ordersText(input, machine, most, prints).text, found: found.end === "all" && found.outcomes.every(({ broken }) => !broken.length) };
+    }
+    case "test": {
+      const text = tested(program, new TextDecoder().decode(input), machine, options.lenient === true);
+      return { text, found: text.split("\n")[0].endsWith(", passed") };
     }
     case "steps": return program.call("page_steps", input, machine.frames, machine.pageBytes);
     case "history": return done(program.history(input, machine, options.answers === true));

@@ -5,5 +5,6 @@ pub mod Outcomes
 pub mod Plans
 pub mod Printed
 pub mod Scripts
+pub mod Tests
 pub mod Told
 pub mod Words

@@ -9,6 +9,7 @@ mod printing;
 mod running;
 mod stepping;
 mod telling;
+mod testing;
 mod tracing;
 mod words;
 
@@ -19,5 +20,6 @@ pub use printing::page_orders_text;
 pub use running::{page_annotate, page_explain, page_history, page_run};
 pub use stepping::page_steps;
 pub use telling::Told;
+pub use testing::{TestTold, page_test};
 pub use tracing::page_why;
 pub use words::page_decode;
