@@ -168,5 +168,5 @@ void record_step(const l4_step *step) {
 
 void record_end(struct bed *bed) {
     if (bed->script_gaps > 0)
-        note("the script lacks %u calls that scripts cannot express; --steps writes them all", bed->script_gaps);
+        note("the script lacks %u call%s that scripts cannot express; --steps writes them all", bed->script_gaps, bed->script_gaps == 1 ? "" : "s");
 }
