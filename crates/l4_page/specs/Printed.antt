@@ -1,9 +1,10 @@
 -- The texts of searches of plans (this profile's own).
-use Rattle.std.specs.Prelude.{◌≡◌, ◌⊎◌, ℕ, List, ◌++◌, length, nat_eq, if◌then◌else◌}
+use Rattle.std.specs.Prelude.{◌≡◌, ◌⊎◌, ℕ, false, List, ◌++◌, length, nat_eq, if◌then◌else◌}
 use Rattle.l4_fpage.specs.declared.sizes.PageSize.{PageSize}
-use Rattle.l4_orders.specs.Drawing.{graph_text}
+use Rattle.l4_graphs.specs.Drawing.{graph_text}
 use Rattle.l4_orders.specs.Rules.{rules_text}
 use Rattle.l4_orders.specs.Telling.{orders_text}
+use Rattle.l4_orders.specs.declared.telling.OrderStyle.{OrderStyle}
 use Rattle.l4_outcomes.specs.Counts.{counts_of}
 use Rattle.l4_outcomes.specs.Faults.{search_result}
 use Rattle.l4_outcomes.specs.Searching.{IsSearched, IsUnsearched}
@@ -13,11 +14,15 @@ use Rattle.l4_page.specs.declared.outcomes.OutcomesTold.{OutcomesTold}
 use Rattle.l4_page.specs.Outcomes.{TellsRefusal}
 use Rattle.l4_page.specs.Told.{placed}
 
+-- how a text with this number prints outcomes: without their orders (1) or with the numbers of their lines
+abbrev pub style : ℕ → OrderStyle
+style kind = record { brief = nat_eq kind 1; explain = false }
+
 -- the text with this number: the graph of the states (2); or the outcomes, without their orders (1) or with them, and the rules that they break
 abbrev pub search_text : ℕ → Searched → List ℕ
 search_text kind s =
-    if nat_eq kind 2 then graph_text s.explored
-    else (orders_text s.plan s.explored (nat_eq kind 1) ++ rules_text s.plan s.explored.found.items)
+    if nat_eq kind 2 then graph_text s.plan s.explored
+    else (orders_text s.plan s.explored (style kind) ++ rules_text s.plan false s.explored.found.items)
 
 abbrev pub text_found : ℕ → Searched → OutcomesTold
 text_found kind s = record { result = search_result 0 0 0; counts = counts_of s.explored; length = length (search_text kind s) }

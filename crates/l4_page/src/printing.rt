@@ -9,7 +9,8 @@ use crate::given::{NO_SUCH_SIZE, size_of};
 use crate::outcomes::{OutcomesTold, SearchGiven, unsearched};
 use crate::telling::{NO_MEMORY, place};
 use l4_fpage::PageSize;
-use l4_orders::{graph_text, orders_text, rules_text};
+use l4_graphs::graph_text;
+use l4_orders::{OrderStyle, orders_text, rules_text};
 use l4_outcomes::{Searched, counts_of, search, without_line};
 use std::alloc::{AllocError, Global};
 
@@ -24,10 +25,15 @@ fn search_text(alloc: Global, search: &Searched, kind: u32) -> Result<Vec<u8>, A
     ensures { IfOk result (λ text. text.items ≡ search_text kind search.now) }
 {
     if kind == GRAPH {
-        return graph_text(alloc, &search.explored);
+        return graph_text(alloc, &search.plan, &search.explored);
     }
-    let mut text = orders_text(alloc, &search.plan, &search.explored, kind == BRIEF)?;
-    let broken = rules_text(alloc, &search.plan, search.explored.found.as_slice())?;
+    let style = OrderStyle {
+        brief: kind == BRIEF,
+        explain: false,
+    };
+    let mut text = orders_text(alloc, &search.plan, &search.explored, style)?;
+    let found = search.explored.found.as_slice();
+    let broken = rules_text(alloc, &search.plan, false, found)?;
     text.extend_from_slice(broken.as_slice())?;
     Ok(text)
 }

@@ -32,7 +32,7 @@ export const FORMS = [
   ["steps", "prints the number of kernel steps so far"],
   ["unordered", "begins the calls of a litmus test, which may come in any order"],
   ["finally", "begins the queries of a litmus test, which are its outcome"],
-  ["never ANSWER", "is a rule of a litmus test: no order may end with this answer"],
+  ["never ANSWER", "is a rule of a litmus test: no order may end with this answer; `never * waits` and `never deadlock` are about all threads but those behind `may-wait`"],
   ["always ANSWER", "is a rule of a litmus test: every order must end with this answer"],
 ];
 const MOST_WORDS = 64, MOST_THREADS = 1 << 18, MOST_LABELS = 1 << 16;
