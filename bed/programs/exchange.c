@@ -104,8 +104,8 @@ static void use_waiter(void) {
     L4_Yield();
     L4_Start(SPINNER);
     print_error("exchange: another thread waits for the spinner");
-    L4_Stop(L4_GlobalId(1, 1));
-    print_error("exchange: sigma0 is in another space");
+    L4_Stop(child_id(0));
+    print_error("exchange: the child is in another space");
 }
 
 /* The waiter raises a page fault. Root, its pager, lets it go on elsewhere. */
