@@ -1299,6 +1299,9 @@ pub(crate) fn version() -> u32 {
 /// The room for a text of the library and its 0: the longest text is the line of a reply, of 656 bytes.
 const TEXT_ROOM: usize = 657;
 
+/// Room for the lines of an answer: the first one and one for each thread, of 656 bytes and a newline each, and a 0.
+const ANSWER_ROOM: usize = (1 + L4_MAX_THREADS as usize) * TEXT_ROOM + 1;
+
 /// Returns the text that a function of the library writes to a place with this room.
 fn text(write: impl FnOnce(*mut c_char, usize) -> usize) -> String {
     let mut bytes = [0u8; TEXT_ROOM];
