@@ -58,7 +58,7 @@ static void fault(void) {
 }
 
 static void go_on(void) {
-    print("waiter: goes on behind its page fault\n");
+    print("waiter: continues behind its page fault\n");
     L4_KDB_Enter("done");
 }
 

@@ -71,7 +71,7 @@ struct thread {
     uint32_t *utcb_words; /* message register 0 in the bed's memory */
     uint32_t fault_address, fault_access;
     uint32_t vain_answers; /* answers in a row to one fault that did not give the right */
-    int is_halted;         /* its program does not run until another thread lets it; its Ipc goes on */
+    int is_halted;         /* its program does not run until another thread starts it; its Ipc continues */
     char text[1023];       /* the line that it has begun to print; a longer one is printed in parts */
     size_t text_length;
 };
@@ -99,7 +99,7 @@ struct bed {
     unsigned char is_own_frame_used[L4_MAX_THREADS];
     struct space spaces[L4_MAX_THREADS];
     struct thread threads[L4_MAX_THREADS];
-    uint32_t slots;                  /* of the threads, so many from the first one on have been used */
+    uint32_t slots;                  /* the number of places of `threads`, from the first one on, that have been used */
     uint32_t threads_of[PRIORITIES]; /* how many threads have each priority */
     uint32_t next_turns[PRIORITIES]; /* from where on the next thread of each priority is searched */
     struct thread *named_next;       /* the thread that ThreadSwitch has named, or NULL */

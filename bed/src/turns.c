@@ -1,7 +1,7 @@
 /* Whose turn comes next, and the system call Schedule, which sets priorities. */
 #include "bed.h"
 
-/* The priority of the control word that stands for no change. */
+/* A control word with this value changes nothing. */
 #define NO_CHANGE UINT32_C(0xffffffff)
 
 /* The states that Schedule returns. */

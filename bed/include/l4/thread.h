@@ -316,7 +316,7 @@ L4_INLINE void L4_Start_SpIpFlags(L4_ThreadId_t t, L4_Word_t sp, L4_Word_t ip, L
     L4_ChangeThread(t, L4_EXREGS_SET_HALT | L4_EXREGS_ABORT_IPC | L4_EXREGS_SP | L4_EXREGS_IP | L4_EXREGS_FLAGS, &sp, &ip, &flags);
 }
 
-/* The thread does not run until it is started. An Ipc in which it waits goes on. */
+/* The thread does not run until it is started. An Ipc in which it waits continues. */
 L4_INLINE L4_ThreadState_t L4_Stop(L4_ThreadId_t t) {
     return L4_ChangeState(t, L4_EXREGS_HALT);
 }
