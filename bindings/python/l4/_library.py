@@ -352,6 +352,7 @@ STRUCTS = [
     l4_thread,
     l4_state,
     l4_page_size,
+    l4_mapped,
     l4_mapping,
     l4_page,
     l4_count,
