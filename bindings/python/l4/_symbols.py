@@ -1,4 +1,4 @@
-"""The symbolic tokens of scripts, as words: `tag:7`, `map:16+4>32:rwx`, `32+4`, `16+4:rwx`, `zero,never`."""
+"""The symbolic tokens of scripts, as words: `tag:7`, `map:16+4>32:rwx`, `32+4`, `16+4:rwx`, `unmap:1`, `zero,never`."""
 from __future__ import annotations
 
 import re
@@ -10,6 +10,7 @@ _NUMBER = re.compile(r"0x[0-9A-Fa-f]{1,8}|[0-9]{1,10}")
 _RIGHTS = {str(rights): rights for rights in map(Rights.of_bits, range(8))}
 _WINDOWS = {"all": Fpage.complete().acceptor, "none": Fpage.nil().acceptor}
 _TIMEOUTS: Dict[str, Timeout] = {"never": Timeout.NEVER, "zero": Timeout.ZERO}
+_CONTROLS = {"unmap": 0, "flush": 1 << 6}
 _ITEM = re.compile(r"(map|grant):([^>]*)>([^:]*):(.*)", re.DOTALL)
 _LABELS = 1 << 16
 _NAME = re.compile(r"[A-Za-z][A-Za-z0-9-]{0,23}")
@@ -70,6 +71,31 @@ def fpage(token: str, page_bytes: int = PAGE_BYTES) -> int:
         return number(token)
     pages, _, granted = token.partition(":")
     return _pages(pages, rights(granted), page_bytes).word
+
+
+def _control(token: str) -> int:
+    """Returns the control word of unmap:COUNT or flush:COUNT."""
+    name, _, count = token.partition(":")
+    if name not in _CONTROLS or not 1 <= number(count) <= MAX_WORDS:
+        raise ValueError(f"not a control word: {token!r}")
+    return _CONTROLS[name] | number(count) - 1
+
+
+def revoked(tokens: List[str], page_bytes: int = PAGE_BYTES) -> Tuple[int, Tuple[int, ...]]:
+    """Returns the control word and the fpages of an Unmap: as many as the word counts, unless all tokens are numbers. Raises ValueError if a
+    token is wrong, or there are too few tokens or too many.
+
+    >>> revoked(["flush:2", "16:r--", "32+4:rwx"])
+    (65, (65732, 131303))
+    """
+    if not 1 <= len(tokens) <= 1 + MAX_WORDS:
+        raise ValueError("not a control word and at most 64 fpages")
+    control, *others = tokens
+    word = number(control) if is_number(control) else _control(control)
+    fpages = tuple(fpage(token, page_bytes) for token in others)
+    if not all(map(is_number, tokens)) and len(fpages) != (word & 0x3F) + 1:
+        raise ValueError(f"{(word & 0x3F) + 1} fpages are counted, not {len(fpages)}")
+    return word, fpages
 
 
 def timeout_word(token: str) -> int:

@@ -16,7 +16,7 @@ from .plans import Plan, Region
 from .refusals import Refused
 from .replies import Reply, ReplyKind
 from .tables import Pager, Sigma0
-from .words import MAX_WORDS, PAGE_BYTES, Message, Rights, ThreadId
+from .words import PAGE_BYTES, Message, Rights, ThreadId
 
 #: The largest number of bytes of a line.
 MAX_LINE = 4096
@@ -115,10 +115,8 @@ class _Tokens:
     def words(self) -> Tuple[int, ...]:
         return _read(_symbols.words, self.left, self.page_bytes)
 
-    def fpages(self) -> Tuple[int, ...]:
-        if len(self.left) > MAX_WORDS:
-            raise _Bad("S2")
-        return tuple(_read(_symbols.fpage, token, self.page_bytes) for token in self.left)
+    def revoked(self) -> Tuple[int, Tuple[int, ...]]:
+        return _read(_symbols.revoked, self.left, self.page_bytes)
 
     def end(self) -> None:
         if self.left:
@@ -258,8 +256,8 @@ class Script:
         return Region(source, target, count, rights).plan(self.page_bytes)
 
     def _unmap(self, tokens: _Tokens) -> Iterator[Event]:
-        number, control = tokens.thread(), tokens.number()
-        return self._enter(number, Call.unmap_words(control, tokens.fpages()))
+        number = tokens.thread()
+        return self._enter(number, Call.unmap_words(*tokens.revoked()))
 
     def _fault(self, tokens: _Tokens) -> Iterator[Event]:
         number, address, ip, access = tokens.thread(), tokens.number(), tokens.number(), tokens.rights()
