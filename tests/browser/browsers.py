@@ -101,6 +101,11 @@ class Page:
         for name, value in {"script": text, **fields}.items():
             self.put(name.replace("_", "-"), value)
         self.click("#run")
+        self.rests()
+
+    def rests(self):
+        """Waits until no orders are searched."""
+        until(lambda: self.evaluate("!document.body.classList.contains('searching')"), what="the end of a search")
 
     def press(self, key, place=None, **more):
         """The script that presses a key at an element, or where the focus is."""

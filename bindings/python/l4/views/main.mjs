@@ -3,10 +3,10 @@ import { decodeBy, forgetLines, listenToWords } from "./decoding.mjs";
 import { it, made, moveFocus, scrollLists } from "./dom.mjs";
 import { listenToEditor, markLines, showText } from "./editor.mjs";
 import { find } from "./finding.mjs";
-import { framesFor, isLitmus, pageBytesFor } from "./frames.mjs";
+import { framesFor, pageBytesFor } from "./frames.mjs";
 import { FORMS } from "./grammar.mjs";
 import { showChart } from "./message_view.mjs";
-import { listenToOrders, loadedOrder, search, showLitmus, showOrderNumber } from "./orders_view.mjs";
+import { listenToOrders, loadedOrder, markOutcomes, needsSearch, search, showOrderNumber } from "./orders_view.mjs";
 import { showMaps, showPages, showTree, showWhy } from "./page_view.mjs";
 import { REGION_FIELDS, clearPlan, plan } from "./plan_view.mjs";
 import { showChanges, showLines, showRefusals, showSteps } from "./run_view.mjs";
@@ -35,6 +35,12 @@ const sayErrorAt = (id) => (text) => {
 };
 
 const sayError = sayErrorAt("error"), sayPlanError = sayErrorAt("plan-error"), sayTextError = sayErrorAt("text-error"), sayOrdersError = sayErrorAt("orders-error");
+
+/** How a run says why it has searched no orders: beside the table too, but the script stays in view. */
+const sayOrders = (text) => {
+  it("orders-error").textContent = text;
+  it("orders-error").hidden = text === "";
+};
 
 /** Announces what has been done. */
 const sayDone = (text) => { it("status").textContent = text; };
@@ -192,17 +198,19 @@ function chooseSpace(space) {
   refresh();
 }
 
-/** Runs the script of the field, and shows a place in it: the end, if none is given. */
-function run(at = null) {
+/** Runs the script of the field, and shows a place in it: the end, if none is given. The orders of a litmus test are searched then. */
+async function run(at = null) {
   const asked = fields();
   Object.assign(shown, asked, { at, isFollowing: true, isSameRun: false, space: null, page: null });
   showText();
-  showLitmus(asked.script);
+  const isToSearch = needsSearch(asked);
+  markOutcomes();
   forgetLines();
   it("edited").hidden = true;
   keep();
   if (!Number.isInteger(asked.frames)) return fail("frames: the number of frames must be from 1 to 4,096.");
-  return refresh();
+  await refresh();
+  if (isToSearch && shown.script === asked.script) await busy(search(source, sayOrders));
 }
 
 function fail(text) {
@@ -212,12 +220,12 @@ function fail(text) {
 }
 
 /** Puts a script into the field, and runs it. A script of the field that would be lost is kept: `former` brings it back. */
-function load({ script, frames = framesFor(script), pageBytes = pageBytesFor(script), step = null }) {
+function load({ script, frames = framesFor(script), pageBytes = pageBytesFor(script), step = null, order = null }) {
   keepFormer(script);
   it("script").value = script;
   it("frames").value = frames;
   if (pageBytes !== undefined) it("page-bytes").value = pageBytes;
-  showOrderNumber(null);
+  showOrderNumber(order);
   return run(step);
 }
 
@@ -225,17 +233,14 @@ function load({ script, frames = framesFor(script), pageBytes = pageBytesFor(scr
 function loadOrder(found) {
   if (found.script !== former?.script) offered.add(found.script);
   it("script").scrollIntoView({ block: "center" });
-  const loading = load(found);
-  showOrderNumber(found.order ?? null);
-  return loading;
+  return load(found);
 }
 
 /** Loads what a link, the browser's store or the source gives: a script; a litmus test and one of its orders, by the outcome's number; and a
  * step of either. */
 async function begins(start) {
-  if (!start.order) return load(start);
-  await load({ ...start, step: null });
-  await busy(search(source, sayOrdersError));
+  if (!start.order) return load({ ...start, order: null });
+  await load({ ...start, step: null, order: null });
   return loadedOrder(start.order, start.step);
 }
 
@@ -289,7 +294,7 @@ function listenToRun() {
   on("back", "click", () => go(shown.view.at - 1));
   on("on", "click", () => go(Math.min(shown.view.at + 1, shown.view.count)));
   on("step", "input", () => go(number("step")));
-  on("script", "input", () => { keep(); sayDone(""); it("edited").hidden = !isEdited(); it("refusals").hidden = true; });
+  on("script", "input", () => { keep(); sayDone(""); it("edited").hidden = !isEdited(); it("refusals").hidden = true; markOutcomes(); });
   on("former", "click", () => load(former));
   ["frames", "page-bytes"].forEach((id) => on(id, "change", runAgain));
   on("stop", "click", () => source.stop());
@@ -334,12 +339,6 @@ function listCommands() {
   it("commands").append(...FORMS.map(([form, means]) => made("li", {}, made("code", {}, form), " ", ...withCode(means))));
 }
 
-/** Loads an example. The orders of a litmus test are searched too. */
-async function loadExample({ script }) {
-  await load({ script });
-  if (isLitmus(script)) await busy(search(source, sayOrdersError));
-}
-
 /** Offers the examples of the source. */
 function listExamples(examples) {
   examples.forEach(({ script }) => offered.add(script));
@@ -348,7 +347,7 @@ function listExamples(examples) {
   on("example", "change", () => {
     const found = examples.find(({ name }) => name === it("example").value);
     sayDone("");
-    if (found) loadExample(found);
+    if (found) load({ script: found.script });
     it("example").selectedIndex = 0;
   });
 }

@@ -11,15 +11,24 @@ const MOST = 2 ** 32, MOST_CALLS = 40, EARLY = {
 };
 
 let searched = 0;
-// the search that is shown, with its litmus test; and the outcome whose order is in the editor
-let found = null, loaded = null;
+// the search that is shown, with its litmus test; the outcome whose order is in the editor; and the script whose search failed, with the reason
+let found = null, loaded = null, failure = null;
 
-/** Removes the outcomes that are shown. */
+/** Removes the outcomes that are shown. What is still being searched is not shown either. */
 function clear() {
-  found = null;
+  searched += 1;
+  found = loaded = failure = null;
+  document.body.classList.remove("searching");
   it("orders-text").textContent = it("outcomes-more").textContent = "";
   fill("outcomes", []);
-  it("outcomes-table").hidden = it("plan-again").hidden = it("states-part").hidden = true;
+  it("outcomes-table").hidden = it("order-shown").hidden = it("states-part").hidden = it("orders-old").hidden = true;
+  it("orders-error").hidden = true;
+}
+
+/** Whether the outcomes that are shown are those of this script and machine: it is the litmus test, or the loaded order of it. */
+function isOfSearch({ script, frames, pageBytes }) {
+  const { asked } = found, order = loaded ? found.outcomes[loaded.outcome - 1].witness : null;
+  return [asked.script, order].includes(script) && asked.frames === frames && asked.pageBytes === pageBytes;
 }
 
 function summary({ outcomeCount, end, orders, states, outcomes }) {
@@ -78,7 +87,7 @@ export const orderShown = () => loaded;
 export function showOrderNumber(outcome) {
   loaded = outcome === null || found === null ? null : { outcome, ...found.asked };
   it("order-shown").hidden = loaded === null;
-  it("order-shown").textContent = loaded ? `This is the script of an order that produces outcome ${outcome} of the litmus test.` : "";
+  it("order-text").textContent = loaded ? `This is the script of an order that produces outcome ${outcome} of the litmus test.` : "";
   if (!found?.graph) return;
   const calls = loaded ? callsOf(found.asked.script, found.outcomes[outcome - 1].witness) : [];
   fill("states", [drawStates(found.graph, takenBy(found.graph, calls), { outcomes: found.outcomes, choose: loadedOrder, lines: found.asked.script.split("\n") })]);
@@ -88,13 +97,32 @@ export function showOrderNumber(outcome) {
 const goToOutcomes = () => it("orders-title").scrollIntoView({ block: "start" });
 
 /** Says beside the script that it is a litmus test, with what a search has found or a link that searches its orders. */
-export function showLitmus(script) {
-  it("litmus").hidden = !isLitmus(script);
+function showLitmus(asked) {
+  it("litmus").hidden = !isLitmus(asked.script);
   if (it("litmus").hidden) return;
-  const isSearched = found?.asked.script === script;
-  const text = isSearched ? `Every order of this litmus test: ${summary(found)}` : "This is a litmus test: its calls may come in any order.";
+  const isSearched = found !== null && isOfSearch(asked), isSearching = document.body.classList.contains("searching");
+  const text = isSearched ? `Every order of this litmus test: ${summary(found)}` : failure?.script === asked.script ? `The orders of this litmus test were not searched: ${failure.text}`
+    : isSearching ? "This is a litmus test: every order of its calls is being searched." : "This is a litmus test: its calls may come in any order.";
   const act = isSearched ? link("Show the orders", goToOutcomes) : link("Search every order", () => { goToOutcomes(); it("search").click(); });
-  fill("litmus", [text, " ", act]);
+  const parts = isSearching ? [text] : [text, " ", act], whole = parts.map((part) => part.textContent ?? part).join("");
+  if (it("litmus").textContent !== whole) fill("litmus", parts);
+}
+
+/** Marks the outcomes that are shown if the fields have changed since the search, beside the script too. */
+export function markOutcomes() {
+  const asked = fields(), isOld = found !== null && !isOfSearch(asked);
+  it("orders-old").hidden = !isOld;
+  document.body.classList.toggle("old-orders", isOld);
+  showLitmus(asked);
+}
+
+/** Whether a script that is run has orders that are to be searched. Outcomes of another script are removed. */
+export function needsSearch(asked) {
+  if (found !== null && isOfSearch(asked)) return false;
+  clear();
+  const isToSearch = isLitmus(asked.script) && Number.isInteger(asked.frames);
+  document.body.classList.toggle("searching", isToSearch);
+  return isToSearch;
 }
 
 function show(told, asked) {
@@ -106,7 +134,6 @@ function show(told, asked) {
   it("states-part").hidden = told.states === undefined;
   it("states-more").textContent = found.graph ? "" : `There are ${counted(told.states, "state")}: \`l4 orders --dot\` writes a graph of any number of states, if every order was followed. The page draws up to 300.`;
   if (!found.graph) fill("states", []);
-  it("plan-again").hidden = false;
   it("plan-again").onclick = () => load(asked);
   showOrderNumber(null);
 }
@@ -120,15 +147,24 @@ function wrongField({ frames }) {
 
 /** Searches the script of the field. An error leaves no outcomes beside it. */
 export async function search(source, say) {
-  const place = ++searched, asked = fields(), wrong = wrongField(asked);
+  const asked = fields(), wrong = wrongField(asked);
   clear();
+  const place = searched;
+  document.body.classList.add("searching");
+  markOutcomes();
   try {
     if (wrong) throw new Error(wrong);
     const told = await source.ask("orders", { ...asked, most: number("most") });
-    if (place === searched) { show(told, asked); showLitmus(asked.script); say(""); }
+    if (place !== searched) return;
+    show(told, asked);
+    say("");
   } catch (fault) {
-    if (place === searched) { clear(); say(fault.message); }
+    if (place !== searched) return;
+    failure = { script: asked.script, text: fault.message };
+    say(fault.message);
   }
+  document.body.classList.remove("searching");
+  markOutcomes();
   document.body.dataset.searched = place;
 }
 
