@@ -31,11 +31,21 @@ function isOfSearch({ script, frames, pageBytes }) {
   return [asked.script, order].includes(script) && asked.frames === frames && asked.pageBytes === pageBytes;
 }
 
-function summary({ outcomeCount, end, orders, states, outcomes }) {
-  const count = counted(outcomeCount, "outcome"), visited = `${counted(states, "state")} visited`, broken = outcomes.filter((it) => it.broken.length).length;
-  const rules = broken ? ` ${counted(broken, "outcome")} ${broken === 1 ? "breaks" : "break"} a rule.` : "";
-  if (end === "all") return `${count} in ${orders} ${orders === "1" ? "order" : "orders"}, ${visited}. No order has another outcome.${rules}`;
-  return `${count}, ${visited}. The search ended early, because ${EARLY[end]}: there may be other outcomes.${rules}`;
+function summary({ outcomeCount, end, orders, states }) {
+  const count = counted(outcomeCount, "outcome"), visited = `${counted(states, "state")} visited`;
+  if (end === "all") return `${count} in ${orders} ${orders === "1" ? "order" : "orders"}, ${visited}. No order has another outcome.`;
+  return `${count}, ${visited}. The search ended early, because ${EARLY[end]}: there may be other outcomes.`;
+}
+
+const RULE = /^(never|always)( |$)/;
+
+/** How many outcomes break a rule; nothing, if the test has no rule. Rules are known of the outcomes in the table alone. */
+function verdict({ outcomeCount, end, outcomes, asked }) {
+  const broken = outcomes.filter((it) => it.broken.length).length, hasAll = outcomeCount === outcomes.length;
+  if (!broken && !partsOf(asked.script)[2].some(({ text }) => RULE.test(text.trim()))) return [];
+  const some = `${hasAll ? "" : "At least "}${grouped(broken)} of ${counted(outcomeCount, "outcome")} ${broken === 1 ? "breaks" : "break"} a rule.`;
+  const none = hasAll && end === "all" ? "No outcome breaks a rule." : `None of ${hasAll ? "these" : `the first ${grouped(outcomes.length)}`} outcomes breaks a rule.`;
+  return [made("strong", { class: broken ? "broken" : "kept" }, broken ? some : none), " "];
 }
 
 /** The lines of a litmus test that are neither empty nor comments, with their numbers: those before `unordered`, the calls, and those after
@@ -83,28 +93,42 @@ export function loadedOrder(outcome, step = null) {
 /** The outcome whose order is in the editor, and its litmus test; null if there is none. */
 export const orderShown = () => loaded;
 
+/** Which rules an outcome breaks, with their lines in the script of its order. */
+function brokenText({ broken, witness }) {
+  const lines = witness.split("\n").map((line) => line.trim());
+  const rules = broken.map((text) => { const line = lines.lastIndexOf(text) + 1; return line ? `line ${line}: ${text}` : text; });
+  return rules.length ? `This outcome breaks ${rules.length === 1 ? "the rule" : "the rules"} in ${rules.join("; ")}.` : "";
+}
+
 /** Says of which outcome the script in the editor is an order, and marks that order in the graph. */
 export function showOrderNumber(outcome) {
   loaded = outcome === null || found === null ? null : { outcome, ...found.asked };
   it("order-shown").hidden = loaded === null;
   it("order-text").textContent = loaded ? `This is the script of an order that produces outcome ${outcome} of the litmus test.` : "";
+  it("order-broken").textContent = loaded ? brokenText(found.outcomes[outcome - 1]) : "";
+  [...it("outcomes").rows].forEach((row, place) => row.classList.toggle("now", place + 1 === loaded?.outcome));
   if (!found?.graph) return;
   const calls = loaded ? callsOf(found.asked.script, found.outcomes[outcome - 1].witness) : [];
   fill("states", [drawStates(found.graph, takenBy(found.graph, calls), { outcomes: found.outcomes, choose: loadedOrder, lines: found.asked.script.split("\n") })]);
 }
 
-/** Brings the outcomes into view. */
-const goToOutcomes = () => it("orders-title").scrollIntoView({ block: "start" });
+/** Brings the outcomes into view, and in their table the first one that breaks a rule. */
+function goToOutcomes() {
+  it("orders-title").scrollIntoView({ block: "start" });
+  const broken = it("outcomes").querySelector(".breaks"), table = it("outcomes-table");
+  if (broken) table.scrollTop += broken.getBoundingClientRect().top - table.getBoundingClientRect().top;
+}
 
 /** Says beside the script that it is a litmus test, with what a search has found or a link that searches its orders. */
 function showLitmus(asked) {
   it("litmus").hidden = !isLitmus(asked.script);
   if (it("litmus").hidden) return;
   const isSearched = found !== null && isOfSearch(asked), isSearching = document.body.classList.contains("searching");
-  const text = isSearched ? `Every order of this litmus test: ${summary(found)}` : failure?.script === asked.script ? `The orders of this litmus test were not searched: ${failure.text}`
+  const text = isSearched ? summary(found) : failure?.script === asked.script ? `The orders of this litmus test were not searched: ${failure.text}`
     : isSearching ? "This is a litmus test: every order of its calls is being searched." : "This is a litmus test: its calls may come in any order.";
   const act = isSearched ? link("Show the orders", goToOutcomes) : link("Search every order", () => { goToOutcomes(); it("search").click(); });
-  const parts = isSearching ? [text] : [text, " ", act], whole = parts.map((part) => part.textContent ?? part).join("");
+  const parts = [...(isSearched ? ["Every order of this litmus test: ", ...verdict(found)] : []), text, ...(isSearching ? [] : [" ", act])];
+  const whole = parts.map((part) => part.textContent ?? part).join("");
   if (it("litmus").textContent !== whole) fill("litmus", parts);
 }
 
@@ -127,7 +151,7 @@ export function needsSearch(asked) {
 
 function show(told, asked) {
   found = { ...told, asked, graph: told.graph ? readGraph(told.graph) : null };
-  it("orders-text").textContent = summary(told);
+  it("orders-text").replaceChildren(...verdict(found), summary(told));
   it("outcomes-table").hidden = told.outcomes.length === 0;
   fill("outcomes", told.outcomes.map((outcome, place) => row(outcome, place, asked.script)));
   it("outcomes-more").textContent = told.outcomeCount > told.outcomes.length ? `${grouped(told.outcomeCount - told.outcomes.length)} more outcomes: \`l4 orders\` prints all.` : "";
