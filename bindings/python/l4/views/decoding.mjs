@@ -3,7 +3,7 @@ import { it, made } from "./dom.mjs";
 import { question } from "./state.mjs";
 
 const MOST_WORDS = 64;
-let source = null, pageBytes = 4096, asked = 0, runs = 0;
+let source = null, hint = "", pageBytes = 4096, asked = 0, runs = 0;
 const known = new Map();
 
 /** Which tokens of a text are words, and how they are read: by the command's name or the kind of the answer. */
@@ -77,6 +77,7 @@ function tellLine(row) {
 /** Decodes words under the pointer, and explains the answers to a line that the pointer or the keyboard's focus is on. */
 export function listenToWords(given) {
   source = given;
+  hint = it("decoded").textContent;
   document.addEventListener("pointerover", ({ target }) => {
     if (target.classList?.contains("word") && target.dataset.words) tellWord(target);
     else if (target.closest?.("#lines .answer") && source.hasTexts) tellLine(target.closest("li"));
@@ -89,8 +90,10 @@ export function decodeBy(bytes) {
   pageBytes = bytes;
 }
 
-/** The explanations of the run before are no longer those of the lines. */
+/** The explanations of the run before are no longer those of the lines, nor is the text that is shown. */
 export function forgetLines() {
   runs += 1;
   known.clear();
+  asked += 1;
+  it("decoded").textContent = hint;
 }

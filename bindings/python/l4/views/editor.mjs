@@ -100,6 +100,12 @@ function showOffers(isTyping) {
   return placeOffers(before.length - begun.length, number);
 }
 
+/** Empties the line of help: it was for the caret's line of another text. */
+export function forgetForm() {
+  it("form").textContent = "";
+  it("form").classList.remove("refused");
+}
+
 function placeOffers(column, number) {
   const { height, width, above, left } = measures(), { scrollLeft, scrollTop, clientWidth } = field();
   const x = left + column * width - scrollLeft, y = above + number * height - scrollTop;

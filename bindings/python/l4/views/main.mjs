@@ -1,7 +1,7 @@
 // The page: asks its source about the run, and shows what it answers.
 import { decodeBy, forgetLines, listenToWords } from "./decoding.mjs";
 import { it, made, moveFocus, scrollLists } from "./dom.mjs";
-import { listenToEditor, markLines, showText } from "./editor.mjs";
+import { forgetForm, listenToEditor, markLines, showText } from "./editor.mjs";
 import { find } from "./finding.mjs";
 import { framesFor, pageBytesFor } from "./frames.mjs";
 import { FORMS } from "./grammar.mjs";
@@ -205,6 +205,7 @@ async function run(at = null) {
   showText();
   const isToSearch = needsSearch(asked);
   markOutcomes();
+  showExample(asked.script);
   forgetLines();
   it("edited").hidden = true;
   keep();
@@ -223,6 +224,7 @@ function fail(text) {
 function load({ script, frames = framesFor(script), pageBytes = pageBytesFor(script), step = null, order = null }) {
   keepFormer(script);
   it("script").value = script;
+  forgetForm();
   it("frames").value = frames;
   if (pageBytes !== undefined) it("page-bytes").value = pageBytes;
   showOrderNumber(order);
@@ -343,13 +345,18 @@ function listCommands() {
 function listExamples(examples) {
   examples.forEach(({ script }) => offered.add(script));
   it("examples-choice").hidden = examples.length === 0;
-  it("example").append(...examples.map(({ name }) => made("option", {}, name)));
+  it("example").append(...examples.map(({ name, script }) => Object.assign(made("option", {}, name), { script })));
   on("example", "change", () => {
     const found = examples.find(({ name }) => name === it("example").value);
     sayDone("");
     if (found) load({ script: found.script });
-    it("example").selectedIndex = 0;
   });
+}
+
+/** Names the example that is run; the list says "choose one" for another script. */
+function showExample(script) {
+  it("example").selectedIndex = [...it("example").options].findIndex((option) => option.script === script);
+  if (it("example").selectedIndex < 0) it("example").selectedIndex = 0;
 }
 
 export async function begin(given) {

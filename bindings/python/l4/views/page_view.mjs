@@ -76,7 +76,8 @@ export function showTree(view, acts) {
 /** How the chosen page got there: each transfer is a link to its step. */
 export function showWhy(told, acts) {
   it("why-title").textContent = acts.page === null ? "Why a page is there, or absent" : `Why page ${acts.page} of space ${acts.space} is ${told?.lines[0] === "absent" ? "absent" : "there"}`;
-  if (!told) return fill("why", [made("li", { class: "hint" }, "Choose a page in a map or in the table.")]);
+  if (document.activeElement !== it("asked-page")) it("asked-page").value = acts.page ?? "";
+  if (!told) return fill("why", [made("li", { class: "hint" }, "Choose a page in a map or in the table, or write its number: it may be absent.")]);
   return fill("why", told.lines.map((text, place) => {
     const step = told.steps?.[place] ?? null;
     return made("li", {}, step === null ? text : link(text, () => acts.go(step), text.startsWith(`step ${step},`) ? text : `step ${step}: ${text}`));
