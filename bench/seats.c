@@ -85,7 +85,9 @@ int main(int count, char **words) {
         l4_call create = {0};
         create.kind = L4_CREATE;
         create.id = create.space = id(number);
+        pthread_mutex_lock(&mutex);
         l4_lock_give(&kernel, number);
+        pthread_mutex_unlock(&mutex);
         make(2, &create, 0);
         seats[number] = number;
         if (number >= FIRST_IDLE && pthread_create(&idle[number], NULL, wait_for_root, &seats[number]) != 0)
