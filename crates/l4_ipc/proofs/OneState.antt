@@ -30,16 +30,16 @@ use Rattle.l4_ipc.specs.declared.calls.Call.TheVariants.{Ipc, Fault, Unmap, Cont
 use Rattle.l4_ipc.specs.declared.calls.Control.TheVariants.{Create, SetPager, Delete}
 use Rattle.l4_phases.specs.declared.turns.Sent.{Sent}
 use Rattle.l4_ipc.specs.declared.steps.Step.{Step}
-use Rattle.l4_ipc.specs.declared.steps.Step.TheVariants.{Start, Transfer, Expire}
+use Rattle.l4_ipc.specs.declared.steps.Step.TheVariants.{Start, Transfer, Expire, Cancel}
 use Rattle.l4_ipc.specs.declared.steps.Outcome.{Outcome}
-use Rattle.l4_ipc.specs.declared.steps.Outcome.TheVariants.{Started, Done, NoWindow, Entangled, NoMemory, Expired}
+use Rattle.l4_ipc.specs.declared.steps.Outcome.TheVariants.{Started, Done, NoWindow, Entangled, NoMemory, Expired, Canceled}
 use Rattle.l4_ipc.specs.declared.steps.Answer.{Answer}
 use Rattle.l4_ipc.specs.declared.steps.Refused.{Refused}
 use Rattle.l4_ipc.specs.Machine.{Machine}
 use Rattle.l4_ipc.specs.Moving.{IsUsedBy, Moves}
 use Rattle.l4_phases.specs.Phases.{enters}
 use Rattle.l4_ipc.specs.Start.{has_send, has_receive, ipc_next, IsSent, IsWindow}
-use Rattle.l4_ipc.specs.Steps.{Steps, Starts, DeletesThread, Meets, expiry, after_transfer, is_done, with_space}
+use Rattle.l4_ipc.specs.Steps.{Steps, Starts, DeletesThread, Meets, expiry, after_transfer, is_done, with_space, cancellation}
 use Rattle.l4_fpage.specs.declared.sizes.PageSize.{PageSize}
 
 pub same_value : {X : Type 0} {x y : X} → Some x ≡ Some y → x ≡ y
@@ -172,6 +172,7 @@ one_moving size old a b from to sends takes NoMemory x y = x.3 ∙ sym y.3
 one_moving size old a b from to sends takes Done x y = transfers_unique (IsUsedBy size old from.space to.space sends.items.items takes.window) old a b x.2 y.2
 one_moving size old a b from to sends takes Started x y = absurd x
 one_moving size old a b from to sends takes Expired x y = absurd x
+one_moving size old a b from to sends takes Canceled x y = absurd x
 
 -- what a transfer does
 abbrev Carries : Machine → ℕ → ℕ → Answer → Machine → Thread → Thread → Sending → Receiving → Type 0
@@ -196,6 +197,7 @@ pub refused_same : (old : Machine) (step : Step) (e : Refused) (new : Machine) �
 refused_same old (Start n call) e new h = h.1
 refused_same old (Transfer s r) e new h = h.2
 refused_same old (Expire n) e new h = h.2
+refused_same old (Cancel n cause) e new h = h.2
 
 -- the state before, the step and its answer determine the state after: want of memory is the only choice, and the answer tells it
 pub one_step : (old : Machine) (step : Step) (answer : Result Answer Refused) (a b : Machine) → Steps old step answer a → Steps old step answer b → a ≡ b
@@ -208,4 +210,8 @@ one_step old (Transfer s r) (Err e) a b x y = refused_same old (Transfer s r) e 
 one_step old (Expire n) (Ok answer) a b x y =
     let state : x.0.state ≡ y.0.state = same_value (sym x.0.at ∙ y.0.at) in
     x.3 ∙ (λ i. record old { threads = end_call old.threads n (expiry (state i)) }) ∙ sym y.3
+one_step old (Cancel n cause) (Ok answer) a b x y =
+    let state : x.0.state ≡ y.0.state = same_value (sym x.0.at ∙ y.0.at) in
+    x.3 ∙ (λ i. record old { threads = end_call old.threads n (cancellation cause (state i)) }) ∙ sym y.3
+one_step old (Cancel n cause) (Err e) a b x y = refused_same old (Cancel n cause) e a x ∙ sym (refused_same old (Cancel n cause) e b y)
 one_step old (Expire n) (Err e) a b x y = refused_same old (Expire n) e a x ∙ sym (refused_same old (Expire n) e b y)

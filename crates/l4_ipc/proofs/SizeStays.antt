@@ -7,7 +7,7 @@ use Rattle.l4_ipc.specs.declared.calls.Control.TheVariants.{Create, SetPager, De
 use Rattle.l4_ipc.specs.declared.steps.Answer.{Answer}
 use Rattle.l4_ipc.specs.declared.steps.Refused.{Refused}
 use Rattle.l4_ipc.specs.declared.steps.Step.{Step}
-use Rattle.l4_ipc.specs.declared.steps.Step.TheVariants.{Start, Transfer, Expire}
+use Rattle.l4_ipc.specs.declared.steps.Step.TheVariants.{Start, Transfer, Expire, Cancel}
 use Rattle.l4_ipc.specs.Machine.{Machine}
 use Rattle.l4_ipc.specs.Steps.{Steps, Starts}
 
@@ -26,3 +26,5 @@ size_stays old (Transfer s r) (Ok answer) new x = x.8
 size_stays old (Transfer s r) (Err e) new x = ap (λ (m : Machine). m.size) x.2
 size_stays old (Expire n) (Ok answer) new x = ap (λ (m : Machine). m.size) x.3
 size_stays old (Expire n) (Err e) new x = ap (λ (m : Machine). m.size) x.2
+size_stays old (Cancel n cause) (Ok answer) new x = ap (λ (m : Machine). m.size) x.3
+size_stays old (Cancel n cause) (Err e) new x = ap (λ (m : Machine). m.size) x.2

@@ -36,16 +36,16 @@ use Rattle.l4_phases.specs.declared.turns.Next.TheVariants.{Ends, Sends, Receive
 use Rattle.l4_phases.specs.declared.turns.Sent.{Sent}
 use Rattle.l4_ipc.specs.declared.steps.Answer.{Answer}
 use Rattle.l4_ipc.specs.declared.steps.Outcome.{Outcome}
-use Rattle.l4_ipc.specs.declared.steps.Outcome.TheVariants.{Started, Done, NoWindow, Entangled, NoMemory, Expired}
+use Rattle.l4_ipc.specs.declared.steps.Outcome.TheVariants.{Started, Done, NoWindow, Entangled, NoMemory, Expired, Canceled}
 use Rattle.l4_ipc.specs.declared.steps.Refused.{Refused}
 use Rattle.l4_ipc.specs.declared.steps.Step.{Step}
-use Rattle.l4_ipc.specs.declared.steps.Step.TheVariants.{Start, Transfer, Expire}
+use Rattle.l4_ipc.specs.declared.steps.Step.TheVariants.{Start, Transfer, Expire, Cancel}
 use Rattle.l4_ipc.specs.Machine.{Machine, machine}
 use Rattle.l4_phases.specs.Phases.{going_on, partner, enters}
 use Rattle.l4_ipc.specs.Start.{has_send, IsSent, ipc_next, later_of, send_timeout, has_page, fault_words, fault_next}
 use Rattle.l4_ipc.specs.Moving.{Moves}
 use Rattle.l4_ipc.specs.Inside.Sound.{IsOfWords, AreSound, IsSound}
-use Rattle.l4_ipc.specs.Steps.{receiver_reply, sender_next, is_done, expiry, with_space, Steps}
+use Rattle.l4_ipc.specs.Steps.{receiver_reply, sender_next, is_done, expiry, with_space, Steps, cancellation}
 use Rattle.l4_ipc.proofs.Items.{items_of_words}
 use Rattle.l4_ipc.proofs.Deletes.{differs, left_at}
 use Rattle.l4_ipc.proofs.Faults.{items_of_fault}
@@ -292,6 +292,7 @@ moves_keep size old new «from» to items window NoMemory h = ap (λ (s : Mappin
 moves_keep size old new «from» to items window Done h = h.2.cut.spaces ∙ h.2.moved.spaces
 moves_keep size old new «from» to items window Started h = absurd h
 moves_keep size old new «from» to items window Expired h = absurd h
+moves_keep size old new «from» to items window Canceled h = absurd h
 
 -- THE STEP
 
@@ -344,6 +345,10 @@ sound_step old (Expire n) (Ok answer) new y sound =
     refused_keeps (record old { threads = end_call old.threads n (expiry y.0.state) }) new y.3
     (sound_state old.mappings.spaces old.threads _ n (Running (Some (expiry y.0.state))) tt sound)
 sound_step old (Expire n) (Err e) new y sound = refused_keeps old new y.2 sound
+sound_step old (Cancel n cause) (Ok answer) new y sound =
+    refused_keeps (record old { threads = end_call old.threads n (cancellation cause y.0.state) }) new y.3
+    (sound_state old.mappings.spaces old.threads _ n (Running (Some (cancellation cause y.0.state))) tt sound)
+sound_step old (Cancel n cause) (Err e) new y sound = refused_keeps old new y.2 sound
 
 -- BOOT
 

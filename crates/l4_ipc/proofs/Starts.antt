@@ -1,5 +1,5 @@
 -- Starts, as the machine says them.
-use Rattle.std.proofs.Common.{◌≡◌, ◌≢◌, ℕ, ◌+◌, ◌-◌, ◌==◌, List, length, take, drop, arith, Bool, true, false, if◌then◌else◌, not, Option, Some, None, [], ◌∷◌, Result, Ok, Err, IfOk, IfErr, MatchOption, IsTrue, IsSome, refl, sym, ap, ◌∙◌, subst}
+use Rattle.std.proofs.Common.{◌≡◌, ◌≢◌, ℕ, ◌+◌, ◌-◌, ◌==◌, List, length, take, drop, arith, Bool, true, false, if◌then◌else◌, not, Option, Some, None, [], Result, Ok, Err, IfOk, IfErr, MatchOption, IsTrue, IsSome, refl, sym, ap, ◌∙◌, subst}
 use Rattle.std.specs.Option.{option_map_or, option_map}
 use Rattle.std.specs.List.{slice_range}
 use Rattle.std.proofs.lemmas.Bool.{false≢true}
@@ -19,7 +19,7 @@ use Rattle.l4_threads.specs.declared.Thread.{Thread}
 use Rattle.l4_threads.specs.declared.ThreadId.{ThreadId}
 use Rattle.l4_threads.specs.Threads.{Threads, thread_at, state_of, runs, is_running, is_receiving, may_receive, named, number_of, failed, sending_of, out_of_queue, end_call}
 use Rattle.l4_threads.specs.Control.{created, with_pager}
-use Rattle.l4_threads.specs.Enabled.{CanExpire}
+use Rattle.l4_threads.specs.Enabled.{CanExpire, expires}
 use Rattle.l4_ipc.specs.declared.calls.Call.{Call}
 use Rattle.l4_ipc.specs.declared.calls.Call.TheVariants.{Ipc}
 use Rattle.l4_ipc.specs.declared.calls.IpcCall.{IpcCall}
@@ -28,19 +28,23 @@ use Rattle.l4_phases.specs.declared.turns.Next.{Next}
 use Rattle.l4_phases.specs.declared.turns.Next.TheVariants.{Ends, Sends, Receives}
 use Rattle.l4_phases.specs.declared.turns.Sent.{Sent}
 use Rattle.l4_ipc.specs.declared.steps.Answer.{Answer}
-use Rattle.l4_ipc.specs.declared.steps.Outcome.TheVariants.{Started, Expired}
+use Rattle.l4_ipc.specs.declared.steps.Outcome.TheVariants.{Started}
 use Rattle.l4_ipc.specs.declared.steps.Refused.{Refused}
-use Rattle.l4_ipc.specs.declared.steps.Refused.TheVariants.{UnknownThread}
-use Rattle.l4_ipc.specs.declared.steps.Step.TheVariants.{Start, Expire}
+use Rattle.l4_ipc.specs.declared.steps.Refused.TheVariants.{UnknownThread, NotEnabled}
+use Rattle.l4_ipc.specs.declared.steps.Step.TheVariants.{Start, Expire, Cancel}
 use Rattle.l4_ipc.specs.Machine.{Machine, machine}
 use Rattle.l4_phases.specs.Phases.{partner, going_on, enters, ended_by}
 use Rattle.l4_ipc.specs.Start.{has_send, send_timeout, counted_words, IsSent, IsAccepted, CallRefuses, RefusesIn, StartRefuses, later_of, ipc_next}
 use Rattle.l4_ipc.specs.Inside.Answering.{written}
 use Rattle.l4_phases.specs.Phases.{CanEnter}
+use Rattle.l4_phases.specs.Waits.{IsWaiting, wait_reply, EndsWait}
 use Rattle.l4_ipc.specs.Inside.Turns.{sent_of}
-use Rattle.l4_ipc.specs.Steps.{expiry, Meets, sender_next, Steps}
+use Rattle.l4_ipc.specs.NextSteps.{canceled_if, expired_if}
+use Rattle.l4_ipc.specs.Steps.{expiry, cause_error, Meets, sender_next, Steps}
 use Rattle.l4_ipc.proofs.Threads.{running_thread, put_there, pager_there, has_state, state_other}
 use Rattle.l4_fpage.specs.declared.sizes.PageSize.{PageSize}
+use Rattle.l4_ipc.specs.declared.steps.CancelCause.{CancelCause}
+use Rattle.l4_ipc.specs.declared.steps.CancelCause.TheVariants.{Timeout}
 
 -- the Start of a running thread is refused where its call is
 pub refuses : (m : Machine) (n : ℕ) (call : Call) (e : Refused) → IsTrue (runs m.threads n) → CallRefuses m n call e → StartRefuses m n call e
@@ -58,14 +62,29 @@ started size t new s n call sent window next answer h accepted is outcome ended 
     let there = running_thread t n h in
     (there.0, there.1.0, there.1.1, outcome, (sent, window, accepted, ended ∙ ap (ended_by n) is, ap (λ (v : Threads). machine size v s) (after ∙ ap (enters t n) is)))
 
--- a wait with a timeout of zero that takes part in no enabled transfer ends
-pub expired : (size : PageSize) (t new : Threads) (s : Mappings) (n : ℕ) (state : State) (reply : Reply) (answer : Answer)
-    → CanExpire t n → Some state ≡ state_of t n → reply ≡ expiry state → answer.outcome ≡ Expired → answer.ended.items ≡ n ∷ [] → new ≡ end_call t n reply
-    → Steps (machine size t s) (Expire n) (Ok answer) (machine size new s)
-expired size t new s n state reply answer able at is outcome ended after =
-    let both : Some state ≡ Some able.state = at ∙ able.at in
-    let same : state ≡ able.state = cc in
-    (able, outcome, ended, ap (λ (v : Threads). machine size v s) (after ∙ ap (end_call t n) (is ∙ ap expiry same)))
+-- a thread that can expire waits
+expiring_waits : (t : Threads) (n : ℕ) → CanExpire t n → IsWaiting t n
+expiring_waits t n able = record { state = able.state; at = able.at; waiting = none_runs able.state able.zero } where
+  none_runs : (state : State) → IsTrue (expires state) → is_running state ≡ false
+  none_runs (Running reply) zero = absurd (false≢true zero)
+  none_runs (IsSender s) zero = refl
+  none_runs (IsReceiver r) zero = refl
+
+-- the wait of a thread is canceled, or the thread does not wait
+pub canceled : (size : PageSize) (t new : Threads) (s : Mappings) (n error : ℕ) (cause : CancelCause) (ends : Bool) → error ≡ cause_error cause → EndsWait t n error ends new
+    → Steps (machine size t s) (Cancel n cause) (canceled_if n (if ends then Ok tt else Err NotEnabled)) (machine size new s)
+canceled size t new s n error cause true is h =
+    (h.0, refl, refl, ap (λ (v : Threads). machine size v s) (h.1 ∙ ap (λ e. end_call t n (wait_reply e h.0.state)) is))
+canceled size t new s n error cause false is h = (h.0, refl, ap (λ (v : Threads). machine size v s) h.1)
+
+-- a wait with a timeout of zero that takes part in no enabled transfer ends as one whose timeout passes by a clock outside the kernel
+pub expired : (size : PageSize) (t new : Threads) (s : Mappings) (n : ℕ) (result : Result (Unit {0}) Refused) → CanExpire t n
+    → Steps (machine size t s) (Cancel n Timeout) (canceled_if n result) (machine size new s) → Steps (machine size t s) (Expire n) (expired_if n result) (machine size new s)
+expired size t new s n (Ok done) able h =
+    let both : Some h.0.state ≡ Some able.state = sym h.0.at ∙ able.at in
+    let same : h.0.state ≡ able.state = cc in
+    (able, refl, refl, h.3 ∙ ap (λ (state : State). machine size (end_call t n (expiry state)) s) same)
+expired size t new s n (Err e) able h = absurd (h.0 (expiring_waits t n able))
 
 -- a thread that runs is there
 running_there : (t : Threads) (n : ℕ) → IsTrue (runs t n) → thread_at t n ≢ None

@@ -23,11 +23,11 @@ use Rattle.l4_phases.specs.declared.turns.Next.{Next}
 use Rattle.l4_phases.specs.declared.turns.Next.TheVariants.{Ends, Sends, Receives}
 use Rattle.l4_ipc.specs.declared.steps.Answer.{Answer}
 use Rattle.l4_ipc.specs.declared.steps.Step.{Step}
-use Rattle.l4_ipc.specs.declared.steps.Step.TheVariants.{Start, Transfer, Expire}
+use Rattle.l4_ipc.specs.declared.steps.Step.TheVariants.{Start, Transfer, Expire, Cancel}
 use Rattle.l4_ipc.specs.Machine.{Machine}
 use Rattle.l4_phases.specs.Phases.{enters, ended_by}
 use Rattle.l4_ipc.specs.Start.{ipc_next, fault_next}
-use Rattle.l4_ipc.specs.Steps.{Steps, Waits, is_done, sender_next, receiver_reply, expiry, Meets}
+use Rattle.l4_ipc.specs.Steps.{Steps, Waits, is_done, sender_next, receiver_reply, expiry, Meets, cancellation}
 use Rattle.l4_ipc.proofs.Threads.{past, state_other}
 use Rattle.l4_ipc.proofs.Deletes.{differs}
 
@@ -53,7 +53,7 @@ elsewhere : (t : Threads) (n : ℕ) (state : State) (m : ℕ) → m ≢ n → st
 elsewhere t n state m other = ap state_in (state_other t n state m other)
 
 -- an ended call is over, also where its thread is not there
-over_end : (t : Threads) (n : ℕ) (reply : Reply) → IsOver (state_of (end_call t n reply) n)
+pub over_end : (t : Threads) (n : ℕ) (reply : Reply) → IsOver (state_of (end_call t n reply) n)
 over_end t n reply =
     elim (thread_at t n) as (λ o. thread_at t n ≡ o → IsOver (state_of (end_call t n reply) n)) [
       | None ↦ λ is.
@@ -210,6 +210,8 @@ over old new (Transfer a b) answer n s among =
     ])
 over old new (Expire k) answer n s among =
     over_at old.threads new.threads k n (expiry s.0.state) (only k n (subst (λ (xs : List ℕ). Contains xs n) s.2 among)) (ap (λ (m : Machine). m.threads) s.3)
+over old new (Cancel k cause) answer n s among =
+    over_at old.threads new.threads k n (cancellation cause s.0.state) (only k n (subst (λ (xs : List ℕ). Contains xs n) s.2 among)) (ap (λ (m : Machine). m.threads) s.3)
 
 -- WHO WAITS
 
@@ -299,6 +301,9 @@ still_waits old new (Transfer a b) answer n s waits left =
 still_waits old new (Expire k) answer n s waits left =
     let other : n ≢ k = λ same. left (subst (λ (xs : List ℕ). Contains xs n) (sym s.2) (in_first k [] n same)) in
     waits_else old.threads new.threads k (expiry s.0.state) n (ap (λ (m : Machine). m.threads) s.3) other waits
+still_waits old new (Cancel k cause) answer n s waits left =
+    let other : n ≢ k = λ same. left (subst (λ (xs : List ℕ). Contains xs n) (sym s.2) (in_first k [] n same)) in
+    waits_else old.threads new.threads k (cancellation cause s.0.state) n (ap (λ (m : Machine). m.threads) s.3) other waits
 
 -- a thread whose call started and isn't listed waits
 pub starts_waiting : (old new : Machine) (call : Call) (answer : Answer) (n : ℕ) → Steps old (Start n call) (Ok answer) new → ¬ (Contains answer.ended.items n) → Waits new n

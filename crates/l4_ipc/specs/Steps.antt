@@ -11,7 +11,7 @@ use Rattle.l4_threads.specs.declared.Sending.{Sending}
 use Rattle.l4_threads.specs.declared.Reply.{Reply}
 use Rattle.l4_threads.specs.declared.Reply.TheVariants.{Ipc as IpcReply, Answered, Unmapped, Controlled}
 use Rattle.l4_threads.specs.declared.State.{State}
-use Rattle.l4_threads.specs.declared.State.TheVariants.{Running, Sending as IsSender, Receiving as IsReceiver}
+use Rattle.l4_threads.specs.declared.State.TheVariants.{Sending as IsSender, Receiving as IsReceiver}
 use Rattle.l4_threads.specs.declared.Thread.{Thread}
 use Rattle.l4_threads.specs.Threads.{Threads, thread_at, runs, is_running, failed, end_call}
 use Rattle.l4_threads.specs.Control.{create_test, created, asks_new, set_pager_test, with_pager, delete_test, Deletes, waits, IsEndedList, HasEnded}
@@ -19,10 +19,12 @@ use Rattle.l4_threads.specs.Enabled.{IsFirstSender, CanExpire, IsNextTransfer, I
 use Rattle.l4_ipc.specs.declared.calls.Call.{Call}
 use Rattle.l4_ipc.specs.declared.calls.Call.TheVariants.{Ipc, Fault, Unmap, Control as Controls}
 use Rattle.l4_ipc.specs.declared.calls.Control.TheVariants.{Create, SetPager, Delete}
+use Rattle.l4_ipc.specs.declared.steps.CancelCause.{CancelCause}
+use Rattle.l4_ipc.specs.declared.steps.CancelCause.TheVariants.{Timeout, Canceled as ByRequest}
 use Rattle.l4_ipc.specs.declared.steps.Step.{Step}
-use Rattle.l4_ipc.specs.declared.steps.Step.TheVariants.{Start, Transfer, Expire}
+use Rattle.l4_ipc.specs.declared.steps.Step.TheVariants.{Start, Transfer, Expire, Cancel}
 use Rattle.l4_ipc.specs.declared.steps.Outcome.{Outcome}
-use Rattle.l4_ipc.specs.declared.steps.Outcome.TheVariants.{Started, Done, Expired}
+use Rattle.l4_ipc.specs.declared.steps.Outcome.TheVariants.{Started, Done, Expired, Canceled}
 use Rattle.l4_ipc.specs.declared.steps.Answer.{Answer}
 use Rattle.l4_ipc.specs.declared.steps.Lower.TheVariants.{NoMemory as LowerNoMemory}
 use Rattle.l4_ipc.specs.declared.steps.Refused.{Refused}
@@ -32,6 +34,7 @@ use Rattle.l4_phases.specs.declared.turns.Next.{Next}
 use Rattle.l4_phases.specs.declared.turns.Next.TheVariants.{Ends}
 use Rattle.l4_ipc.specs.Machine.{Machine}
 use Rattle.l4_phases.specs.Phases.{enters, ended_by, going_on}
+use Rattle.l4_phases.specs.Waits.{IsWaiting, wait_reply}
 use Rattle.l4_ipc.specs.Start.{IsAccepted, StartRefuses, ipc_next, fault_next}
 use Rattle.l4_ipc.specs.Moving.{Moves}
 
@@ -125,14 +128,20 @@ after_transfer done t sender receiver «from» sends takes =
 abbrev pub ended_in_transfer : Bool → Threads → ℕ → ℕ → Sending → List ℕ
 ended_in_transfer done t sender receiver sends = ended_by sender (sender_next done t sends) ++ receiver ∷ []
 
--- EXPIRE
+-- WAITS THAT END
 
--- the reply of a call that expires: ErrorCode 2 while it sends, 3 while it receives (L4 X.2 manual, IPC: timeouts; the numbers are this
--- profile's own)
+-- the reply of a call that expires: that of a timeout, ErrorCode 2 while it sends, 3 while it receives (L4 X.2 manual, IPC: timeouts)
 abbrev pub expiry : State → Reply
-expiry (Running reply) = failed false 0
-expiry (IsSender s) = failed s.fault 2
-expiry (IsReceiver r) = failed r.fault 3
+expiry = wait_reply 1
+
+-- e of the ErrorCode of a wait that is canceled (L4 X.2 manual, IPC: ErrorCode; ExchangeRegisters)
+abbrev pub cause_error : CancelCause → ℕ
+cause_error Timeout = 1
+cause_error ByRequest = 3
+
+-- the reply of a call whose wait is canceled: ErrorCode 2 or 3 (timeout), or 6 or 7 (canceled)
+abbrev pub cancellation : CancelCause → State → Reply
+cancellation cause = wait_reply (cause_error cause)
 
 -- THE STEP
 
@@ -154,14 +163,19 @@ Steps old (Expire n) (Ok answer) new =
     (able : CanExpire old.threads n)
     × (answer.outcome ≡ Expired) × (answer.ended.items ≡ n ∷ []) × (new ≡ record old { threads = end_call old.threads n (expiry able.state) })
 Steps old (Expire n) (Err e) new = ¬ (CanExpire old.threads n) × (e ≡ NotEnabled) × (new ≡ old)
+Steps old (Cancel n cause) (Ok answer) new =
+    (able : IsWaiting old.threads n)
+    × (answer.outcome ≡ Canceled) × (answer.ended.items ≡ n ∷ []) × (new ≡ record old { threads = end_call old.threads n (cancellation cause able.state) })
+Steps old (Cancel n cause) (Err e) new = ¬ (IsWaiting old.threads n) × (e ≡ NotEnabled) × (new ≡ old)
 
 -- THE NEXT STEP
 
 -- The step that `enabled` names: the enabled transfer whose sender is first in the queue, or, if no transfer is enabled, the enabled expiry
--- of the lowest thread number.
+-- of the lowest thread number. A Start and a Cancel are steps of the environment, so `enabled` never names one.
 abbrev pub IsNext : Machine → Step → Type 0
 IsNext m (Start n call) = ⊥
 IsNext m (Transfer sender receiver) = IsNextTransfer m.threads (sender, receiver)
+IsNext m (Cancel n cause) = ⊥
 IsNext m (Expire n) = ((s r : ℕ) → ¬ (IsFirstSender m.threads r s)) × IsNextExpiry m.threads n
 
 -- no transfer and no expiry is enabled

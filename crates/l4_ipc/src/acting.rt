@@ -1,5 +1,5 @@
 //! Executes the steps on the parts of the kernel.
-ghost use Rattle.std.specs.Prelude.{◌≡◌, ◌≤◌, [], length, true, false, IsTrue, IsSome, MatchOption, Ok, Err, IfOk, IfErr, OnOk, OnErr};
+ghost use Rattle.std.specs.Prelude.{◌≡◌, ◌≤◌, [], length, true, false, IsTrue, IsSome, MatchOption, Ok, Err, OnOk, OnErr};
 ghost use Rattle.l4_mapdb.specs.Mappings.{Mappings};
 ghost use Rattle.l4_threads.specs.Threads.{state_of, runs, end_call};
 ghost use Rattle.l4_threads.specs.Enabled.{IsFirstSender};
@@ -13,14 +13,12 @@ ghost use Rattle.l4_msg.specs.Messages.{HasGoodTag, tag_of};
 ghost use Rattle.l4_msg.specs.Sizes.{max_words, max_items};
 ghost use Rattle.l4_msg.specs.Tags.{TagReads};
 ghost use Rattle.l4_ipc.specs.Start.{has_send, has_bad_timeout, IsSent};
-ghost use Rattle.l4_phases.specs.Turns.{reply_of};
 ghost use Rattle.l4_ipc.specs.Inside.Turns.{sent_of};
-ghost use Rattle.l4_ipc.specs.Inside.Answering.{StartsCall, StartsControl, ExpiresCall, answered_if, written};
-ghost use Rattle.l4_phases.specs.Phases.{ended_if};
-ghost use Rattle.l4_ipc.specs.NextSteps.{answer_of, own_answer};
-ghost use Rattle.l4_ipc.specs.Steps.{expiry, with_space, Steps};
+ghost use Rattle.l4_ipc.specs.Inside.Answering.{StartsCall, StartsControl, ExpiresCall, CancelsCall, answered_if, written};
+ghost use Rattle.l4_ipc.specs.NextSteps.{answer_of, own_answer, wait_answer, wait_result, canceled_if, expired_if};
+ghost use Rattle.l4_ipc.specs.Steps.{cause_error, with_space, Steps};
 ghost use Rattle.l4_ipc.specs.declared.steps.Step.TheVariants.{Start, Transfer as Transfers};
-ghost use Rattle.l4_ipc.specs.declared.steps.NextStep.TheVariants.{Transfer as Transferred, Expire as Expiry};
+ghost use Rattle.l4_ipc.specs.declared.steps.NextStep.TheVariants.{Transfer as Transferred};
 ghost use Rattle.l4_ipc.specs.declared.steps.Outcome.TheVariants.{Started};
 ghost use Rattle.l4_ipc.specs.declared.calls.Call.{Call};
 ghost use Rattle.l4_ipc.specs.declared.calls.Call.TheVariants.{Ipc, Fault as Faults, Unmap as Unmaps, Control as Controls};
@@ -32,29 +30,17 @@ use crate::delivering::{
     deliver, end_receiver, is_done, meet, receiver_ending, sender_turn, tag_of,
 };
 use crate::faulting::{FaultingThread, enter_fault};
-use crate::steps::{Answer, Lower, Outcome, Refused};
+use crate::steps::{Answer, CancelCause, Lower, Outcome, Refused};
 use arrayvec::ArrayVec;
 use l4_forest::{Forest, NoMemory};
 use l4_fpage::PageSize;
 use l4_msg::{Item, Message, Tag};
-use l4_phases::{Ending, end, enter, going_on, partner};
-use l4_threads::{Activity, Envelope, MAX_THREADS, SendPhase, ThreadId, Threads, Wordless};
+use l4_phases::{Ending, end, end_wait, enter, going_on, list_if, partner};
+use l4_threads::{Envelope, SendPhase, Threads, Wordless};
 use l4_unmap::unmap;
 
 /// The number of typed words of a message with one item.
 const ITEM_WORDS: u8 = 2;
-
-/// Returns a list with this thread if its call ends, and otherwise an empty list.
-fn list_if(ends: bool, number: u32) -> ArrayVec<u32, MAX_THREADS>
-    ensures items { result.items ≡ ended_if ends number }
-    ensures few { length result.items ≤ 1 }
-{
-    let mut list = ArrayVec::new();
-    if ends {
-        list.push(number);
-    }
-    list
-}
 
 /// Overwrites the answer: a call was started, in which either this thread's call ended or none did.
 fn write_started(answer: &mut Answer, number: u32, ends: bool)
@@ -468,52 +454,57 @@ pub fn transfer(
     Ok(transfer_answer(sender, receiver, outcome, ends))
 }
 
-/// Returns how a call that expires ends.
-fn expiry(state: &Activity) -> Ending
-    ensures { reply_of result ≡ expiry state.now }
-{
-    if let Some(sending) = state.sending() {
-        return Ending::Failed(sending.fault, 2);
-    }
-    if let Some(receiving) = state.receiving() {
-        return Ending::Failed(receiving.fault, 3);
-    }
-    Ending::Failed(false, 0)
-}
-
-/// Expires a zero timeout, and returns no answer.
-pub fn expire_untold(threads: &mut Threads, number: u32) -> Result<(), Refused>
-    ensures ok { IfOk result
-        (λ _. ExpiresCall threads.old number (Ok (answer_of (Expiry number))) threads.new) }
-    ensures err { IfErr result (λ e. ExpiresCall threads.old number (Err e) threads.new) }
-{
-    if !threads.can_expire(number) {
-        return Err(Refused::NotEnabled);
-    }
-    let Some(state) = threads.state(number) else {
-        return Err(Refused::NotEnabled);
-    };
-    let ending = expiry(state);
-    end(threads, number, ending);
-    Ok(())
-}
-
-/// Returns the answer of an expiry.
-pub fn expire_answer(number: u32) -> Answer
-    ensures { result ≡ answer_of (Expiry number) }
+/// Returns the answer of a step that ends the wait of one thread.
+pub fn wait_answer(outcome: Outcome, number: u32) -> Answer
+    ensures { result ≡ wait_answer outcome number }
 {
     Answer {
-        outcome: Outcome::Expired,
+        outcome,
         ended: list_if(true, number),
     }
 }
 
-/// Expires a zero timeout, or refuses it if it is not enabled.
-pub fn expire(threads: &mut Threads, number: u32) -> Result<Answer, Refused>
-    ensures { ExpiresCall threads.old number result threads.new }
+/// Returns the result of a step that ends the wait of one thread: its answer, or its refusal.
+pub fn wait_result(
+    ended: Result<(), Refused>,
+    outcome: Outcome,
+    number: u32,
+) -> Result<Answer, Refused>
+    ensures { result ≡ wait_result outcome number ended }
 {
-    match expire_untold(threads, number) {
-        Ok(()) => Ok(expire_answer(number)),
+    match ended {
+        Ok(()) => Ok(wait_answer(outcome, number)),
         Err(e) => Err(e),
     }
+}
+
+/// Returns e of the ErrorCode of a wait that is canceled.
+fn cause_error(cause: CancelCause) -> u32
+    ensures value { result ≡ cause_error cause }
+    ensures small { result ≤ 3 }
+{
+    match cause {
+        CancelCause::Timeout => 1,
+        CancelCause::Canceled => 3,
+    }
+}
+
+/// Cancels the wait of a thread, or refuses it if the thread does not wait.
+pub fn cancel(threads: &mut Threads, number: u32, cause: CancelCause) -> Result<(), Refused>
+    ensures { CancelsCall threads.old number cause (canceled_if number result) threads.new }
+{
+    if end_wait(threads, number, cause_error(cause)) {
+        return Ok(());
+    }
+    Err(Refused::NotEnabled)
+}
+
+/// Expires a zero timeout, or refuses it if it is not enabled.
+pub fn expire(threads: &mut Threads, number: u32) -> Result<(), Refused>
+    ensures { ExpiresCall threads.old number (expired_if number result) threads.new }
+{
+    if !threads.can_expire(number) {
+        return Err(Refused::NotEnabled);
+    }
+    cancel(threads, number, CancelCause::Timeout)
 }

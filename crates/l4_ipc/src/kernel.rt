@@ -4,10 +4,10 @@ ghost use Rattle.std.specs.List.{All};
 ghost use Rattle.std.specs.Option.{option_copied};
 ghost use Rattle.l4_mapdb.specs.declared.Place.{Place};
 
-use crate::acting::{carry_over, expire, expire_untold, start, start_answered, transfer};
+use crate::acting::{cancel, carry_over, expire, start, start_answered, transfer, wait_result};
 use crate::calls::Call;
 use crate::parts::are_parts;
-use crate::steps::{Answer, Lower, NextStep, Refused, Step};
+use crate::steps::{Answer, CancelCause, Lower, NextStep, Outcome, Refused, Step};
 use l4_forest::{Forest, MAX_FRAMES, Mapping, NoMemory};
 use l4_fpage::PageSize;
 use l4_msg::{MAX_WORDS, Message};
@@ -54,7 +54,7 @@ impl Kernel {
     ghost use Rattle.l4_msg.specs.declared.messages.Message.{Message as AMessage};
     ghost use Rattle.l4_ipc.specs.SpacePages.{FitIn};
     ghost use Rattle.l4_ipc.specs.Steps.{IsNext, IsIdle, Steps};
-    ghost use Rattle.l4_ipc.specs.NextSteps.{step_of, answer_of};
+    ghost use Rattle.l4_ipc.specs.NextSteps.{step_of, answer_of, canceled_if};
     ghost use Rattle.l4_ipc.specs.Events.{Event, IsTrace, IsOnlyTrace};
     ghost use Rattle.l4_ipc.specs.Provenance.{HaveProvenance, NoneThroughFlushed};
     ghost use Rattle.l4_ipc.specs.Delegation.{DeliversDelegations};
@@ -62,7 +62,7 @@ impl Kernel {
     ghost use Rattle.l4_ipc.specs.Reading.{reply_of};
     ghost use Rattle.l4_ipc.specs.declared.steps.Refused.TheVariants.{BadFrames, Lower as IsLower};
     ghost use Rattle.l4_ipc.specs.declared.steps.Lower.TheVariants.{NoMemory as WantOfMemory};
-    ghost use Rattle.l4_ipc.specs.declared.steps.Step.TheVariants.{Start};
+    ghost use Rattle.l4_ipc.specs.declared.steps.Step.TheVariants.{Start, Cancel};
 
     /// Boots a kernel with 1 to 4,096 page frames, and pages of this size. sigma0 is thread 1 in space 0, where frame
     /// *i* is mapped at page *i* with all rights. Root is thread 2 in space 1, which is empty.
@@ -161,7 +161,7 @@ impl Kernel {
     /// Errors of a Start, in this order: `UnknownThread` (K2), `Busy` (K3), `BadTimeout` (K4), `Lower` (K5) with the
     /// first refusal of the message, of the window, of the fpages of an Unmap, or of a thread control, and last
     /// `Lower(NoMemory)` of a Create in a new space. A Fault of a running thread is never refused. A Transfer or an
-    /// Expire that is not enabled is `NotEnabled` (K1).
+    /// Expire that is not enabled is `NotEnabled` (K1), and so is a Cancel of a thread that does not wait.
     pub fn step(&mut self, step: &Step) -> Result<Answer, Refused>
         ensures { Steps self.old step.now result self.new }
     {
@@ -180,7 +180,14 @@ impl Kernel {
                 *sender,
                 *receiver,
             ),
-            Step::Expire(number) => expire(&mut self.threads, *number),
+            Step::Expire(number) => {
+                let ended = expire(&mut self.threads, *number);
+                wait_result(ended, Outcome::Expired, *number)
+            }
+            Step::Cancel(waiter, cause) => {
+                let ended = cancel(&mut self.threads, *waiter, *cause);
+                wait_result(ended, Outcome::Canceled, *waiter)
+            }
         }
     }
 
@@ -199,6 +206,16 @@ impl Kernel {
             call,
             answer,
         )
+    }
+
+    /// Ends the wait of this thread with ErrorCode 2 or 3 (timeout), or 6 or 7 (canceled): the even one if it sends, the odd one if it
+    /// receives. A receive phase that would have followed does not begin. The embedder decides when this happens, so it owns the clock.
+    ///
+    /// Returns `NotEnabled` (K1) if no thread with this number waits. Then nothing changes.
+    pub fn cancel(&mut self, number: u32, cause: CancelCause) -> Result<(), Refused>
+        ensures { Steps self.old (Cancel number cause) (canceled_if number result) self.new }
+    {
+        cancel(&mut self.threads, number, cause)
     }
 
     /// Ghost function: gives a proof the invariant that the queue is a strict order of the senders. It compiles to nothing.
@@ -288,7 +305,7 @@ impl Kernel {
             self.threads.settle();
             return None;
         };
-        let Ok(()) = expire_untold(&mut self.threads, number) else {
+        let Ok(()) = expire(&mut self.threads, number) else {
             unreachable!()
         };
         Some(NextStep::Expire(number))

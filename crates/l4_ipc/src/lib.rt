@@ -26,4 +26,4 @@ pub use l4_phases::{Next, Sent};
 pub use l4_threads::{IpcReply, MAX_THREADS, Reply, ThreadFault, ThreadId};
 pub use l4_unmap::UnmapFault;
 pub use laws::{an_answer_leads_to_one_state, the_size_of_pages_stays};
-pub use steps::{Answer, Lower, NextStep, Outcome, Refused, Step};
+pub use steps::{Answer, CancelCause, Lower, NextStep, Outcome, Refused, Step};

@@ -1,12 +1,21 @@
 ghost use Rattle.std.specs.Prelude.{◌≡◌};
 ghost use Rattle.l4_ipc.specs.NextSteps.{step_of, answer_of};
 
-use crate::acting::{expire_answer, transfer_answer};
+use crate::acting::{transfer_answer, wait_answer};
 use crate::calls::Call;
 use arrayvec::ArrayVec;
 use l4_msg::MsgFault;
 use l4_threads::{MAX_THREADS, ThreadFault};
 use l4_unmap::UnmapFault;
+
+/// The reason why a wait is canceled (L4 X.2 manual, IPC: ErrorCode).
+#[derive(Clone, Copy, Debug, PartialEq, Eq)]
+pub enum CancelCause {
+    /// The timeout of the wait has passed, by a clock outside the kernel.
+    Timeout,
+    /// The wait is canceled, as by ExchangeRegisters.
+    Canceled,
+}
 
 /// One atomic step of the kernel. It names threads by their numbers.
 #[derive(Clone, Debug, PartialEq, Eq, Drop)]
@@ -17,6 +26,8 @@ pub enum Step {
     Transfer(u32, u32),
     /// The thread's zero timeout expires.
     Expire(u32),
+    /// The environment ends the thread's wait, for this reason.
+    Cancel(u32, CancelCause),
 }
 
 /// The outcome of a step.
@@ -34,6 +45,8 @@ pub enum Outcome {
     NoMemory,
     /// A zero timeout expired.
     Expired,
+    /// A wait was canceled.
+    Canceled,
 }
 
 /// The answer to a step: its outcome, and the threads whose calls ended in it.
@@ -75,7 +88,7 @@ impl NextStep {
             NextStep::Transfer(sender, receiver, outcome, ends) => {
                 transfer_answer(sender, receiver, outcome, ends)
             }
-            NextStep::Expire(number) => expire_answer(number),
+            NextStep::Expire(number) => wait_answer(Outcome::Expired, number),
         }
     }
 }
@@ -96,7 +109,7 @@ pub enum Lower {
 /// The reason why a step is refused. A refused step changes nothing.
 #[derive(Clone, Copy, Debug, PartialEq, Eq)]
 pub enum Refused {
-    /// K1: the Transfer or Expire is not enabled.
+    /// K1: the Transfer, Expire or Cancel is not enabled.
     NotEnabled,
     /// K2: there is no thread with this number to start a call.
     UnknownThread,

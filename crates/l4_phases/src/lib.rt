@@ -3,6 +3,8 @@
 
 mod starting;
 mod turns;
+mod waits;
 
 pub use starting::{end, enter, going_on, partner};
 pub use turns::{Ending, Next, Sent, Turn};
+pub use waits::{end_wait, list_if};

@@ -8,7 +8,8 @@ use Rattle.l4_ipc.specs.declared.calls.Call.TheVariants.{Control as Controls}
 use Rattle.l4_ipc.specs.declared.calls.Control.{Control}
 use Rattle.l4_ipc.specs.declared.steps.Answer.{Answer}
 use Rattle.l4_ipc.specs.declared.steps.Refused.{Refused}
-use Rattle.l4_ipc.specs.declared.steps.Step.TheVariants.{Start, Expire}
+use Rattle.l4_ipc.specs.declared.steps.CancelCause.{CancelCause}
+use Rattle.l4_ipc.specs.declared.steps.Step.TheVariants.{Start, Expire, Cancel}
 use Rattle.l4_ipc.specs.Machine.{machine}
 use Rattle.l4_ipc.specs.NextSteps.{own_answer}
 use Rattle.l4_ipc.specs.Steps.{Steps}
@@ -34,3 +35,7 @@ StartsControl t s n control answer t' s' = (size : PageSize) → Steps (machine 
 -- the call of the thread expires with this answer, whatever is mapped
 abbrev pub ExpiresCall : Threads → ℕ → Result Answer Refused → Threads → Type 0
 ExpiresCall old n answer new = (size : PageSize) (s : Mappings) → Steps (machine size old s) (Expire n) answer (machine size new s)
+
+-- the wait of the thread is canceled with this answer, whatever is mapped
+abbrev pub CancelsCall : Threads → ℕ → CancelCause → Result Answer Refused → Threads → Type 0
+CancelsCall old n cause answer new = (size : PageSize) (s : Mappings) → Steps (machine size old s) (Cancel n cause) answer (machine size new s)

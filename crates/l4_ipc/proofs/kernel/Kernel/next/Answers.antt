@@ -19,13 +19,13 @@ pub returns-in_default-next_expiry : goal.returns-in_default-next_expiry
 returns-in_default-next_expiry c = rw (← c.self.view_is, c.settle.ensures) (record { no_transfer = c.in_default.ensures; no_expiry = c.in_default-next_expiry.ensures }, refl)
 
 pub unreachable-requires : goal.unreachable-requires
-unreachable-requires c = (c.in_default-expire_untold.ensures.err c.self.inside.size c.self.inside.forest).0 c.in-Some-next_expiry.ensures.can_expire
+unreachable-requires c = (c.in_default-expire.ensures c.self.inside.size c.self.inside.forest).0 c.in-Some-next_expiry.ensures.can_expire
 
 pub invariant_of-self-2 : goal.invariant_of-self-2
 invariant_of-self-2 c = record {
-  sound = sound_step (machine c.self.inside.size c.self.inside.threads c.self.inside.forest) (Expire c.in-Some-next_expiry.number) (Ok (answer_of (Expiry c.in-Some-next_expiry.number))) (machine c.self.inside.size c.expire_untold.new.threads c.self.inside.forest) ((c.in-Ok.ensures.ok c.self.inside.size c.self.inside.forest)) c.self.invariant.sound;
+  sound = sound_step (machine c.self.inside.size c.self.inside.threads c.self.inside.forest) (Expire c.in-Some-next_expiry.number) (Ok (answer_of (Expiry c.in-Some-next_expiry.number))) (machine c.self.inside.size c.expire.new.threads c.self.inside.forest) ((c.in-Ok.ensures c.self.inside.size c.self.inside.forest)) c.self.invariant.sound;
   fits = c.self.invariant.fits;
 }
 
 pub returns : goal.returns
-returns c = rw (← c.self.view_is) ((c.in_default.ensures, c.in-Some-next_expiry.ensures), (c.in-Ok.ensures.ok c.self.inside.size c.self.inside.forest))
+returns c = rw (← c.self.view_is) ((c.in_default.ensures, c.in-Some-next_expiry.ensures), (c.in-Ok.ensures c.self.inside.size c.self.inside.forest))

@@ -1,5 +1,6 @@
-use Rattle.l4_ipc.specs.declared.steps.Step.TheVariants.{Start, Transfer, Expire}
+use Rattle.l4_ipc.specs.declared.steps.Step.TheVariants.{Start, Transfer, Expire, Cancel}
 use Rattle.l4_ipc.specs.Machine.{machine}
+use Rattle.l4_ipc.specs.NextSteps.{canceled_if, expired_if}
 use Rattle.l4_ipc.specs.Steps.{Steps}
 use Rattle.l4_ipc.proofs.Fitting.{fits_start}
 use Rattle.l4_ipc.proofs.SoundKept.{sound_step}
@@ -22,7 +23,13 @@ invariant_of-self-in-Transfer c = record {
 
 pub invariant_of-self-in-Expire : goal.invariant_of-self-in-Expire
 invariant_of-self-in-Expire c = record {
-  sound = sound_step (machine c.self.inside.size c.self.inside.threads c.self.inside.forest) (Expire c.in-Expire.number) c.expire.result (machine c.self.inside.size c.expire.new.threads c.self.inside.forest) (c.expire.ensures c.self.inside.size c.self.inside.forest) c.self.invariant.sound;
+  sound = sound_step (machine c.self.inside.size c.self.inside.threads c.self.inside.forest) (Expire c.in-Expire.number) (expired_if c.in-Expire.number c.expire-ended.result) (machine c.self.inside.size c.expire-ended.new.threads c.self.inside.forest) (c.expire-ended.ensures c.self.inside.size c.self.inside.forest) c.self.invariant.sound;
+  fits = c.self.invariant.fits;
+}
+
+pub invariant_of-self-in-Cancel : goal.invariant_of-self-in-Cancel
+invariant_of-self-in-Cancel c = record {
+  sound = sound_step (machine c.self.inside.size c.self.inside.threads c.self.inside.forest) (Cancel c.in-Cancel.waiter c.in-Cancel.cause) (canceled_if c.in-Cancel.waiter c.cancel-ended.result) (machine c.self.inside.size c.cancel-ended.new.threads c.self.inside.forest) (c.cancel-ended.ensures c.self.inside.size c.self.inside.forest) c.self.invariant.sound;
   fits = c.self.invariant.fits;
 }
 
@@ -33,4 +40,7 @@ pub returns-in-Transfer : goal.returns-in-Transfer
 returns-in-Transfer c = rw (← c.self.view_is, c.in-Transfer.is) c.transfer.ensures.step
 
 pub returns-in-Expire : goal.returns-in-Expire
-returns-in-Expire c = rw (← c.self.view_is, c.in-Expire.is) (c.expire.ensures c.self.inside.size c.self.inside.forest)
+returns-in-Expire c = rw (← c.self.view_is, c.in-Expire.is, c.wait_result.ensures) (c.expire-ended.ensures c.self.inside.size c.self.inside.forest)
+
+pub returns-in-Cancel : goal.returns-in-Cancel
+returns-in-Cancel c = rw (← c.self.view_is, c.in-Cancel.is, c.wait_result-in-Cancel.ensures) (c.cancel-ended.ensures c.self.inside.size c.self.inside.forest)
