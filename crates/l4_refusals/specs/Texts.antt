@@ -15,7 +15,7 @@ kernel_texts =
     ∷ (codes "B5", codes "the line is not a step or query of a step list")
     ∷ (codes "B6", codes "the bytes cannot be read as a checkpoint")
     ∷ (codes "B7", codes "a number of entries exceeds 2^63")
-    ∷ (codes "K1", codes "the step is not enabled: this transfer or expiry cannot happen now")
+    ∷ (codes "K1", codes "the step is not enabled: this transfer or expiry cannot happen now, or the thread does not wait")
     ∷ (codes "K2", codes "there is no thread with this number")
     ∷ (codes "K3", codes "the thread's previous call has not ended yet")
     ∷ (codes "K4", codes "a timeout is neither never (0) nor zero (0x400)")

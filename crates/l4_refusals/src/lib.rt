@@ -41,7 +41,7 @@ fn kernel_texts() -> [Text; 13]
         meaning(b"B7", b"a number of entries exceeds 2^63"),
         meaning(
             b"K1",
-            b"the step is not enabled: this transfer or expiry cannot happen now",
+            b"the step is not enabled: this transfer or expiry cannot happen now, or the thread does not wait",
         ),
         meaning(b"K2", b"there is no thread with this number"),
         meaning(b"K3", b"the thread's previous call has not ended yet"),
