@@ -1,5 +1,5 @@
 -- The calls of a pager that is served: it answers the last message, receives the next one, and so on (this profile's own).
-use Rattle.std.specs.Prelude.{◌≡◌, ℕ, ◌+◌, Bool, true, false, List, [], ◌∷◌, if◌then◌else◌}
+use Rattle.std.specs.Prelude.{◌≡◌, ℕ, ◌+◌, ◌≤◌, ◌==◌, ◌⊎◌, Bool, true, false, IsTrue, List, [], ◌∷◌, length, if◌then◌else◌}
 use Rattle.l4_msg.specs.Messages.{MessageReads, message_words}
 use Rattle.l4_msg.specs.declared.messages.Message.{Message}
 use Rattle.l4_threads.specs.declared.ThreadId.{ThreadId}
@@ -50,11 +50,19 @@ abbrev pub Follows : Regions → Reply → Call → Bool → Type 0
 Follows es reply call true = IsAnswer es reply call
 Follows es reply call false = ((sender : ThreadId) (m : Message) → ¬ Brings reply sender m) × (call ≡ waiting)
 
--- the calls that are entered after a reply, one after another, with this number of answers
+-- The receive phase of the call was canceled (ErrorCode 7). This tells a server to end (L4 X.2 manual, IPC: ErrorCode; the use is this
+-- profile's own).
+abbrev pub is_shut : Reply → Bool
+is_shut (IpcReply r) = r.error == 7
+is_shut other = false
+
+-- The calls that are entered after a reply, one after another, with this number of answers. None is entered after the receive phase of a
+-- call was canceled.
 abbrev pub Turns : Regions → Reply → List (Call × Reply) → ℕ → Type 0
 Turns es reply [] answers = answers ≡ 0
 Turns es reply (pair ∷ pairs) answers =
     (is_answer : Bool) × (later : ℕ) × Follows es reply pair.0 is_answer × Turns es pair.1 pairs later × (answers ≡ (if is_answer then 1 else 0) + later)
+    × (is_shut reply ≡ false)
 
 -- all calls that are entered, with this number of answers; the first one only receives
 abbrev pub Serves : Regions → List (Call × Reply) → ℕ → Type 0
@@ -64,8 +72,18 @@ Serves es (pair ∷ pairs) answers = (pair.0 ≡ waiting) × Turns es pair.1 pai
 -- the call is the one to enter after those that were entered
 abbrev pub ComesNext : Regions → List (Call × Reply) → Call → Type 0
 ComesNext es [] call = call ≡ waiting
-ComesNext es (pair ∷ []) call = (is_answer : Bool) × Follows es pair.1 call is_answer
+ComesNext es (pair ∷ []) call = (is_answer : Bool) × Follows es pair.1 call is_answer × (is_shut pair.1 ≡ false)
 ComesNext es (pair ∷ (next ∷ pairs)) call = ComesNext es (next ∷ pairs) call
+
+-- the receive phase of the last call was canceled
+abbrev pub ends_shut : List (Call × Reply) → Bool
+ends_shut [] = false
+ends_shut (pair ∷ []) = is_shut pair.1
+ends_shut (pair ∷ (next ∷ pairs)) = ends_shut (next ∷ pairs)
+
+-- all turns were taken, or the server was told to end
+abbrev pub AreDone : ℕ → List (Call × Reply) → Type 0
+AreDone turns entered = (length entered ≡ 1 + turns) ⊎ ((length entered ≤ turns) × IsTrue (ends_shut entered))
 
 -- the gate accepted these calls with these replies, one after another, and accepted no others
 abbrev pub Accepted : {G : Type 0} → (G → Call → Reply → G → Type 0) → G → List (Call × Reply) → G → Type 0

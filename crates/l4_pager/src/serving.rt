@@ -10,7 +10,7 @@ ghost use Rattle.l4_msg.specs.Protocols.{one_item};
 ghost use Rattle.l4_msg.specs.Sizes.{base_unit, max_words};
 ghost use Rattle.l4_msg.specs.declared.items.Item.TheVariants.{Map};
 ghost use Rattle.l4_pager.specs.declared.serving.GateFault.{GateFault as AFault};
-ghost use Rattle.l4_pager.specs.Serving.{Brings, Follows, Serves, ComesNext, Accepted, waiting, sending};
+ghost use Rattle.l4_pager.specs.Serving.{Brings, Follows, Serves, ComesNext, AreDone, Accepted, is_shut, waiting, sending};
 
 use crate::regions::RegionPager;
 use arrayvec::ArrayVec;
@@ -185,17 +185,34 @@ fn next_call(regions: &RegionPager, reply: &Reply) -> (Call, bool)
     (answering(sender, &regions.answer(&message)), true)
 }
 
+/// The ErrorCode of a receive phase that was canceled.
+const RECEIVE_CANCELED: u32 = 7;
+
+/// Returns whether the receive phase of a call was canceled.
+fn is_shut(reply: &Reply) -> bool
+    ensures { result ≡ is_shut reply.now }
+{
+    match reply {
+        Reply::Ipc(ipc) => ipc.error == RECEIVE_CANCELED,
+        Reply::Hit => false,
+        Reply::Answered => false,
+        Reply::FaultFailed(_) => false,
+        Reply::Unmapped => false,
+        Reply::Controlled => false,
+        Reply::Gone => false,
+    }
+}
+
 /// Serves a pager through a gate. It first receives from any thread, with a nil window. In each turn it answers the
 /// message of the last reply and receives again, or only receives again if the reply has no message. A reply has a
 /// message if it is that of an Ipc that did not fail, and its tag and words are a valid message.
 ///
-/// Returns the number of answers that were entered in `turns` turns. Stops at the first fault of the gate, and
-/// returns it.
-///
+/// Returns the number of answers that were entered in `turns` turns, or in fewer if a receive phase of its calls is canceled (ErrorCode 7):
+/// this tells the server to end. Stops at the first fault of the gate, and returns it.
 pub fn serve<G: Gate>(gate: &mut G, regions: &RegionPager, turns: u32) -> Result<u32, GateFault>
     ensures ok { IfOk result
         (λ answers. (entered : List (ACall × AReply))
-        × (G.pairs gate.new ≡ G.pairs gate.old ++ entered) × (length entered ≡ 1 + turns)
+        × (G.pairs gate.new ≡ G.pairs gate.old ++ entered) × AreDone turns entered
         × Serves regions.now entered answers × Accepted G.accepts gate.old entered gate.new) }
     ensures err { IfErr result
         (λ fault. (before : G) × (call : ACall) × G.refuses before call fault gate.new
@@ -211,6 +228,9 @@ pub fn serve<G: Gate>(gate: &mut G, regions: &RegionPager, turns: u32) -> Result
     };
     let mut answers = 0u32;
     for _ in 0..turns {
+        if is_shut(&reply) {
+            return Ok(answers);
+        }
         let (call, is_answer) = next_call(regions, &reply);
         match gate.enter(call) {
             Ok(next) => reply = next,
