@@ -11,7 +11,7 @@ use Rattle.l4_ipc.specs.declared.calls.Call.{Call}
 use Rattle.l4_ipc.specs.declared.calls.Call.TheVariants.{Ipc, Fault, Unmap, Control as Controls}
 use Rattle.l4_ipc.specs.declared.calls.Control.TheVariants.{Create, SetPager, Delete}
 use Rattle.l4_ipc.specs.declared.steps.Outcome.{Outcome}
-use Rattle.l4_ipc.specs.declared.steps.Outcome.TheVariants.{Started, Done, NoWindow, Entangled, NoMemory, Expired}
+use Rattle.l4_ipc.specs.declared.steps.Outcome.TheVariants.{Started, Done, NoWindow, Entangled, NoMemory, Expired, Canceled}
 use Rattle.l4_ipc.specs.declared.steps.Answer.{Answer}
 use Rattle.l4_journal.specs.Codes.{call_tag, call_fields, outcome_code, counted, answer_code, reply_code, CallFits, AnswerFits, ReplyFits}
 use Rattle.l4_journal.specs.Reading.{list_at, counted_at, call_of, outcome_of, answer_at, reply_at}
@@ -63,6 +63,7 @@ outcome_again NoWindow = refl
 outcome_again Entangled = refl
 outcome_again NoMemory = refl
 outcome_again Expired = refl
+outcome_again Canceled = refl
 
 pub answer_again : (answer : Answer) (rest : List ℕ) → AnswerFits answer → answer_at (answer_code answer ++ rest) ≡ Some (answer, rest)
 answer_again answer rest fits = rw (outcome_again answer.outcome, counted_again max_threads answer.ended.items rest fits) refl

@@ -10,7 +10,7 @@ use Rattle.l4_ipc.specs.declared.calls.Call.TheVariants.{Ipc, Fault, Unmap, Cont
 use Rattle.l4_ipc.specs.declared.calls.Control.{Control}
 use Rattle.l4_ipc.specs.declared.calls.Control.TheVariants.{Create, SetPager, Delete}
 use Rattle.l4_ipc.specs.declared.steps.Outcome.{Outcome}
-use Rattle.l4_ipc.specs.declared.steps.Outcome.TheVariants.{Started, Done, NoWindow, Entangled, NoMemory, Expired}
+use Rattle.l4_ipc.specs.declared.steps.Outcome.TheVariants.{Started, Done, NoWindow, Entangled, NoMemory, Expired, Canceled}
 use Rattle.l4_ipc.specs.declared.steps.Answer.{Answer}
 
 abbrev pub control_tag : Control → ℕ
@@ -43,6 +43,7 @@ outcome_code NoWindow = 2
 outcome_code Entangled = 3
 outcome_code NoMemory = 4
 outcome_code Expired = 5
+outcome_code Canceled = 6
 
 -- a list that is followed by other words: its length, and then the list
 abbrev pub counted : List ℕ → List ℕ

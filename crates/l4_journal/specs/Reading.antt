@@ -14,7 +14,7 @@ use Rattle.l4_ipc.specs.declared.calls.Create.{Create as ACreate}
 use Rattle.l4_ipc.specs.declared.calls.SetPager.{SetPager as ASetPager}
 use Rattle.l4_ipc.specs.declared.calls.Control.TheVariants.{Create, SetPager, Delete}
 use Rattle.l4_ipc.specs.declared.steps.Outcome.{Outcome}
-use Rattle.l4_ipc.specs.declared.steps.Outcome.TheVariants.{Started, Done, NoWindow, Entangled, NoMemory, Expired}
+use Rattle.l4_ipc.specs.declared.steps.Outcome.TheVariants.{Started, Done, NoWindow, Entangled, NoMemory, Expired, Canceled}
 use Rattle.l4_ipc.specs.declared.steps.Answer.{Answer}
 use Rattle.l4_journal.specs.Words.{◌>>=◌, word_at, words_at}
 
@@ -82,7 +82,8 @@ outcome_of (suc (suc zero)) = Some NoWindow
 outcome_of (suc (suc (suc zero))) = Some Entangled
 outcome_of (suc (suc (suc (suc zero)))) = Some NoMemory
 outcome_of (suc (suc (suc (suc (suc zero))))) = Some Expired
-outcome_of (suc (suc (suc (suc (suc (suc word)))))) = None
+outcome_of (suc (suc (suc (suc (suc (suc zero)))))) = Some Canceled
+outcome_of (suc (suc (suc (suc (suc (suc (suc word))))))) = None
 
 abbrev pub outcome_at : List ℕ → Option (Outcome × List ℕ)
 outcome_at words = do

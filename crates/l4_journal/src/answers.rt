@@ -22,6 +22,7 @@ pub fn outcome_word(outcome: Outcome) -> u32
         Outcome::Entangled => 3,
         Outcome::NoMemory => 4,
         Outcome::Expired => 5,
+        Outcome::Canceled => 6,
     }
 }
 
@@ -48,6 +49,7 @@ fn outcome_of(word: u32) -> Option<Outcome>
         3 => Some(Outcome::Entangled),
         4 => Some(Outcome::NoMemory),
         5 => Some(Outcome::Expired),
+        6 => Some(Outcome::Canceled),
         _ => None,
     }
 }
