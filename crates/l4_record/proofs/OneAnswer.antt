@@ -28,11 +28,11 @@ use Rattle.l4_ipc.specs.declared.calls.Call.TheVariants.{Ipc, Fault, Unmap, Cont
 use Rattle.l4_ipc.specs.declared.calls.Control.TheVariants.{Create, SetPager, Delete}
 use Rattle.l4_ipc.specs.declared.steps.Answer.{Answer}
 use Rattle.l4_ipc.specs.declared.steps.Outcome.{Outcome}
-use Rattle.l4_ipc.specs.declared.steps.Outcome.TheVariants.{Started, Done, NoWindow, Entangled, NoMemory, Expired}
+use Rattle.l4_ipc.specs.declared.steps.Outcome.TheVariants.{Started, Done, NoWindow, Entangled, NoMemory, Expired, Canceled}
 use Rattle.l4_ipc.specs.declared.steps.Refused.{Refused}
 use Rattle.l4_ipc.specs.declared.steps.Refused.TheVariants.{UnknownThread}
 use Rattle.l4_ipc.specs.declared.steps.Step.{Step}
-use Rattle.l4_ipc.specs.declared.steps.Step.TheVariants.{Start, Transfer, Expire}
+use Rattle.l4_ipc.specs.declared.steps.Step.TheVariants.{Start, Transfer, Expire, Cancel}
 use Rattle.l4_phases.specs.declared.turns.Sent.{Sent}
 use Rattle.l4_ipc.specs.Machine.{Machine}
 use Rattle.l4_ipc.specs.Moving.{Moves}
@@ -182,21 +182,25 @@ module _ (size : PageSize) (old : Mappings) (from to : ℕ) (items : List Item) 
   one_outcome NoWindow Done a b x y np nq = absurd (y.0 x.0)
   one_outcome NoWindow Started a b x y np nq = absurd y
   one_outcome NoWindow Expired a b x y np nq = absurd y
+  one_outcome NoWindow Canceled a b x y np nq = absurd y
   one_outcome Entangled NoWindow a b x y np nq = absurd (x.0 y.0)
   one_outcome Entangled Entangled a b x y np nq = refl
   one_outcome Entangled NoMemory a b x y np nq = absurd (nq refl)
   one_outcome Entangled Done a b x y np nq = absurd (y.1 x.1)
   one_outcome Entangled Started a b x y np nq = absurd y
   one_outcome Entangled Expired a b x y np nq = absurd y
+  one_outcome Entangled Canceled a b x y np nq = absurd y
   one_outcome Done NoWindow a b x y np nq = absurd (x.0 y.0)
   one_outcome Done Entangled a b x y np nq = absurd (x.1 y.1)
   one_outcome Done NoMemory a b x y np nq = absurd (nq refl)
   one_outcome Done Done a b x y np nq = refl
   one_outcome Done Started a b x y np nq = absurd y
   one_outcome Done Expired a b x y np nq = absurd y
+  one_outcome Done Canceled a b x y np nq = absurd y
   one_outcome NoMemory q a b x y np nq = absurd (np refl)
   one_outcome Started q a b x y np nq = absurd x
   one_outcome Expired q a b x y np nq = absurd x
+  one_outcome Canceled q a b x y np nq = absurd x
 
 -- the outcome, and the threads whose calls ended
 abbrev Ends : Machine → ℕ → ℕ → Answer → Machine → Thread → Thread → Sending → Receiving → Type 0
@@ -234,6 +238,8 @@ one_answer old (Transfer s r) a (Ok b) m n x y p q = ap Ok (one_carried old s r 
 one_answer old (Transfer s r) a (Err e) m n x y p q = absurd (y.0 x.4.enabled)
 one_answer old (Expire k) a (Ok b) m n x y p q = ap Ok (same_parts b a (y.1 ∙ sym x.1) (y.2 ∙ sym x.2))
 one_answer old (Expire k) a (Err e) m n x y p q = absurd (y.0 x.0)
+one_answer old (Cancel k cause) a (Ok b) m n x y p q = ap Ok (same_parts b a (y.1 ∙ sym x.1) (y.2 ∙ sym x.2))
+one_answer old (Cancel k cause) a (Err e) m n x y p q = absurd (y.0 x.0)
 
 pub ran_out_or_not : (a : Answer) → RanOut (Ok a) ⊎ ¬ (RanOut (Ok a))
 ran_out_or_not a = which a.outcome where
@@ -244,3 +250,4 @@ ran_out_or_not a = which a.outcome where
   which NoWindow = inr (λ e. let k : NoWindow ≡ NoMemory = e in cc)
   which Entangled = inr (λ e. let k : Entangled ≡ NoMemory = e in cc)
   which Expired = inr (λ e. let k : Expired ≡ NoMemory = e in cc)
+  which Canceled = inr (λ e. let k : Canceled ≡ NoMemory = e in cc)

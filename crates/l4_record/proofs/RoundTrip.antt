@@ -12,8 +12,10 @@ use Rattle.l4_ipc.specs.declared.steps.Outcome.{Outcome}
 use Rattle.l4_ipc.specs.NextSteps.{own_answer}
 use Rattle.l4_journal.specs.Codes.{call_tag, call_fields, outcome_code, AnswerFits, CallFits}
 use Rattle.l4_journal.proofs.RoundTrip.{call_again, answer_again, outcome_again}
-use Rattle.l4_record.specs.Following.{next_entry, start_entry}
-use Rattle.l4_record.specs.Inside.Words.{answered_code, ends_word, next_code, entry_of, entry_at}
+use Rattle.l4_record.specs.Following.{next_entry, start_entry, cancel_entry}
+use Rattle.l4_record.specs.Inside.Words.{answered_code, ends_word, next_code, entry_of, entry_at, cause_word}
+use Rattle.l4_ipc.specs.declared.steps.CancelCause.{CancelCause}
+use Rattle.l4_ipc.specs.declared.steps.CancelCause.TheVariants.{Timeout, Canceled}
 
 pub answered_again : (seat : ℕ) (call : Call) (answer : Answer) → CallFits call → AnswerFits answer → entry_at (answered_code seat call answer) ≡ Some (start_entry seat call answer)
 unfolding entry_at entry_of
@@ -47,3 +49,8 @@ transfer_again seat next sender receiver code word outcome ends is code_is word_
 
 pub expire_again : (seat : ℕ) (next : NextStep) (waiter : ℕ) → next ≡ Expires waiter → entry_at (7 ∷ seat ∷ waiter ∷ []) ≡ Some (next_entry seat next)
 expire_again seat next waiter is = next_again seat (Expires waiter) ∙ ap (λ (n : NextStep). Some (next_entry seat n)) (sym is)
+
+pub cancel_again : (n word : ℕ) (cause : CancelCause) → word ≡ cause_word cause → entry_at (9 ∷ 0 ∷ n ∷ word ∷ []) ≡ Some (cancel_entry n cause)
+unfolding entry_at entry_of
+cancel_again n word Timeout is = ap (λ k. entry_at (9 ∷ 0 ∷ n ∷ k ∷ [])) is
+cancel_again n word Canceled is = ap (λ k. entry_at (9 ∷ 0 ∷ n ∷ k ∷ [])) is

@@ -1,14 +1,16 @@
 -- The recorder as one value, and the effects of its calls (this profile's own).
-use Rattle.std.specs.Prelude.{◌≡◌, ℕ, ◌<◌, ◌≤◌, ◌⊎◌, List, ◌∷◌, ◌++◌, length, map, Ok, Err, refl}
+use Rattle.std.specs.Prelude.{◌≡◌, ℕ, ◌<◌, ◌≤◌, ◌⊎◌, List, [], ◌∷◌, ◌++◌, length, map, Ok, Err, refl}
 use Rattle.std.specs.Coded.{Coded, code_by, coded×, coded_ℕ, coded_list}
 use Rattle.atomic_table.specs.Seated.{TableId, table_id_coded}
 use Rattle.l4_fpage.specs.Pages.{max_frames}
 use Rattle.l4_threads.specs.declared.Thread.{Thread}
 use Rattle.l4_ipc.specs.declared.calls.Call.{Call}
+use Rattle.l4_ipc.specs.declared.steps.CancelCause.{CancelCause}
 use Rattle.l4_ipc.specs.declared.steps.Refused.TheVariants.{BadFrames, Lower}
 use Rattle.l4_ipc.specs.declared.steps.Lower.TheVariants.{NoMemory as LowerNoMemory}
-use Rattle.l4_ipc.specs.declared.steps.Step.TheVariants.{Start}
+use Rattle.l4_ipc.specs.declared.steps.Step.TheVariants.{Start, Cancel}
 use Rattle.l4_ipc.specs.Machine.{Machine, machine_code}
+use Rattle.l4_ipc.specs.NextSteps.{cancel_answer}
 use Rattle.l4_ipc.specs.Steps.{Steps, IsIdle}
 use Rattle.l4_record.specs.declared.appended.Appended.{Appended}
 use Rattle.l4_record.specs.declared.entries.Entry.{Entry}
@@ -18,7 +20,7 @@ use Rattle.l4_record.specs.declared.segments.Segment.{Segment}
 use Rattle.l4_record.specs.Sizes.{max_entries, max_steps, last_start, max_handed_out}
 use Rattle.l4_record.specs.History.{IsLegal}
 use Rattle.l4_record.specs.Segments.{kept, kept_count, HasBase}
-use Rattle.l4_record.specs.Following.{start_entry, next_entry, Lasts, ComeNext}
+use Rattle.l4_record.specs.Following.{start_entry, next_entry, cancel_entry, Lasts, ComeNext}
 
 -- What a contract sees of the recorder. The history is the list of all entries since boot. Those with lower numbers than `kept_from` were
 -- handed out.
@@ -66,6 +68,16 @@ pub record Enters (old new : Recording) (n : ℕ) (call : Call) (appended : Appe
   pub same : (new.frames ≡ old.frames) × (new.board ≡ old.board)
   pub kept_from : new.kept_from ≡ old.kept_from
 
+-- The wait of the thread was canceled, for which the history had room, and this step was appended. The reply of the call that ended can
+-- still be read, and no step is enabled.
+pub record Cancels (old new : Recording) (n : ℕ) (cause : CancelCause) : Type 0 where
+  pub room : kept_count old.kept_from old.history ≤ last_start
+  pub steps : Steps old.kernel (Cancel n cause) (Ok (cancel_answer n)) new.kernel
+  pub idle : IsIdle new.kernel
+  pub history : new.history ≡ old.history ++ cancel_entry n cause ∷ []
+  pub same : (new.frames ≡ old.frames) × (new.board ≡ old.board)
+  pub kept_from : new.kept_from ≡ old.kept_from
+
 -- The segment has the entries that were kept, and the number of the first of them. They were handed out, so none is kept now. Nothing else
 -- has changed.
 pub record HandsOut (old new : Recording) (segment : Segment) : Type 0 where
@@ -84,3 +96,9 @@ abbrev pub Refuses : Recording → ℕ → Call → RecordRefusal → Type 0
 Refuses r n call HistoryFull = last_start < kept_count r.kept_from r.history
 Refuses r n call NoMemory = kept_count r.kept_from r.history ≤ last_start
 Refuses r n call (ByKernel e) = (kept_count r.kept_from r.history ≤ last_start) × Steps r.kernel (Start n call) (Err e) r.kernel
+
+-- the reason why a wait is not canceled: the first of these that applies
+abbrev pub RefusesCancel : Recording → ℕ → CancelCause → RecordRefusal → Type 0
+RefusesCancel r n cause HistoryFull = last_start < kept_count r.kept_from r.history
+RefusesCancel r n cause NoMemory = kept_count r.kept_from r.history ≤ last_start
+RefusesCancel r n cause (ByKernel e) = (kept_count r.kept_from r.history ≤ last_start) × Steps r.kernel (Cancel n cause) (Err e) r.kernel

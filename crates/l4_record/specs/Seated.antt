@@ -7,7 +7,8 @@ use Rattle.l4_fpage.specs.declared.sizes.PageSize.{PageSize}
 use Rattle.l4_threads.specs.declared.Thread.{Thread}
 use Rattle.l4_threads.specs.Threads.{runs}
 use Rattle.l4_ipc.specs.declared.calls.Call.{Call}
-use Rattle.l4_ipc.specs.declared.steps.Step.TheVariants.{Start}
+use Rattle.l4_ipc.specs.declared.steps.CancelCause.{CancelCause}
+use Rattle.l4_ipc.specs.declared.steps.Step.TheVariants.{Start, Cancel}
 use Rattle.l4_ipc.specs.declared.steps.Refused.TheVariants.{UnknownThread}
 use Rattle.l4_ipc.specs.Machine.{Machine, machine_code, IsBoot}
 use Rattle.l4_ipc.specs.Steps.{Steps}
@@ -73,3 +74,9 @@ Refuses m entries numbers n call HistoryFull = (is_among n numbers ≡ true) × 
 Refuses m entries numbers n call NoMemory = CanEnter entries numbers n
 Refuses m entries numbers n call (ByKernel e) =
     ((is_among n numbers ≡ false) × (e ≡ UnknownThread)) ⊎ (CanEnter entries numbers n × Steps m (Start n call) (Err e) m)
+
+-- the reason why a wait is not canceled: the history is full; else an allocation failed or the thread does not wait
+abbrev pub RefusesCancel : Machine → ℕ → ℕ → CancelCause → RecordRefusal → Type 0
+RefusesCancel m entries n cause HistoryFull = last_start < entries
+RefusesCancel m entries n cause NoMemory = entries ≤ last_start
+RefusesCancel m entries n cause (ByKernel e) = (entries ≤ last_start) × Steps m (Cancel n cause) (Err e) m

@@ -16,7 +16,8 @@ abbrev pub kept_count : ℕ → List Entry → ℕ
 kept_count kept_from history = length history - kept_from
 
 -- The entries that were handed out are a legal history from boot, and lead to a base, at which no step is enabled. The entries that are
--- kept lead from the base to the machine, and none of their steps is refused. Like every segment, they begin with the start of a call.
+-- kept lead from the base to the machine, and none of their steps is refused. Like every segment, they begin with the start of a call or
+-- with a Cancel.
 pub record HasBase (frames : ℕ) (history : List Entry) (kept_from : ℕ) (m : Machine) : Type 0 where
   pub base : Machine
   pub earlier : IsLegal frames (take kept_from history) base

@@ -3,12 +3,12 @@ ghost use Rattle.std.specs.Prelude.{◌≡◌, ◌+◌, ◌<◌, ◌^◌, ◌≤
 ghost use Rattle.l4_ipc.specs.declared.calls.Call.TheVariants.{Ipc as AnIpc, Fault as AFault};
 ghost use Rattle.l4_ipc.specs.NextSteps.{own_answer};
 ghost use Rattle.l4_record.specs.Lists.{EntryList, entry_list};
-ghost use Rattle.l4_record.specs.Following.{start_entry, next_entry};
+ghost use Rattle.l4_record.specs.Following.{start_entry, next_entry, cancel_entry};
 ghost use Rattle.l4_record.specs.Inside.Words.{ends_word};
 
 use crate::entries::Entry;
-use crate::words::{EXPIRE, TRANSFER, write_start};
-use l4_ipc::{Answer, Call, FaultCall, IpcCall, NextStep, Outcome};
+use crate::words::{CANCEL, EXPIRE, NO_SEAT, TRANSFER, cause_word, write_start};
+use l4_ipc::{Answer, Call, CancelCause, FaultCall, IpcCall, NextStep, Outcome};
 use l4_journal::{FAULT, FromWords, IPC, ItemsFrom, Journal, Record, outcome_word};
 use std::alloc::{AllocError, Global};
 use std::marker::Model;
@@ -130,6 +130,17 @@ impl History {
             }
             NextStep::Expire(waiter) => self.entries.push(&[EXPIRE, seat, waiter], &[]),
         }
+    }
+
+    /// Appends the entry of a Cancel, which has no seat. There must be room for it.
+    pub(crate) fn push_cancel(&mut self, number: u32, cause: CancelCause)
+        requires { length self.old.entries < self.old.room }
+        ensures entries { self.new.entries ≡ self.old.entries ++ cancel_entry number cause ∷ [] }
+        ensures room { (length self.new.entries ≡ length self.old.entries + 1)
+            × (self.new.room ≡ self.old.room) }
+    {
+        let words = [CANCEL, NO_SEAT, number, cause_word(cause)];
+        self.entries.push(&words, &[]);
     }
 
     /// Appends the entry of the start of a call. There must be room for it.

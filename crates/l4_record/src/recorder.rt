@@ -4,7 +4,7 @@ ghost use Rattle.std.specs.List.{All};
 ghost use Rattle.l4_board.specs.Board.{IsNewWatch};
 ghost use Rattle.l4_ipc.specs.Machine.{IsBoot};
 ghost use Rattle.l4_record.specs.Laws.{IsWholeRun};
-ghost use Rattle.l4_record.specs.Recording.{IsKept, RefusesBoot, Enters, HandsOut, Refuses};
+ghost use Rattle.l4_record.specs.Recording.{IsKept, RefusesBoot, Enters, Cancels, HandsOut, Refuses, RefusesCancel};
 ghost use Rattle.l4_record.specs.Segments.{kept, kept_count};
 ghost use Rattle.l4_record.specs.Sizes.{last_start, max_handed_out};
 
@@ -13,9 +13,9 @@ use crate::history::History;
 use crate::past::Past;
 use crate::refusals::RecordRefusal;
 use crate::segments::Segment;
-use crate::steps::begin;
+use crate::steps::{begin, end_wait};
 use l4_board::{Board, Publisher, Watch};
-use l4_ipc::{Call, Kernel, NoMemory, PageSize};
+use l4_ipc::{Call, CancelCause, Kernel, NoMemory, PageSize};
 use std::alloc::Global;
 use std::marker::Model;
 use std::mem::replace;
@@ -233,6 +233,32 @@ impl Recorder {
         }
         let count = self.kept_from + self.history.len();
         self.publisher.publish(count as u64);
+        Ok(())
+    }
+
+    /// Cancels the wait of this thread, and appends this step to the history, with seat 0, which is no thread's. No other step is enabled
+    /// after it.
+    ///
+    /// Returns these refusals, tested in this order: `HistoryFull`, `NoMemory`, and `Kernel(NotEnabled)` if no thread with this number
+    /// waits. After a refusal, nothing has changed.
+    pub fn cancel(&mut self, number: u32, cause: CancelCause) -> Result<(), RecordRefusal>
+        ensures ok { IfOk result (λ _. Cancels self.old self.new number cause) }
+        ensures err { IfErr result
+            (λ e. RefusesCancel self.old number cause e × (self.new ≡ self.old)) }
+    {
+        let kept = self.history.len();
+        if kept > LAST_START {
+            return Err(RecordRefusal::HistoryFull);
+        }
+        if self.history.reserve(1).is_err() {
+            return Err(RecordRefusal::NoMemory);
+        }
+        let ended = end_wait(number, cause, &mut self.history, &mut self.kernel);
+        if let Err(refused) = ended {
+            return Err(RecordRefusal::Kernel(refused));
+        }
+        let length = self.kept_from + self.history.len();
+        self.publisher.publish(length as u64);
         Ok(())
     }
 

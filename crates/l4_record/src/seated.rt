@@ -1,13 +1,13 @@
 //! The kernel of a script: a recorded kernel, and the numbers of the threads that may enter calls.
 ghost use Rattle.std.specs.Prelude.{◌≡◌, ◌≤◌, ◌<◌, ◌↔◌, false, IsTrue, IfOk, IfErr, IfSome, IfNone, MatchResult, length};
 ghost use Rattle.l4_record.specs.Recording.{RefusesBoot};
-ghost use Rattle.l4_record.specs.Seated.{is_among, IsNew, with_number, MayEnter, HandsOut, Refuses};
+ghost use Rattle.l4_record.specs.Seated.{is_among, IsNew, with_number, MayEnter, HandsOut, Refuses, RefusesCancel};
 ghost use Rattle.l4_record.specs.Segments.{kept, kept_count};
 ghost use Rattle.l4_record.specs.Sizes.{max_handed_out};
-ghost use Rattle.l4_record.specs.Entering.{Enters};
+ghost use Rattle.l4_record.specs.Entering.{Enters, Cancels};
 
 use crate::{Appended, Board, History, RecordRefusal, Recorder, Segment, Watch};
-use l4_ipc::{Call, Kernel, NoMemory, PageSize, Refused};
+use l4_ipc::{Call, CancelCause, Kernel, NoMemory, PageSize, Refused};
 use std::alloc::Global;
 use std::marker::Model;
 
@@ -169,6 +169,20 @@ impl SeatedKernel {
             return Err(RecordRefusal::Kernel(Refused::UnknownThread));
         }
         self.recorder.enter(number, call, appended)
+    }
+
+    /// Cancels the wait of this thread, and appends this step to the history. The number needs no seat, because the environment takes the
+    /// step, and no thread.
+    ///
+    /// Returns these refusals, tested in this order: `HistoryFull`, `NoMemory`, and `Kernel(NotEnabled)` if no thread with this number
+    /// waits. After a refusal, nothing has changed.
+    pub fn cancel(&mut self, number: u32, cause: CancelCause) -> Result<(), RecordRefusal>
+        ensures ok { IfOk result (λ _. Cancels self.old self.new number cause) }
+        ensures err { IfErr result
+            (λ e. RefusesCancel self.old.machine (kept_count self.old.kept_from self.old.history) number
+            cause e × (self.new ≡ self.old)) }
+    {
+        self.recorder.cancel(number, cause)
     }
 
     /// Returns the number on the board: the length of the history. It never falls.

@@ -1,14 +1,14 @@
 //! Steps of the kernel with their entries.
 ghost use Rattle.std.specs.Prelude.{◌≡◌, ◌+◌, ◌≤◌, ◌<◌, Ok, Err, IfOk, IfErr, OnErr, length};
 ghost use Rattle.l4_ipc.specs.Steps.{Steps, IsIdle};
-ghost use Rattle.l4_ipc.specs.declared.steps.Step.TheVariants.{Start};
+ghost use Rattle.l4_ipc.specs.declared.steps.Step.TheVariants.{Start, Cancel};
 ghost use Rattle.l4_threads.specs.Sizes.{max_threads};
 ghost use Rattle.l4_record.specs.Sizes.{max_steps};
-ghost use Rattle.l4_record.specs.Inside.Entering.{Went, Begins};
+ghost use Rattle.l4_record.specs.Inside.Entering.{Went, Begins, EndsWait};
 
 use crate::appended::{Appended, NextSteps};
 use crate::history::History;
-use l4_ipc::{Call, Kernel, Refused};
+use l4_ipc::{Call, CancelCause, Kernel, Refused};
 
 /// Executes the next step until no step is enabled, and overwrites `next` with these steps.
 fn follow(kernel: &mut Kernel, history: &mut History, number: u32, next: &mut NextSteps)
@@ -47,6 +47,32 @@ pub fn begin(
             kernel.law_forest();
             history.push_start(number, call, &appended.start);
             follow(kernel, history, number, &mut appended.next);
+            Ok(())
+        }
+        Err(refused) => Err(refused),
+    }
+}
+
+/// Cancels the wait of a thread, and appends this step. After a refusal, nothing has changed.
+#[inline(never)]
+pub fn end_wait(
+    number: u32,
+    cause: CancelCause,
+    history: &mut History,
+    kernel: &mut Kernel,
+) -> Result<(), Refused>
+    requires { length history.old.entries + 1 ≤ history.old.room }
+    ensures ok { IfOk result
+        (λ _. EndsWait number cause kernel.old kernel.new history.old.entries history.new.entries) }
+    ensures err { IfErr result (λ e. Steps kernel.old (Cancel number cause) (Err e) kernel.old) }
+    ensures same { OnErr result
+        ((kernel.new ≡ kernel.old) × (history.new.entries ≡ history.old.entries)) }
+{
+    kernel.law_consistent();
+    match kernel.cancel(number, cause) {
+        Ok(()) => {
+            kernel.law_forest();
+            history.push_cancel(number, cause);
             Ok(())
         }
         Err(refused) => Err(refused),

@@ -1,11 +1,11 @@
 //! Entries as words: a tag, the seat, and a word for each field.
 ghost use Rattle.std.specs.Prelude.{◌≡◌, Some};
 ghost use Rattle.l4_ipc.specs.declared.steps.Step.TheVariants.{Start};
-ghost use Rattle.l4_record.specs.Inside.Words.{start_at, transfer_at, expire_at, answered_at, entry_of, entry_at};
+ghost use Rattle.l4_record.specs.Inside.Words.{start_at, transfer_at, expire_at, answered_at, cancel_at, cause_word, cause_of, entry_of, entry_at};
 
 use crate::entries::Entry;
 use arrayvec::ArrayVec;
-use l4_ipc::{Answer, Call, NextStep, Outcome, Step};
+use l4_ipc::{Answer, Call, CancelCause, NextStep, Outcome, Step};
 use l4_journal::{
     FromWords, Record, Words, call_tag, put_answer, put_fields, read_answer, read_call,
     read_outcome, read_word,
@@ -19,6 +19,33 @@ pub const EXPIRE: u32 = 7;
 
 /// The tag of the start of a call with its answer.
 const ANSWERED: u32 = 8;
+
+/// The tag of a Cancel.
+pub const CANCEL: u32 = 9;
+
+/// The seat of an entry that no thread's call appended. No thread has this number.
+pub const NO_SEAT: u32 = 0;
+
+/// Returns the word of the cause of a Cancel.
+pub fn cause_word(cause: CancelCause) -> u32
+    ensures { result ≡ cause_word cause }
+{
+    match cause {
+        CancelCause::Timeout => 1,
+        CancelCause::Canceled => 3,
+    }
+}
+
+/// Returns the cause of this word.
+fn cause_of(word: u32) -> Option<CancelCause>
+    ensures { result ≡ cause_of word }
+{
+    match word {
+        1 => Some(CancelCause::Timeout),
+        3 => Some(CancelCause::Canceled),
+        _ => None,
+    }
+}
 
 /// Overwrites the record with the entry of the start of a call.
 pub fn write_start(out: &mut Record, number: u32, call: &Call, answer: &Answer)
@@ -71,6 +98,23 @@ fn read_expire(seat: u32, words: Words<'_>) -> Option<Entry>
     Some(Entry { seat, step, answer })
 }
 
+/// Reads the entry of a Cancel from these fields.
+fn read_cancel(seat: u32, words: Words<'_>) -> Option<Entry>
+    ensures { result ≡ cancel_at seat words.entry }
+{
+    let (waiter, rest) = read_word(words)?;
+    let (word, _) = read_word(rest)?;
+    let cause = cause_of(word)?;
+    let mut ended = ArrayVec::new();
+    ended.push(waiter);
+    let answer = Answer {
+        outcome: Outcome::Canceled,
+        ended,
+    };
+    let step = Step::Cancel(waiter, cause);
+    Some(Entry { seat, step, answer })
+}
+
 /// Reads the entry of the start of a call with this answer, tag and fields.
 fn read_answered(seat: u32, words: Words<'_>) -> Option<Entry>
     ensures { result ≡ answered_at seat words.entry }
@@ -91,6 +135,7 @@ fn read_entry(tag: u32, seat: u32, words: Words<'_>) -> Option<Entry>
         TRANSFER => read_transfer(seat, words),
         EXPIRE => read_expire(seat, words),
         ANSWERED => read_answered(seat, words),
+        CANCEL => read_cancel(seat, words),
         _ => read_start(tag, seat, words),
     }
 }

@@ -1,6 +1,10 @@
 -- Entries as words: a tag, the seat, and a word for each field (this profile's own).
-use Rattle.std.specs.Prelude.{ℕ, Bool, true, false, List, [], ◌∷◌, ◌++◌, Option, Some, nat_eq, if◌then◌else◌}
-use Rattle.l4_ipc.specs.NextSteps.{own_answer}
+use Rattle.std.specs.Prelude.{ℕ, Bool, true, false, List, [], ◌∷◌, ◌++◌, Option, Some, None, nat_eq, if◌then◌else◌}
+use Rattle.l4_ipc.specs.NextSteps.{own_answer, cancel_answer}
+use Rattle.l4_ipc.specs.Steps.{cause_error}
+use Rattle.l4_ipc.specs.declared.steps.CancelCause.{CancelCause}
+use Rattle.l4_ipc.specs.declared.steps.CancelCause.TheVariants.{Timeout, Canceled}
+use Rattle.l4_ipc.specs.declared.steps.Step.TheVariants.{Cancel}
 use Rattle.l4_ipc.specs.declared.calls.Call.{Call}
 use Rattle.l4_ipc.specs.declared.steps.Answer.{Answer}
 use Rattle.l4_ipc.specs.declared.steps.NextStep.{NextStep}
@@ -49,6 +53,24 @@ expire_at seat words = do
   waiter ← word_at words
   Some (next_entry seat (Expires waiter.0))
 
+-- the word of the cause of a Cancel: e of its ErrorCode
+abbrev pub cause_word : CancelCause → ℕ
+cause_word cause = cause_error cause
+
+abbrev pub cause_of : ℕ → Option CancelCause
+cause_of word = if nat_eq word 1 then Some Timeout else (if nat_eq word 3 then Some Canceled else None)
+
+-- the entry of a Cancel
+abbrev pub cancel_code : ℕ → ℕ → CancelCause → List ℕ
+cancel_code seat n cause = 9 ∷ seat ∷ n ∷ cause_word cause ∷ []
+
+abbrev pub cancel_at : ℕ → List ℕ → Option Entry
+cancel_at seat words = do
+  waiter ← word_at words
+  word ← word_at waiter.1
+  cause ← cause_of word.0
+  Some (record { seat = seat; step = Cancel waiter.0 cause; answer = cancel_answer waiter.0 })
+
 abbrev pub answered_at : ℕ → List ℕ → Option Entry
 answered_at seat words = do
   answer ← answer_at words
@@ -61,7 +83,8 @@ unfoldable pub entry_of : ℕ → ℕ → List ℕ → Option Entry
 entry_of tag seat words =
     if nat_eq tag 6 then transfer_at seat words
     else (if nat_eq tag 7 then expire_at seat words
-    else (if nat_eq tag 8 then answered_at seat words else start_at tag seat words))
+    else (if nat_eq tag 8 then answered_at seat words
+    else (if nat_eq tag 9 then cancel_at seat words else start_at tag seat words)))
 
 -- the entry that these words are, or None
 unfoldable pub entry_at : List ℕ → Option Entry
