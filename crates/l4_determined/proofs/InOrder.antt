@@ -35,11 +35,11 @@ use Rattle.l4_phases.specs.declared.turns.Next.TheVariants.{Ends, Sends, Receive
 use Rattle.l4_ipc.specs.declared.steps.Answer.{Answer}
 use Rattle.l4_ipc.specs.declared.steps.Refused.{Refused}
 use Rattle.l4_ipc.specs.declared.steps.Step.{Step}
-use Rattle.l4_ipc.specs.declared.steps.Step.TheVariants.{Start, Transfer, Expire}
+use Rattle.l4_ipc.specs.declared.steps.Step.TheVariants.{Start, Transfer, Expire, Cancel}
 use Rattle.l4_ipc.specs.Machine.{Machine}
 use Rattle.l4_phases.specs.Phases.{enters, going_on}
 use Rattle.l4_ipc.specs.Start.{ipc_next, fault_next}
-use Rattle.l4_ipc.specs.Steps.{Steps, Starts, sender_next, is_done, expiry}
+use Rattle.l4_ipc.specs.Steps.{Steps, Starts, sender_next, is_done, expiry, cancellation}
 use Rattle.l4_ipc.proofs.Threads.{past}
 use Rattle.l4_determined.specs.Inside.InOrder.{IsInOrder}
 
@@ -403,6 +403,8 @@ step_in_order old (Transfer s r) (Ok answer) new x so =
 step_in_order old (Transfer s r) (Err e) new x so = subst (λ (m : Machine). IsInOrder m.threads) (sym x.2) so
 step_in_order old (Expire n) (Ok answer) new x so = subst (λ (m : Machine). IsInOrder m.threads) (sym x.3) (ends_in_order old.threads n (expiry x.0.state) so)
 step_in_order old (Expire n) (Err e) new x so = subst (λ (m : Machine). IsInOrder m.threads) (sym x.2) so
+step_in_order old (Cancel n cause) (Ok answer) new x so = subst (λ (m : Machine). IsInOrder m.threads) (sym x.3) (ends_in_order old.threads n (cancellation cause x.0.state) so)
+step_in_order old (Cancel n cause) (Err e) new x so = subst (λ (m : Machine). IsInOrder m.threads) (sym x.2) so
 
 -- the queue of a kernel's threads is in order
 pub consistent_in_order : (t : Threads) → IsConsistent t → IsInOrder t

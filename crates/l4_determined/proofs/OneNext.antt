@@ -10,7 +10,7 @@ use Rattle.l4_threads.specs.Enabled.{takes_from, offers_to, Offers, IsNextTransf
 use Rattle.l4_ipc.specs.declared.steps.Answer.{Answer}
 use Rattle.l4_ipc.specs.declared.steps.Refused.{Refused}
 use Rattle.l4_ipc.specs.declared.steps.Step.{Step}
-use Rattle.l4_ipc.specs.declared.steps.Step.TheVariants.{Start, Transfer, Expire}
+use Rattle.l4_ipc.specs.declared.steps.Step.TheVariants.{Start, Transfer, Expire, Cancel}
 use Rattle.l4_ipc.specs.Following.{Done, AreNext}
 use Rattle.l4_ipc.specs.Machine.{Machine}
 use Rattle.l4_ipc.specs.Steps.{Steps, IsNext, IsIdle}
@@ -68,7 +68,10 @@ one_next m (Start n call) t so x y = absurd x
 one_next m (Transfer a b) (Start n call) so x y = absurd y
 one_next m (Transfer a b) (Transfer c d) so x y = one_transfer m.threads a b c d so x y
 one_next m (Transfer a b) (Expire n) so x y = absurd (y.0 a b x.first_sender)
+one_next m (Transfer a b) (Cancel n cause) so x y = absurd y
+one_next m (Cancel n cause) t so x y = absurd x
 one_next m (Expire n) (Start k call) so x y = absurd y
+one_next m (Expire n) (Cancel k cause) so x y = absurd y
 one_next m (Expire n) (Transfer a b) so x y = absurd (x.0 a b y.first_sender)
 one_next m (Expire n) (Expire k) so x y =
     let low = x.1.least k y.1.can_expire in
@@ -78,6 +81,7 @@ one_next m (Expire n) (Expire k) so x y =
 -- no step comes next where none is enabled
 pub idle_ends : (m : Machine) (s : Step) → IsIdle m → ¬ (IsNext m s)
 idle_ends m (Start n call) idle x = x
+idle_ends m (Cancel n cause) idle x = x
 idle_ends m (Transfer a b) idle x = idle.no_transfer a b x.first_sender
 idle_ends m (Expire n) idle x = idle.no_expiry n x.1.can_expire
 
