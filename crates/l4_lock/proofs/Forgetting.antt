@@ -7,7 +7,7 @@ use Rattle.std.proofs.lemmas.List.{drop_at, drop-drop}
 use Rattle.std.proofs.lemmas.List.Elements.{All-weaker, All-map}
 use Rattle.l4_ipc.specs.Machine.{Machine}
 use Rattle.l4_ipc.specs.declared.steps.Step.{Step}
-use Rattle.l4_ipc.specs.declared.steps.Step.TheVariants.{Start, Transfer, Expire}
+use Rattle.l4_ipc.specs.declared.steps.Step.TheVariants.{Start, Transfer, Expire, Cancel}
 use Rattle.l4_record.specs.declared.entries.Entry.{Entry}
 use Rattle.l4_record.specs.declared.segments.Segment.{Segment}
 use Rattle.l4_record.specs.Recording.{Recording, IsKept as IsRecorded, HandsOut as Handed}
@@ -31,6 +31,7 @@ one_at_most : (n : ℕ) (step : Step) → one_if n step ≤ 1
 one_at_most n (Start k call) = elim (nat_eq k n) as (λ b. (if b then 1 else 0) ≤ 1) [ true ↦ omega arith | false ↦ omega arith ]
 one_at_most n (Transfer s r) = omega arith
 one_at_most n (Expire k) = omega arith
+one_at_most n (Cancel k cause) = omega arith
 
 few_starts : (n : ℕ) (es : List Entry) → starts_of n es ≤ length es
 few_starts n [] = omega arith

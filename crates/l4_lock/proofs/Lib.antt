@@ -14,3 +14,4 @@ pub mod Gates
 pub mod HandedOut
 pub mod Forgetting
 pub mod Taken
+pub mod Canceling

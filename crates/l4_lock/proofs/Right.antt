@@ -12,7 +12,7 @@ use Rattle.std.proofs.Common.{eq-eqb}
 use Rattle.std.proofs.lemmas.List.{length-append}
 use Rattle.l4_ipc.specs.declared.calls.Call.{Call}
 use Rattle.l4_ipc.specs.declared.steps.Step.{Step}
-use Rattle.l4_ipc.specs.declared.steps.Step.TheVariants.{Start, Transfer, Expire}
+use Rattle.l4_ipc.specs.declared.steps.Step.TheVariants.{Start, Transfer, Expire, Cancel}
 use Rattle.l4_ipc.specs.Machine.{Machine}
 use Rattle.l4_ipc.specs.Steps.{Steps, IsNext, Waits}
 use Rattle.l4_record.specs.declared.entries.Entry.{Entry}
@@ -103,11 +103,13 @@ pub none_starts : (n : ℕ) (step : Step) → ¬ (StartsCall n step) → one_if 
 none_starts n (Start k call) other = elim (eqb_tells k n) [ inl is ↦ absurd (other is.1) | inr ne ↦ ap (λ b. if b then 1 else 0) ne.0 ]
 none_starts n (Transfer s r) other = refl
 none_starts n (Expire k) other = refl
+none_starts n (Cancel k cause) other = refl
 
 one_starts : (n : ℕ) (step : Step) → StartsCall n step → one_if n step ≡ 1
 one_starts n (Start k call) is = elim (eqb_tells k n) [ inl same ↦ ap (λ b. if b then 1 else 0) same.0 | inr ne ↦ absurd (ne.1 is) ]
 one_starts n (Transfer s r) is = absurd is
 one_starts n (Expire k) is = absurd is
+one_starts n (Cancel k cause) is = absurd is
 
 abbrev pub pend : Call → ℕ → Option Ended → Pending
 pend call start ended = record { call = call; start = start; ended = ended }
@@ -198,6 +200,7 @@ pub none_own : (m : Machine) (n : ℕ) (step : Step) → IsNext m step → ¬ (S
 none_own m n (Start k call) next = absurd next
 none_own m n (Transfer s r) next = λ h. h
 none_own m n (Expire k) next = λ h. h
+none_own m n (Cancel k cause) next = λ h. h
 
 count_noted : (new : Machine) (ended : List ℕ) (place n : ℕ) (p : Option Pending) → pending_count (option_map (noted_call new ended place n) p) ≡ pending_count p
 count_noted new ended place n None = refl

@@ -17,7 +17,7 @@ use Rattle.l4_record.specs.declared.entries.Entry.{Entry}
 use Rattle.l4_lock.specs.declared.entries.Ended.{Ended}
 use Rattle.l4_lock.specs.declared.entries.Pending.{Pending}
 use Rattle.l4_record.specs.History.{Replays, IsLegal}
-use Rattle.l4_lock.specs.Receipts.{Proves}
+use Rattle.l4_lock.specs.Receipts.{Proves, StartsCall}
 use Rattle.l4_lock.specs.Books.{Book, book, book_at, reply_waits, has_ended, numbers, IsOnce, is_among, unended, plain, pending_count, receipt_of, one_if, starts_of, HasNotEnded, IsPending, IsRight, AreRight}
 use Rattle.l4_lock.specs.Inside.Noting.{noted}
 use Rattle.l4_record.specs.Following.{start_entry}
@@ -104,19 +104,24 @@ started_books frames es m new books place b call answer r replayed at none step 
           starts_append n es e ∙ omega (arith, old, none');
     }
 
-pub next_books : (frames : ℕ) (es : List Entry) (m : Machine) (e : Entry) (new : Machine) (books : List Book) → AreBooks frames es m books → Replays frames (es ++ e ∷ []) new → IsNext m e.step → Steps m e.step (Ok e.answer) new
+-- a step that starts no call
+pub quiet_books : (frames : ℕ) (es : List Entry) (m : Machine) (e : Entry) (new : Machine) (books : List Book) → AreBooks frames es m books → Replays frames (es ++ e ∷ []) new → ((n : ℕ) → ¬ (StartsCall n e.step)) → Steps m e.step (Ok e.answer) new
     → AreBooks frames (es ++ e ∷ []) new (map (noted new e.answer.ended.items (length es)) books)
-next_books frames es m e new books r replays next step =
+quiet_books frames es m e new books r replays quiet step =
     let same = numbers_noted new e.answer.ended.items (length es) books in
     record {
       each = All-map (IsRight frames (es ++ e ∷ []) new) (noted new e.answer.ended.items (length es)) books
-          (All-weaker (IsRight frames es m) (λ b. IsRight frames (es ++ e ∷ []) new (noted new e.answer.ended.items (length es) b)) (λ b h. right_next frames es m e new b h step (none_own m b.number e.step next) replays) books r.each);
+          (All-weaker (IsRight frames es m) (λ b. IsRight frames (es ++ e ∷ []) new (noted new e.answer.ended.items (length es) b)) (λ b h. right_next frames es m e new b h step (quiet b.number) replays) books r.each);
       apart = subst IsOnce (sym same) r.apart;
       others = λ n other.
           let old : starts_of n es ≡ 0 = r.others n (ap (is_among n) (sym same) ∙ other) in
-          let none : one_if n e.step ≡ 0 = none_starts n e.step (none_own m n e.step next) in
+          let none : one_if n e.step ≡ 0 = none_starts n e.step (quiet n) in
           starts_append n es e ∙ omega (arith, old, none);
     }
+
+pub next_books : (frames : ℕ) (es : List Entry) (m : Machine) (e : Entry) (new : Machine) (books : List Book) → AreBooks frames es m books → Replays frames (es ++ e ∷ []) new → IsNext m e.step → Steps m e.step (Ok e.answer) new
+    → AreBooks frames (es ++ e ∷ []) new (map (noted new e.answer.ended.items (length es)) books)
+next_books frames es m e new books r replays next step = quiet_books frames es m e new books r replays (λ n. none_own m n e.step next) step
 
 -- A REPLY IS TAKEN
 

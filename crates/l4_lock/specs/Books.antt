@@ -5,7 +5,7 @@ use Rattle.std.specs.List.{All, AllPairs, list_any}
 use Rattle.l4_threads.specs.declared.Reply.{Reply}
 use Rattle.l4_ipc.specs.declared.calls.Call.{Call}
 use Rattle.l4_ipc.specs.declared.steps.Step.{Step}
-use Rattle.l4_ipc.specs.declared.steps.Step.TheVariants.{Start, Transfer, Expire}
+use Rattle.l4_ipc.specs.declared.steps.Step.TheVariants.{Start, Transfer, Expire, Cancel}
 use Rattle.l4_ipc.specs.Machine.{Machine}
 use Rattle.l4_ipc.specs.Steps.{Waits}
 use Rattle.l4_record.specs.declared.entries.Entry.{Entry}
@@ -81,6 +81,7 @@ abbrev pub one_if : ℕ → Step → ℕ
 one_if n (Start k call) = if nat_eq k n then 1 else 0
 one_if n (Transfer s r) = 0
 one_if n (Expire k) = 0
+one_if n (Cancel k cause) = 0
 
 abbrev pub starts_of : ℕ → List Entry → ℕ
 starts_of n [] = 0

@@ -9,7 +9,7 @@ use Rattle.l4_threads.specs.declared.Thread.{Thread}
 use Rattle.l4_ipc.specs.declared.calls.Call.{Call}
 use Rattle.l4_ipc.specs.declared.steps.Refused.TheVariants.{UnknownThread, BadFrames, Lower}
 use Rattle.l4_ipc.specs.declared.steps.Lower.TheVariants.{NoMemory as LowerNoMemory}
-use Rattle.l4_ipc.specs.declared.steps.Step.TheVariants.{Start}
+use Rattle.l4_ipc.specs.declared.steps.Step.TheVariants.{Start, Cancel}
 use Rattle.l4_ipc.specs.Machine.{Machine, machine_code}
 use Rattle.l4_ipc.specs.Steps.{Steps, IsIdle}
 use Rattle.l4_record.specs.declared.entries.Entry.{Entry}
@@ -24,9 +24,10 @@ use Rattle.l4_record.specs.declared.refusals.RecordRefusal.TheVariants.{HistoryF
 use Rattle.l4_record.specs.declared.segments.Segment.{Segment}
 use Rattle.l4_record.specs.Sizes.{max_entries, last_start, max_handed_out}
 use Rattle.l4_record.specs.Segments.{kept, kept_count, HasBase}
-use Rattle.l4_record.specs.Recording.{Recording, recording, Enters as Recorded}
+use Rattle.l4_record.specs.Recording.{Recording, recording, Enters as Recorded, Cancels as RecordedCancel}
 use Rattle.l4_lock.specs.Receipts.{Proves}
 use Rattle.l4_lock.specs.Books.{SeatState, Book, book, receipt_of, plain, book_at, receipts_at, kept_from_at, pending_at, forgotten_book, reply_waits, Settles, AreRight}
+use Rattle.l4_ipc.specs.declared.steps.CancelCause.{CancelCause}
 
 -- What a contract sees of the locked kernel. The history is the list of all entries since boot. Those with lower numbers than `kept_from`
 -- were handed out.
@@ -74,6 +75,11 @@ pub record Enters (old new : Lock) (n : ℕ) (call : Call) : Type 0 where
   pub others : (m : ℕ) → m ≢ n → option_map plain (book_at new.books m) ≡ option_map plain (book_at old.books m)
   pub kept_from : kept_from_at new.books n ≡ kept_from_at old.books n
 
+-- The wait of the thread was canceled, as the recorder cancels it. The books are unchanged, except that the call of the thread has ended.
+pub record Cancels (old new : Lock) (n : ℕ) (cause : CancelCause) : Type 0 where
+  pub recorded : RecordedCancel (recording_of old) (recording_of new) n cause
+  pub books : (m : ℕ) → option_map plain (book_at new.books m) ≡ option_map plain (book_at old.books m)
+
 -- the seat gained this receipt, which is right about the history
 pub record Gains (l : Lock) (before after : SeatState) (receipt : Receipt) : Type 0 where
   pub number : after.number ≡ before.number
@@ -119,6 +125,14 @@ Refuses l n call SeatTaken = ⊥
 Refuses l n call (ByKernel e) =
     ¬ (IsTrue (reply_waits l.books n)) × (kept_count l.kept_from l.history ≤ last_start)
     × (((book_at l.books n ≡ None) × (e ≡ UnknownThread)) ⊎ ((book_at l.books n ≢ None) × Steps l.kernel (Start n call) (Err e) l.kernel))
+
+-- the reason why a wait is not canceled: the first of these that applies
+abbrev pub RefusesCancel : Lock → ℕ → CancelCause → LockRefusal → Type 0
+RefusesCancel l n cause HistoryFull = last_start < kept_count l.kept_from l.history
+RefusesCancel l n cause NoMemory = kept_count l.kept_from l.history ≤ last_start
+RefusesCancel l n cause ReplyWaiting = ⊥
+RefusesCancel l n cause SeatTaken = ⊥
+RefusesCancel l n cause (ByKernel e) = (kept_count l.kept_from l.history ≤ last_start) × Steps l.kernel (Cancel n cause) (Err e) l.kernel
 
 -- The number is given no seat: it has an account already, or it has none and an allocation failed.
 abbrev pub RefusesSeat : Lock → ℕ → LockRefusal → Type 0

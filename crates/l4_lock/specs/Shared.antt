@@ -8,9 +8,10 @@ use Rattle.l4_lock.specs.declared.entries.Receipt.{Receipt}
 use Rattle.l4_pager.specs.declared.serving.GateFault.{GateFault}
 use Rattle.l4_lock.specs.Books.{SeatState}
 use Rattle.l4_lock.specs.Receipts.{Proves}
-use Rattle.l4_lock.specs.Locked.{Lock, IsKept, Enters, Refuses, RefusesSeat, HandsOut}
+use Rattle.l4_lock.specs.Locked.{Lock, IsKept, Enters, Cancels, Refuses, RefusesCancel, RefusesSeat, HandsOut}
 use Rattle.l4_lock.specs.declared.refusals.LockRefusal.{LockRefusal}
 use Rattle.l4_lock.specs.declared.refusals.LockRefusal.TheVariants.{HistoryFull, NoMemory, ReplyWaiting, SeatTaken, Kernel as ByKernel}
+use Rattle.l4_ipc.specs.declared.steps.CancelCause.{CancelCause}
 
 -- The thread's call was entered into some locked kernel that keeps the invariant of its type, as the recorder enters it.
 pub record IsEntered (n : ℕ) (call : Call) : Type 0 where
@@ -18,6 +19,14 @@ pub record IsEntered (n : ℕ) (call : Call) : Type 0 where
   pub new : Lock
   pub kept : IsKept old
   pub enters : Enters old new n call
+
+-- The wait of the thread was canceled in the locked kernel that was under the lock at that time, as the recorder cancels it. Every invariant
+-- of its type held.
+pub record IsCanceled (n : ℕ) (cause : CancelCause) : Type 0 where
+  pub old : Lock
+  pub new : Lock
+  pub kept : IsKept old
+  pub cancels : Cancels old new n cause
 
 -- The call was entered, and has ended with this reply: the seat gained one receipt, with the call that it entered and the reply that it got.
 -- The receipt is of this call, and of none before it: it starts at the place of the next entry when the call was entered. It is right about
@@ -56,6 +65,10 @@ pub record IsTaken (before after : SeatState) (reply : Reply) : Type 0 where
 -- The reason why a call is not entered through the shared lock: some locked kernel that keeps the invariant of its type refuses it.
 abbrev pub Declines : ℕ → Call → LockRefusal → Type 0
 Declines n call e = (l : Lock) × IsKept l × Refuses l n call e
+
+-- the reason why a wait is not canceled through the shared lock, likewise
+abbrev pub DeclinesCancel : ℕ → CancelCause → LockRefusal → Type 0
+DeclinesCancel n cause e = (l : Lock) × IsKept l × RefusesCancel l n cause e
 
 -- The number is given no seat through the shared lock, for a reason that holds for some locked kernel that keeps the invariant of its type.
 abbrev pub DeclinesSeat : ℕ → LockRefusal → Type 0

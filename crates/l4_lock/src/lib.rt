@@ -3,7 +3,6 @@
 
 mod accounts;
 mod closing;
-mod copies;
 mod entries;
 mod locked;
 mod past;
@@ -13,7 +12,6 @@ mod seats;
 mod shared;
 mod steps;
 mod timed;
-mod words;
 
 pub use closing::{Mismatch, Unclosed};
 pub use entries::Receipt;

@@ -18,8 +18,8 @@ use crate::closing::{Unclosed, first_mismatch};
 use crate::entries::Awaited;
 use crate::refusals::{Entered, LockRefusal, refusal_of};
 use crate::seats::Seat;
-use crate::steps::begin;
-use l4_ipc::{Call, Kernel, PageSize, Refused, Reply};
+use crate::steps::{begin, cancel};
+use l4_ipc::{Call, CancelCause, Kernel, PageSize, Refused, Reply};
 use l4_record::{Appended, Board, History, Recorder, Segment, Watch};
 use std::alloc::Global;
 use std::marker::Model;
@@ -232,6 +232,20 @@ impl Locked {
             return Err(refusal);
         }
         Ok(at)
+    }
+
+    /// Cancels the wait of a thread. Appends this step to the history, with seat 0. The seat of the thread takes the reply as after any
+    /// other end of its call.
+    ///
+    /// Returns these refusals, tested in this order: `HistoryFull` (L1), `NoMemory` (L2), and `Kernel(NotEnabled)` (L5 with K1) if no
+    /// thread with this number waits. After a refusal, nothing has changed.
+    pub fn cancel(&mut self, number: u32, cause: CancelCause) -> Result<(), LockRefusal>
+        ensures ok { IfOk result (λ _. Cancels self.old self.new number cause) }
+        ensures err { IfErr result
+            (λ e. RefusesCancel self.old number cause e × (self.new ≡ self.old)) }
+    {
+        cancel(&mut self.recorder, &mut self.accounts, number, cause)?;
+        Ok(())
     }
 
     /// Takes the reply of a call that was left waiting and has since ended. Returns None if there is no such reply.

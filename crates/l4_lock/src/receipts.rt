@@ -5,9 +5,8 @@ ghost use Rattle.l4_lock.specs.Books.{receipt};
 ghost use Rattle.l4_lock.specs.Closing.{AreSameFrom};
 ghost use Rattle.l4_lock.specs.Lists.{ReceiptList, receipt_list, kept_receipt, kept_receipts, kept_receipt_count};
 
-use crate::entries::{Ended, Receipt};
+use crate::entries::{Ended, Receipt, write_receipt};
 use crate::past::Past;
-use crate::words::write_receipt;
 use l4_ipc::{Call, Reply};
 use l4_journal::{ItemsFrom, Journal, Record};
 use std::alloc::{AllocError, Global};

@@ -6,8 +6,7 @@ ghost use Rattle.l4_lock.specs.Books.{SeatState, seat_state, forgotten_seat, sta
 ghost use Rattle.l4_lock.specs.Inside.Accounts.{has_reply, Awaits};
 ghost use Rattle.l4_lock.specs.Inside.Noting.{started_by, noted, noted_call, reply_in};
 
-use crate::copies::{copy_call, copy_reply};
-use crate::entries::{Awaited, Ended, Pending};
+use crate::entries::{Awaited, Ended, Pending, copy_call, copy_reply};
 use crate::receipts::{Receipts, same_call};
 use l4_ipc::{Call, Kernel, Reply};
 use l4_record::MAX_HANDED_OUT;

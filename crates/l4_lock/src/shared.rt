@@ -6,15 +6,14 @@ ghost use Rattle.l4_board.specs.Board.{IsNewWatch};
 ghost use Rattle.l4_lock.specs.Books.{seat_state};
 ghost use Rattle.l4_lock.specs.Locked.{IsKept, RefusesBoot};
 ghost use Rattle.l4_lock.specs.Inside.Sharing.{EndsOrWaits, TakesOwn};
-ghost use Rattle.l4_lock.specs.Shared.{IsAnswered, Declines, DeclinesSeat, IsHandedOut, EndsSegments, gate_state, pairs_of};
+ghost use Rattle.l4_lock.specs.Shared.{IsAnswered, IsCanceled, Declines, DeclinesCancel, DeclinesSeat, IsHandedOut, EndsSegments, gate_state, pairs_of};
 
-use crate::copies::copy_call;
-use crate::entries::Awaited;
+use crate::entries::{Awaited, copy_call};
 use crate::locked::Locked;
 use crate::refusals::{Entered, LockRefusal};
 use crate::seats::Seat;
 use l4_board::{Board, Watch};
-use l4_ipc::{Call, PageSize, Reply};
+use l4_ipc::{Call, CancelCause, PageSize, Reply};
 use l4_pager::{Gate, GateFault};
 use l4_record::Segment;
 use std::alloc::Global;
@@ -164,6 +163,25 @@ impl KernelLock {
             guard = self.ended.wait(rt, guard);
         }
         unreachable!()
+    }
+
+    /// Cancels the wait of a thread, and wakes the callers that wait: the caller of the call that ended returns its reply.
+    ///
+    /// Returns the refusals of `Locked::cancel`, in the same order, for the state under the lock at that time.
+    pub fn cancel<R: Wait>(
+        &self,
+        rt: &R,
+        number: u32,
+        cause: CancelCause,
+    ) -> Result<(), LockRefusal>
+        ensures ok { IfOk result (λ _. IsCanceled number cause) }
+        ensures refuses { IfErr result (λ e. DeclinesCancel number cause e) }
+    {
+        let mut guard = self.locked.lock(rt);
+        guard.law_kept();
+        guard.cancel(number, cause)?;
+        self.ended.notify_all();
+        Ok(())
     }
 
     /// Hands out the entries that are kept under the lock, as a segment. From then on, the entries of later calls are kept only. Their

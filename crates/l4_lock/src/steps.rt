@@ -8,13 +8,13 @@ ghost use Rattle.l4_ipc.specs.declared.steps.Step.TheVariants.{Start};
 ghost use Rattle.l4_record.specs.Segments.{kept_count};
 ghost use Rattle.l4_record.specs.Sizes.{max_entries, max_handed_out, max_steps, last_start};
 ghost use Rattle.l4_lock.specs.Books.{numbers, IsOnce};
-ghost use Rattle.l4_lock.specs.Inside.Entering.{Begins, IsReady};
+ghost use Rattle.l4_lock.specs.Inside.Entering.{Begins, CancelsNoted, IsReady, IsRefusalOf};
 ghost use Rattle.l4_lock.specs.Inside.Noting.{noted, noted_steps};
 ghost use Rattle.l4_lock.specs.declared.refusals.LockRefusal.TheVariants.{NoMemory, Kernel as ByKernel};
 
 use crate::accounts::Accounts;
 use crate::refusals::{LockRefusal, refusal_of};
-use l4_ipc::{Call, Kernel, NextStep, Refused};
+use l4_ipc::{Call, CancelCause, Kernel, NextStep, Refused};
 use l4_record::{Appended, Recorder};
 
 /// Records in the account of this number that its call ended in the entry at this place.
@@ -109,4 +109,28 @@ pub fn begin(
             Err(refusal_of(refusal))
         }
     }
+}
+
+/// Cancels the wait of a thread, and records that its call ended. After a refusal, nothing has changed.
+pub fn cancel(
+    recorder: &mut Recorder,
+    accounts: &mut Accounts,
+    number: u32,
+    cause: CancelCause,
+) -> Result<(), LockRefusal>
+    requires { IsOnce (numbers accounts.old.items) }
+    ensures ok { IfOk result
+        (λ _. CancelsNoted number cause recorder.old recorder.new accounts.old.items
+        accounts.new.items) }
+    ensures same { OnErr result
+        ((recorder.new ≡ recorder.old) × (accounts.new.items ≡ accounts.old.items)) }
+    ensures err { IfErr result (IsRefusalOf recorder.old number cause) }
+{
+    let place = recorder.count();
+    if let Err(refusal) = recorder.cancel(number, cause) {
+        return Err(refusal_of(refusal));
+    }
+    recorder.law_kept();
+    note_one(accounts, recorder.kernel(), number, place);
+    Ok(())
 }

@@ -13,15 +13,8 @@ use std::time::{Clock, Duration, Instant};
 
 /// Returns how much longer a wait may last that began at this time. Returns `None` if the time is up, or the clock cannot be read.
 fn time_left<C: Clock>(clock: &C, begin: Option<Instant>, limit: Duration) -> Option<Duration> {
-    let Some(begin) = begin else {
-        return None;
-    };
-    let Ok(passed) = begin.elapsed(clock) else {
-        return None;
-    };
-    let Some(left) = limit.checked_sub(passed) else {
-        return None;
-    };
+    let passed = begin?.elapsed(clock).ok()?;
+    let left = limit.checked_sub(passed)?;
     if left.is_zero() { None } else { Some(left) }
 }
 

@@ -1,13 +1,17 @@
 -- A call as it is entered (this profile's own).
-use Rattle.std.specs.Prelude.{◌≡◌, ℕ, ◌+◌, List, Some, None, length, map, slice_get, slice_set}
+use Rattle.std.specs.Prelude.{◌≡◌, ℕ, ◌+◌, List, [], ◌∷◌, Some, None, length, map, slice_get, slice_set}
 use Rattle.l4_ipc.specs.declared.calls.Call.{Call}
+use Rattle.l4_ipc.specs.declared.steps.CancelCause.{CancelCause}
 use Rattle.l4_ipc.specs.Machine.{Machine}
 use Rattle.l4_record.specs.declared.appended.Appended.{Appended}
 use Rattle.l4_record.specs.declared.entries.Entry.{Entry}
-use Rattle.l4_record.specs.Recording.{Recording, IsKept as IsRecorded, Enters as Recorded}
+use Rattle.l4_record.specs.declared.refusals.RecordRefusal.{RecordRefusal}
+use Rattle.l4_record.specs.Recording.{Recording, IsKept as IsRecorded, Enters as Recorded, Cancels as RecordedCancel, RefusesCancel as RecordRefuses}
 use Rattle.l4_lock.specs.declared.entries.Pending.{Pending}
 use Rattle.l4_lock.specs.Books.{SeatState, Book, plain, numbers, IsOnce, HasNotEnded, AreRight}
-use Rattle.l4_lock.specs.Locked.{Lock, recording_of}
+use Rattle.l4_lock.specs.Locked.{Lock, recording_of, refusal_of}
+use Rattle.l4_lock.specs.Inside.Noting.{noted}
+use Rattle.l4_lock.specs.declared.refusals.LockRefusal.{LockRefusal}
 
 -- the book at this place has this number, and its pending call, if there is one, has not ended
 abbrev pub IsReady : List Book → ℕ → ℕ → List Entry → Machine → Type 0
@@ -42,3 +46,14 @@ pub record IsAdmitted (old new : Lock) (n : ℕ) (call : Call) (place : ℕ) : T
 -- one more call of the seat is left waiting
 abbrev pub WaitsMore : SeatState → SeatState → Type 0
 WaitsMore before after = after ≡ record before { waiting = before.waiting + 1 }
+
+-- A wait was canceled, and the call that ended is recorded in its book.
+pub record CancelsNoted (n : ℕ) (cause : CancelCause) (old new : Recording) (books later : List Book) : Type 0 where
+  pub recorded : RecordedCancel old new n cause
+  pub right : AreRight old.frames old.history old.kernel books → AreRight new.frames new.history new.kernel later
+  pub kept : IsRecorded new
+  pub later_is : later ≡ map (noted new.kernel (n ∷ []) (length old.history)) books
+
+-- the lock's refusal of a Cancel, for which the recorder refused it
+abbrev pub IsRefusalOf : Recording → ℕ → CancelCause → LockRefusal → Type 0
+IsRefusalOf old n cause e = (r : RecordRefusal) × (e ≡ refusal_of r) × RecordRefuses old n cause r

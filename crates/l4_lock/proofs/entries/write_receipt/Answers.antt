@@ -2,7 +2,7 @@ use Rattle.std.proofs.Common.{◌≡◌, ap, ◌∙◌, append_assoc, rules}
 use Rattle.l4_lock.specs.declared.entries.Receipt.{Receipt}
 use Rattle.l4_lock.specs.Inside.Words.{receipt_code, receipt_at}
 use Rattle.l4_lock.proofs.RoundTrip.{receipt_again}
-use Rattle.l4_lock.proofs.words.write_receipt.Goals as goal
+use Rattle.l4_lock.proofs.entries.write_receipt.Goals as goal
 
 pub returns : goal.returns
 returns c =
