@@ -6,17 +6,20 @@ use Rattle.l4_ipc.specs.declared.calls.Call.TheVariants.{Ipc, Fault, Unmap, Cont
 use Rattle.l4_ipc.specs.declared.calls.Control.TheVariants.{Create, SetPager, Delete}
 use Rattle.l4_ipc.specs.declared.steps.Answer.{Answer}
 use Rattle.l4_ipc.specs.declared.steps.Step.{Step}
-use Rattle.l4_ipc.specs.declared.steps.Step.TheVariants.{Start, Transfer, Expire}
+use Rattle.l4_ipc.specs.declared.steps.Step.TheVariants.{Start, Transfer, Expire, Cancel}
 use Rattle.l4_journal.specs.Codes.{call_fields, answer_code, AnswerFits, CallFits}
 use Rattle.l4_journal.proofs.RoundTrip.{call_again, answer_again}
 use Rattle.l4_record.specs.declared.entries.Entry.{Entry}
 use Rattle.l4_segments.specs.Entries.{entry_code, step_code, entry_at, step_of, EntryFits, StepFits}
+use Rattle.l4_ipc.specs.declared.steps.CancelCause.TheVariants.{Timeout, Canceled}
 
 entry_of : (seat : ℕ) (answer : Answer) (step : Step) → AnswerFits answer → StepFits step → entry_at (entry_code (record { seat = seat; step = step; answer = answer })) ≡ Some (record { seat = seat; step = step; answer = answer })
 unfolding entry_at step_of
 entry_of seat answer (Start n call) few fits = rw (answer_again answer (step_code (Start n call)) few, call_again call fits) refl
 entry_of seat answer (Transfer s r) few fits = rw (answer_again answer (step_code (Transfer s r)) few) refl
 entry_of seat answer (Expire n) few fits = rw (answer_again answer (step_code (Expire n)) few) refl
+entry_of seat answer (Cancel n Timeout) few fits = rw (answer_again answer (step_code (Cancel n Timeout)) few) refl
+entry_of seat answer (Cancel n Canceled) few fits = rw (answer_again answer (step_code (Cancel n Canceled)) few) refl
 
 pub entry_again : (entry : Entry) → EntryFits entry → entry_at (entry_code entry) ≡ Some entry
 entry_again entry fits = entry_of entry.seat entry.answer entry.step fits.0 fits.1
@@ -35,6 +38,7 @@ few_steps : (step : Step) → StepFits step → length (step_code step) ≤ 71
 few_steps (Start n call) fits = let few = few_fields call fits in omega (arith, few)
 few_steps (Transfer s r) fits = omega arith
 few_steps (Expire n) fits = omega arith
+few_steps (Cancel n cause) fits = omega arith
 
 pub few_words : (entry : Entry) → EntryFits entry → length (entry_code entry) ≤ 144
 few_words entry fits =

@@ -2,17 +2,25 @@
 use Rattle.std.specs.Prelude.{ℕ, zero, suc, ◌<◌, ◌^◌, ⊤, List, [], ◌∷◌, ◌++◌, Option, Some, None}
 use Rattle.std.specs.List.{All}
 use Rattle.l4_ipc.specs.declared.steps.Step.{Step}
-use Rattle.l4_ipc.specs.declared.steps.Step.TheVariants.{Start, Transfer, Expire}
+use Rattle.l4_ipc.specs.declared.steps.Step.TheVariants.{Start, Transfer, Expire, Cancel}
 use Rattle.l4_journal.specs.Words.{◌>>=◌, word_at}
 use Rattle.l4_journal.specs.Codes.{call_tag, call_fields, answer_code, CallFits, AnswerFits}
 use Rattle.l4_journal.specs.Reading.{call_of, answer_at}
 use Rattle.l4_record.specs.declared.entries.Entry.{Entry}
+use Rattle.l4_ipc.specs.declared.steps.CancelCause.{CancelCause}
+use Rattle.l4_ipc.specs.declared.steps.CancelCause.TheVariants.{Timeout, Canceled}
+
+-- the kind of a Cancel with this cause
+abbrev pub cause_kind : CancelCause → ℕ
+cause_kind Timeout = 3
+cause_kind Canceled = 4
 
 -- a step: its kind, and its fields
 abbrev pub step_code : Step → List ℕ
 step_code (Start n call) = 0 ∷ n ∷ call_tag call ∷ call_fields call
 step_code (Transfer s r) = 1 ∷ s ∷ r ∷ []
 step_code (Expire n) = 2 ∷ n ∷ []
+step_code (Cancel n cause) = cause_kind cause ∷ n ∷ []
 
 abbrev pub entry_code : Entry → List ℕ
 entry_code entry = entry.seat ∷ (answer_code entry.answer ++ step_code entry.step)
@@ -22,6 +30,7 @@ abbrev pub StepFits : Step → Type 0
 StepFits (Start n call) = CallFits call
 StepFits (Transfer s r) = ⊤
 StepFits (Expire n) = ⊤
+StepFits (Cancel n cause) = ⊤
 
 abbrev pub EntryFits : Entry → Type 0
 EntryFits entry = AnswerFits entry.answer × StepFits entry.step
@@ -55,12 +64,19 @@ expired_at words = do
   number ← word_at words
   Some (Expire number.0)
 
+abbrev pub canceled_at : CancelCause → List ℕ → Option Step
+canceled_at cause words = do
+  number ← word_at words
+  Some (Cancel number.0 cause)
+
 -- the step of this kind
 unfoldable pub step_of : ℕ → List ℕ → Option Step
 step_of zero words = started_at words
 step_of (suc zero) words = moved_at words
 step_of (suc (suc zero)) words = expired_at words
-step_of (suc (suc (suc kind))) words = None
+step_of (suc (suc (suc zero))) words = canceled_at Timeout words
+step_of (suc (suc (suc (suc zero)))) words = canceled_at Canceled words
+step_of (suc (suc (suc (suc (suc kind))))) words = None
 
 -- the entry that these words are, or None
 unfoldable pub entry_at : List ℕ → Option Entry

@@ -1,8 +1,8 @@
 //! Entries of any kind as words.
 ghost use Rattle.std.specs.Prelude.{◌≡◌, ◌++◌};
-ghost use Rattle.l4_segments.specs.Entries.{entry_code, step_code, entry_at, step_of, started_at, moved_at, expired_at, EntryFits, StepFits};
+ghost use Rattle.l4_segments.specs.Entries.{entry_code, step_code, entry_at, step_of, started_at, moved_at, expired_at, cause_kind, canceled_at, EntryFits, StepFits};
 
-use l4_ipc::Step;
+use l4_ipc::{CancelCause, Step};
 use l4_journal::{
     Record, Words, call_tag, put_answer, put_fields, read_answer, read_call, read_word,
 };
@@ -16,6 +16,22 @@ const TRANSFER: u32 = 1;
 
 /// The kind of an expiry.
 const EXPIRE: u32 = 2;
+
+/// The kind of a wait whose timeout passed by a clock outside the kernel.
+const TIMEOUT: u32 = 3;
+
+/// The kind of a wait that was canceled.
+const CANCEL: u32 = 4;
+
+/// Returns the kind of a Cancel with this cause.
+fn cause_kind(cause: CancelCause) -> u32
+    ensures { result ≡ cause_kind cause }
+{
+    match cause {
+        CancelCause::Timeout => TIMEOUT,
+        CancelCause::Canceled => CANCEL,
+    }
+}
 
 /// Overwrites the record with the words of an entry.
 pub fn put_entry(out: &mut Record, entry: &Entry)
@@ -39,6 +55,10 @@ pub fn put_entry(out: &mut Record, entry: &Entry)
         }
         Step::Expire(number) => {
             out.push(EXPIRE);
+            out.push(*number);
+        }
+        Step::Cancel(number, cause) => {
+            out.push(cause_kind(*cause));
             out.push(*number);
         }
     }
@@ -71,6 +91,14 @@ fn read_expire(words: Words<'_>) -> Option<Step>
     Some(Step::Expire(number))
 }
 
+/// Reads a Cancel with this cause after its kind.
+fn read_cancel(cause: CancelCause, words: Words<'_>) -> Option<Step>
+    ensures { result ≡ canceled_at cause words.entry }
+{
+    let (number, _) = read_word(words)?;
+    Some(Step::Cancel(number, cause))
+}
+
 /// Reads a step of this kind.
 #[tactic(auto, unfolding(crate::specs::Entries::step_of))]
 fn read_step(kind: u32, words: Words<'_>) -> Option<Step>
@@ -80,6 +108,8 @@ fn read_step(kind: u32, words: Words<'_>) -> Option<Step>
         START => read_start(words),
         TRANSFER => read_transfer(words),
         EXPIRE => read_expire(words),
+        TIMEOUT => read_cancel(CancelCause::Timeout, words),
+        CANCEL => read_cancel(CancelCause::Canceled, words),
         _ => None,
     }
 }
