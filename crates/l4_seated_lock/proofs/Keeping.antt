@@ -42,7 +42,7 @@ plain_seat : (o : Option Book) → option_map seat_of (option_map plain o) ≡ o
 plain_seat None = refl
 plain_seat (Some b) = ap (λ (k : ℕ). Some (record (seat_state b.number k b.receipts) { kept_from = b.kept_from })) (plain_count b.pending)
 
-same_plain : (o r : Option Book) → option_map plain o ≡ option_map plain r → option_map seat_of o ≡ option_map seat_of r
+pub same_plain : (o r : Option Book) → option_map plain o ≡ option_map plain r → option_map seat_of o ≡ option_map seat_of r
 same_plain o r is = sym (plain_seat o) ∙ ap (option_map seat_of) is ∙ plain_seat r
 
 -- as many starts as the history has

@@ -8,7 +8,7 @@ ghost use Rattle.l4_record.specs.Segments.{kept};
 ghost use Rattle.l4_record.specs.Sizes.{max_handed_out};
 ghost use Rattle.l4_lock.specs.Books.{book, book_at, reply_waits, forgotten_seat};
 ghost use Rattle.l4_lock.specs.Closing.{IsShown, Closes, Mismatches, by_history};
-ghost use Rattle.l4_lock.specs.Locked.{IsKept, RefusesBoot, Refuses, HandsOut};
+ghost use Rattle.l4_lock.specs.Locked.{IsKept, RefusesBoot, Refuses, Cancels, RefusesCancel, HandsOut};
 ghost use Rattle.l4_lock.specs.declared.refusals.LockRefusal.TheVariants.{SeatTaken, NoMemory as WantOfMemory};
 ghost use Rattle.l4_seated_lock.specs.Seated.{seat_at, seats_back, EntersBySeat, TakesBySeat, IsNotTraced};
 ghost use Rattle.l4_seated_lock.specs.Inside.Places.{RefusesUnseated};
@@ -16,7 +16,7 @@ ghost use Rattle.l4_seated_lock.specs.Inside.Places.{RefusesUnseated};
 use crate::closing::mismatch;
 use crate::faults::TraceFault;
 use crate::places::position;
-use l4_ipc::{Call, Kernel, PageSize, Place, Refused, Reply};
+use l4_ipc::{Call, CancelCause, Kernel, PageSize, Place, Refused, Reply};
 use l4_lock::{Entered, History, LockRefusal, Locked, Mismatch, Seat, Segment};
 use l4_provenance::provenance;
 use l4_provenance_check::check_provenance;
@@ -206,6 +206,21 @@ impl SeatedLock {
         let entered = self.locked.enter(&mut self.seats[at], call);
         self.locked.law_kept();
         entered
+    }
+
+    /// Cancels the wait of a thread. Its seat takes the reply as after any other end of its call.
+    ///
+    /// Returns the refusals of `Locked::cancel`, in the same order. After a refusal, nothing has changed.
+    pub fn cancel(&mut self, number: u32, cause: CancelCause) -> Result<(), LockRefusal>
+        ensures ok { IfOk result (λ _. Cancels self.old self.new number cause) }
+        ensures err { IfErr result
+            (λ e. RefusesCancel self.old number cause e × (self.new ≡ self.old)) }
+    {
+        let canceled = self.locked.cancel(number, cause);
+        if let Err(refusal) = canceled {
+            return Err(refusal);
+        }
+        Ok(())
     }
 
     /// Takes the reply of a call of the number's thread that was left waiting and has ended since. Each reply is returned once. Returns
