@@ -1,7 +1,9 @@
 -- The texts of steps, and of how calls ended (this profile's own).
 use Rattle.std.specs.Prelude.{ℕ, ◌==◌, List, [], ◌∷◌, ◌++◌, Option, Some, None, if◌then◌else◌, codes, decimal}
+use Rattle.l4_ipc.specs.declared.steps.CancelCause.{CancelCause}
+use Rattle.l4_ipc.specs.declared.steps.CancelCause.TheVariants.{Timeout, Canceled as ByRequest}
 use Rattle.l4_ipc.specs.declared.steps.Outcome.{Outcome}
-use Rattle.l4_ipc.specs.declared.steps.Outcome.TheVariants.{Started, Done, NoWindow, Entangled, NoMemory, Expired}
+use Rattle.l4_ipc.specs.declared.steps.Outcome.TheVariants.{Started, Done, NoWindow, Entangled, NoMemory, Expired, Canceled}
 use Rattle.l4_threads.specs.declared.ThreadId.{ThreadId}
 use Rattle.l4_threads.specs.declared.IpcReply.{IpcReply}
 use Rattle.l4_threads.specs.declared.Reply.{Reply}
@@ -23,6 +25,7 @@ outcome_word NoWindow = codes "no-window"
 outcome_word Entangled = codes "entangled"
 outcome_word NoMemory = codes "no-memory"
 outcome_word Expired = []
+outcome_word Canceled = []
 
 abbrev pub transfer_text : ℕ → ℕ → Outcome → List ℕ
 transfer_text sender receiver outcome =
@@ -30,6 +33,14 @@ transfer_text sender receiver outcome =
 
 abbrev pub expire_text : ℕ → List ℕ
 expire_text number = codes "expire " ++ decimal number ++ newline
+
+-- the name of the step that cancels a wait for this cause
+abbrev pub cause_name : CancelCause → List ℕ
+cause_name Timeout = codes "timeout"
+cause_name ByRequest = codes "cancel"
+
+abbrev pub cancel_text : ℕ → CancelCause → List ℕ
+cancel_text number cause = cause_name cause ++ space ++ decimal number ++ newline
 
 -- a thread's number, and a text after it
 abbrev pub numbered_text : ℕ → List ℕ → List ℕ

@@ -2,13 +2,14 @@
 use Rattle.std.specs.Prelude.{ℕ, Bool, List, [], ◌∷◌, ◌++◌, Option, Some, None, is_some, codes, decimal}
 use Rattle.std.specs.List.{list_any}
 use Rattle.l4_fpage.specs.declared.sizes.PageSize.{PageSize}
+use Rattle.l4_ipc.specs.declared.steps.CancelCause.{CancelCause}
 use Rattle.l4_ipc.specs.declared.steps.Outcome.{Outcome}
 use Rattle.l4_mapdb.specs.declared.Mapping.{Mapping}
 use Rattle.l4_names.specs.Names.{Names}
 use Rattle.l4_threads.specs.declared.Reply.{Reply}
 use Rattle.l4_answers.specs.Pages.{page_text, shown_text, parent_text}
 use Rattle.l4_answers.specs.Refusals.{Refusal, number_text, refused_text}
-use Rattle.l4_answers.specs.Replies.{newline, numbered_text, transfer_text, expire_text, waits_text, none_text, reply_text}
+use Rattle.l4_answers.specs.Replies.{newline, numbered_text, transfer_text, expire_text, cancel_text, waits_text, none_text, reply_text}
 
 -- an answer
 pub data Report : Type 0 where
@@ -22,6 +23,8 @@ pub data Report : Type 0 where
   Transferred : ℕ → ℕ → Outcome → Report
   -- a thread's zero timeout expired
   TimedOut : ℕ → Report
+  -- a thread's wait was canceled, for this cause
+  Canceled : ℕ → CancelCause → Report
   -- a thread's call blocks
   Waits : ℕ → Report
   -- a thread's call ended; a deleted thread has no reply
@@ -60,6 +63,7 @@ report_text (UnreadLine size names line refusal bytes) = refused_text line refus
 report_text (RefusedAct thread refusal) = refused_act_text thread refusal
 report_text (Transferred sender receiver outcome) = transfer_text sender receiver outcome
 report_text (TimedOut n) = expire_text n
+report_text (Canceled n cause) = cancel_text n cause
 report_text (Waits n) = waits_text n
 report_text (Ended n reply) = reply_text n reply
 report_text (NoneEnded n) = none_text n

@@ -13,5 +13,7 @@ pub use refusals::{
     Code, add_code, put_named, put_refused_act, put_refused_line, put_region, put_steps,
     refused_code,
 };
-pub use replies::{put_expire, put_none, put_reply, put_transfer, put_waits, reply_words};
+pub use replies::{
+    put_cancel, put_expire, put_none, put_reply, put_transfer, put_waits, reply_words,
+};
 pub use sink::Sink;

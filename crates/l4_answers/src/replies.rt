@@ -3,12 +3,12 @@ ghost use Rattle.std.specs.Prelude.{◌≡◌, ◌<◌, ◌≤◌, ◌+◌, ◌+
 ghost use Rattle.l4_ipc.specs.declared.steps.Outcome.TheVariants.{Done};
 ghost use Rattle.l4_threads.specs.declared.Reply.TheVariants.{Ipc, Answered};
 ghost use Rattle.std.specs.Option.{option_copied};
-ghost use Rattle.l4_answers.specs.Replies.{outcome_word, transfer_text, expire_text, waits_text, none_text, from_text, space, ipc_head, reply_head, reply_words, reply_text, newline};
+ghost use Rattle.l4_answers.specs.Replies.{outcome_word, transfer_text, expire_text, cause_name, cancel_text, waits_text, none_text, from_text, space, ipc_head, reply_head, reply_words, reply_text, newline};
 ghost use Rattle.l4_text.specs.Texts.{words_text};
 ghost use Rattle.l4_text.specs.Streams.{Tells};
 ghost use Rattle.l4_text.specs.Sizes.{answer_bytes, held_bytes};
 
-use l4_ipc::Outcome;
+use l4_ipc::{CancelCause, Outcome};
 use l4_text::Output;
 use l4_threads::{IpcReply, Reply, ThreadId};
 use std::io::Write;
@@ -24,7 +24,7 @@ fn add_outcome(out: &mut Output, outcome: Outcome)
         Outcome::NoWindow => out.add_array(*b" no-window\n"),
         Outcome::Entangled => out.add_array(*b" entangled\n"),
         Outcome::NoMemory => out.add_array(*b" no-memory\n"),
-        Outcome::Started | Outcome::Expired => out.add_array(*b" \n"),
+        Outcome::Started | Outcome::Expired | Outcome::Canceled => out.add_array(*b" \n"),
     }
 }
 
@@ -73,6 +73,38 @@ pub fn put_expire<W: Write>(number: u32, out: &mut Output, writer: &mut W)
 {
     out.make_room(writer);
     add_expire(out, number);
+}
+
+/// Returns the name of the step that cancels a wait for this cause.
+fn cause_name(cause: CancelCause) -> &'static [u8]
+    ensures value { result.now ≡ cause_name cause }
+    ensures short { length result.now ≤ 7 }
+{
+    match cause {
+        CancelCause::Timeout => b"timeout",
+        CancelCause::Canceled => b"cancel",
+    }
+}
+
+/// Adds `timeout N` or `cancel N`, and ends the line.
+fn add_cancel(out: &mut Output, number: u32, cause: CancelCause)
+    requires { length out.old.0 + 40 ≤ held_bytes }
+    ensures { out.new ≡ (out.old.0 ++ cancel_text number cause, out.old.1) }
+{
+    out.add(cause_name(cause));
+    out.push(b' ');
+    out.add_number(u64::from(number));
+    out.push(b'\n');
+}
+
+/// Writes `timeout N` or `cancel N`.
+#[inline(never)]
+pub fn put_cancel<W: Write>(number: u32, cause: CancelCause, out: &mut Output, writer: &mut W)
+    ensures { Tells (W.contents writer.old) (W.contents writer.new) out.old out.new
+        (cancel_text number cause) }
+{
+    out.make_room(writer);
+    add_cancel(out, number, cause);
 }
 
 /// Adds a thread's number, and these bytes.

@@ -3,11 +3,11 @@ ghost use Rattle.std.specs.Prelude.{◌≡◌, List, Bool, OnOk, IfErr};
 ghost use Rattle.std.specs.Option.{option_copied};
 ghost use Rattle.l4_ipc.specs.declared.steps.Refused.TheVariants.{UnknownThread};
 ghost use Rattle.l4_answers.specs.Refusals.{kernel_refusal};
-ghost use Rattle.l4_answers.specs.Reports.{Report, RefusedLine, UnreadLine, RefusedAct, Transferred, TimedOut, Waits, Ended, NoneEnded, Page, Shown, Parent, AddedRegion, Named, StepCount, Adds, Keeps, AllOut};
+ghost use Rattle.l4_answers.specs.Reports.{Report, RefusedLine, UnreadLine, RefusedAct, Transferred, TimedOut, Canceled, Waits, Ended, NoneEnded, Page, Shown, Parent, AddedRegion, Named, StepCount, Adds, Keeps, AllOut};
 
 use crate::refusals::{Code, refused_code};
 use l4_fpage::PageSize;
-use l4_ipc::{Outcome, Refused};
+use l4_ipc::{CancelCause, Outcome, Refused};
 use l4_mapdb::Mapping;
 use l4_names::Names;
 use l4_text::{LineReader, RunFault};
@@ -58,6 +58,9 @@ pub trait Sink {
     /// Reports that a zero timeout expired.
     fn expire(&mut self, number: u32)
         ensures { Adds has_told self.old self.new (TimedOut number) };
+    /// Reports that a wait was canceled.
+    fn cancel(&mut self, number: u32, cause: CancelCause)
+        ensures { Adds has_told self.old self.new (Canceled number cause) };
     /// Reports that a thread's call has not ended.
     fn waits(&mut self, number: u32)
         ensures { Adds has_told self.old self.new (Waits number) };
