@@ -454,8 +454,13 @@ lines, and lines that begin with #, are skipped.
                          A script has at most 64 names
   reply N                prints how the last call of N ended, or that it has not
                          ended
+  timeout N              ends the wait of N, because its timeout has passed by a
+                         clock outside the kernel (ErrorCode 2 or 3). If N does
+                         not wait, the line is refused (K1)
+  cancel N               cancels the wait of N (ErrorCode 6 or 7). If N does not
+                         wait, the line is refused (K1)
   steps                  prints the number of steps so far: calls that started,
-                         transfers and expiries
+                         transfers, expiries and canceled waits
   unordered, finally, never ANSWER, always ANSWER
                          begin parts of a litmus test, and state its rules (see
                          l4 orders --help); they do nothing here
@@ -486,8 +491,10 @@ In answers, TAG and WORD are hexadecimal without the prefix.
   N fault failed CODE              the pager does not exist, is N itself, or was
                                    deleted before it received the fault (4); it
                                    received the fault, but was deleted before it
-                                   answered (5); the pages in its answer could
-                                   not be delivered (9)
+                                   answered (5); a timeout (2, 3) or a cancel (6,
+                                   7) ended the wait until the pager received it,
+                                   or answered; the pages in its answer could not
+                                   be delivered (9)
   N unmap ok                       an unmap of N ended
   N control ok                     root's call ended (N is 2)
   N gone                           N was deleted before its call ended
@@ -499,6 +506,7 @@ In answers, TAG and WORD are hexadecimal without the prefix.
                                    a page that they move or an ancestor of it)
                                    or no-memory
   expire N                         a zero timeout of N expired
+  timeout N, cancel N              the line with these tokens ended the wait of N
   N waits                          the call blocks until a later line ends it
   N none                           no call of N has ended yet, and none waits (for
                                    reply N; l4_steps also prints none if it waits)
@@ -556,7 +564,8 @@ l4 plan, l4 check, l4 decode and l4_steps print these codes too:
   U2         Unmap got fewer words than its control word requires
   L1         the history is full: no call can start once it has more than 999,871
              steps
-  K1         the step is not enabled: this transfer or expiry cannot happen now
+  K1         the step is not enabled: this transfer or expiry cannot happen now, or
+             the thread does not wait
   K2         there is no thread with this number
   K3         the thread's previous call has not ended yet (root's, for thread,
              setpager and delete)

@@ -18,6 +18,9 @@ that begin with #, are skipped.
   start N delete ID
   transfer S R       delivers the message of thread S to thread R
   expire N           expires the timeout of thread N
+  timeout N          ends the wait of thread N, as a clock outside the kernel may
+                     at any time (ErrorCode 2 or 3)
+  cancel N           cancels the wait of thread N (ErrorCode 6 or 7)
   enabled            prints which step comes next
   reply N            prints how the last call of thread N ended, or none if it has
                      not ended yet, or if N has made no call
@@ -30,7 +33,7 @@ ACCESS is the sum of r (4), w (2) and x (1).
 
   started                    the step was executed; a line for each call that
                              ended follows. Other outcomes: done, no-window,
-                             entangled, no-memory and expired
+                             entangled, no-memory, expired and canceled
   N REPLY                    how the call of thread N ended: N ipc TAG ERROR FROM
                              WORD.., N hit, N answered, N failed CODE,
                              N unmapped, N controlled or N gone
