@@ -18,7 +18,7 @@ use Rattle.l4_commands.specs.declared.partners.NewSpace.{NewSpace}
 use Rattle.l4_commands.specs.declared.partners.NewSpace.TheVariants.{New, Of}
 use Rattle.l4_commands.specs.declared.requests.Which.TheVariants.{Only, Message}
 use Rattle.l4_commands.specs.declared.requests.Request.{Request}
-use Rattle.l4_commands.specs.declared.requests.Request.TheVariants.{Enter, CreateThread, EndThread, SendPlan, ListPages, TellParent, AddRegion, ServeThread, GiveName, TellReply, TellSteps, BeginUnordered, BeginFinally, StateRule}
+use Rattle.l4_commands.specs.declared.requests.Request.TheVariants.{Enter, CreateThread, EndThread, SendPlan, ListPages, TellParent, AddRegion, ServeThread, GiveName, TellReply, TellSteps, BeginUnordered, BeginFinally, StateRule, CancelWait}
 use Rattle.l4_commands.specs.Calls.{create_call, set_pager_call, receive_call, send_call, ipc_call, unmap_call, fault_call, root}
 use Rattle.l4_commands.specs.declared.commands.ScriptFault.{ScriptFault}
 use Rattle.l4_commands.specs.declared.commands.ScriptFault.TheVariants.{UnknownCommand, BadTokens}
@@ -29,6 +29,7 @@ use Rattle.l4_symbols.specs.declared.words.WordKind.TheVariants.{Fpage, Window, 
 use Rattle.l4_text.specs.Grammar.{◌>>=◌}
 use Rattle.l4_text.specs.Numbers.{below, number_of}
 use Rattle.l4_unmap.specs.Unmap.{fpage_count}
+use Rattle.l4_ipc.specs.declared.steps.CancelCause.TheVariants.{Timeout, Canceled}
 
 -- whether a token is this word
 abbrev pub is_word : List ℕ → List ℕ → Bool
@@ -174,6 +175,10 @@ commands_by new_name size names =
     ∷ (codes "name", (new_name ▹ thread_of names ▹ no_more) GiveName)
     -- reply N: how the last call of a thread ended, or that it has not ended
     ∷ (codes "reply", (thread_of names ▹ no_more) TellReply)
+    -- timeout N: the wait of a thread ends, as its timeout has passed by a clock outside the kernel
+    ∷ (codes "timeout", (thread_of names ▹ no_more) (λ n. CancelWait n Timeout))
+    -- cancel N: the wait of a thread is canceled
+    ∷ (codes "cancel", (thread_of names ▹ no_more) (λ n. CancelWait n Canceled))
     -- how many entries the history has
     ∷ (codes "steps", no_more TellSteps)
     -- the lines from here on have no order, except that the lines of each thread keep theirs; a run executes them as they are written

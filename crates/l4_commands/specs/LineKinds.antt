@@ -4,9 +4,9 @@ use Rattle.l4_names.specs.Names.{Names}
 use Rattle.l4_commands.specs.Calls.{root}
 use Rattle.l4_commands.specs.Requests.{Unread, names_after}
 use Rattle.l4_commands.specs.declared.requests.Request.{Request}
-use Rattle.l4_commands.specs.declared.requests.Request.TheVariants.{Enter, CreateThread, EndThread, SendPlan, ListPages, TellParent, AddRegion, ServeThread, GiveName, TellReply, TellSteps, BeginUnordered, BeginFinally, StateRule}
+use Rattle.l4_commands.specs.declared.requests.Request.TheVariants.{Enter, CreateThread, EndThread, SendPlan, ListPages, TellParent, AddRegion, ServeThread, GiveName, TellReply, CancelWait, TellSteps, BeginUnordered, BeginFinally, StateRule}
 use Rattle.l4_commands.specs.declared.line_kinds.LineKind.{LineKind}
-use Rattle.l4_commands.specs.declared.line_kinds.LineKind.TheVariants.{Silent, Unread as CannotRead, OfThread, Creates, Names as GivesName, Query, Steps, Unordered, Finally}
+use Rattle.l4_commands.specs.declared.line_kinds.LineKind.TheVariants.{Silent, Unread as CannotRead, OfThread, Cancels, Creates, Names as GivesName, Query, Steps, Unordered, Finally}
 
 -- the thread that enters the call of a line, or whose table or service the line concerns; no thread executes a query
 abbrev pub kind_of_request : Request → LineKind
@@ -20,6 +20,7 @@ kind_of_request (AddRegion thread entry) = OfThread thread
 kind_of_request (ServeThread thread) = OfThread thread
 kind_of_request (GiveName name number) = GivesName
 kind_of_request (TellReply thread) = Query
+kind_of_request (CancelWait thread cause) = Cancels thread
 kind_of_request TellSteps = Steps
 kind_of_request BeginUnordered = Unordered
 kind_of_request BeginFinally = Finally

@@ -14,7 +14,7 @@ use crate::requests::{LentCall, ROOT, Request, Which, put_create, put_pager, put
 use crate::symbols::read_unmap;
 use arrayvec::ArrayVec;
 use l4_fpage::PageSize;
-use l4_ipc::Call;
+use l4_ipc::{Call, CancelCause};
 use l4_names::Names;
 use l4_pager::Entry;
 use l4_text::{after_name, next_token};
@@ -64,6 +64,10 @@ const NAME: &[u8] = b"name";
 
 const REPLY: &[u8] = b"reply";
 
+const TIMEOUT: &[u8] = b"timeout";
+
+const CANCEL: &[u8] = b"cancel";
+
 const STEPS: &[u8] = b"steps";
 
 const UNORDERED: &[u8] = b"unordered";
@@ -77,7 +81,7 @@ const ALWAYS: &[u8] = b"always";
 /// The names of all commands.
 pub(crate) const COMMAND_NAMES: &[&[u8]] = &[
     THREAD, SETPAGER, DELETE, RECV, SEND, IPC, DELEGATE, PART, UNMAP, SHOW, PARENT, FAULT, REGION,
-    SERVE, NAME, REPLY, STEPS, UNORDERED, FINALLY, NEVER, ALWAYS,
+    SERVE, NAME, REPLY, TIMEOUT, CANCEL, STEPS, UNORDERED, FINALLY, NEVER, ALWAYS,
 ];
 
 /// `N SPACE PAGER`
@@ -286,6 +290,32 @@ fn reply(line: &[u8], names: &Names) -> Option<Request<'static>>
     }
 }
 
+/// `N`, after `timeout`
+#[inline(never)]
+fn timeout(line: &[u8], names: &Names) -> Option<Request<'static>>
+    ensures { (size : APageSize)
+        → result ≡ asked size names.now (codes "timeout") (tokens_of line.now) }
+{
+    let (number, rest) = next_thread(line, names)?;
+    match next_token(rest) {
+        None => Some(Request::CancelWait(number, CancelCause::Timeout)),
+        Some(_) => None,
+    }
+}
+
+/// `N`, after `cancel`
+#[inline(never)]
+fn cancel(line: &[u8], names: &Names) -> Option<Request<'static>>
+    ensures { (size : APageSize)
+        → result ≡ asked size names.now (codes "cancel") (tokens_of line.now) }
+{
+    let (number, rest) = next_thread(line, names)?;
+    match next_token(rest) {
+        None => Some(Request::CancelWait(number, CancelCause::Canceled)),
+        Some(_) => None,
+    }
+}
+
 /// No tokens.
 #[inline(never)]
 fn steps(line: &[u8]) -> Option<Request<'static>>
@@ -378,6 +408,12 @@ fn pager_command<'a>(
     }
     if name == REPLY {
         return reply(rest, names).ok_or(ScriptFault::BadTokens);
+    }
+    if is_timeout(name) {
+        return timeout(rest, names).ok_or(ScriptFault::BadTokens);
+    }
+    if is_cancel(name) {
+        return cancel(rest, names).ok_or(ScriptFault::BadTokens);
     }
     if name == STEPS {
         return steps(rest).ok_or(ScriptFault::BadTokens);
@@ -505,6 +541,28 @@ fn is_name(name: &[u8]) -> bool
 {
     match name {
         [b'n', b'a', b'm', b'e'] => true,
+        _ => false,
+    }
+}
+
+/// Returns whether the name is `timeout`. Compares its bytes at once.
+#[inline(always)]
+fn is_timeout(name: &[u8]) -> bool
+    ensures { result ≡ bytes_eq name.now (codes "timeout") }
+{
+    match name {
+        [b't', b'i', b'm', b'e', b'o', b'u', b't'] => true,
+        _ => false,
+    }
+}
+
+/// Returns whether the name is `cancel`. Compares its bytes at once.
+#[inline(always)]
+fn is_cancel(name: &[u8]) -> bool
+    ensures { result ≡ bytes_eq name.now (codes "cancel") }
+{
+    match name {
+        [b'c', b'a', b'n', b'c', b'e', b'l'] => true,
         _ => false,
     }
 }

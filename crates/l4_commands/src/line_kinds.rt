@@ -21,6 +21,8 @@ pub enum LineKind {
     Unread,
     /// A line that the thread with this number executes when it runs.
     OfThread(u32),
+    /// A line that cancels the wait of the thread with this number. The environment executes it when the thread waits.
+    Cancels(u32),
     /// A line of root that creates the thread with this number.
     Creates(u32),
     /// A line that gives a name to a thread.
@@ -61,6 +63,7 @@ fn follow(request: Request<'_>, names: &mut Names) -> LineKind
             LineKind::Names
         }
         Request::TellReply(_) => LineKind::Query,
+        Request::CancelWait(thread, _) => LineKind::Cancels(thread),
         Request::TellSteps => LineKind::Steps,
         Request::BeginUnordered => LineKind::Unordered,
         Request::BeginFinally => LineKind::Finally,

@@ -8,7 +8,7 @@ ghost use Rattle.l4_commands.specs.Calls.{script_id, partner_id, space_id, creat
 use crate::partners::{NewSpace, Partner};
 use arrayvec::ArrayVec;
 use l4_fpage::Rights;
-use l4_ipc::{Call, Control, Create, FaultCall, IpcCall, SetPager, UnmapCall};
+use l4_ipc::{Call, CancelCause, Control, Create, FaultCall, IpcCall, SetPager, UnmapCall};
 use l4_msg::{MAX_WORDS, Region};
 use l4_names::Name;
 use l4_pager::{Entry, wait};
@@ -83,6 +83,8 @@ pub enum Request<'a> {
     GiveName(Name, u32),
     /// Prints how the thread's last call ended, or that it has not ended.
     TellReply(u32),
+    /// Cancels the thread's wait, for this cause. No thread makes this call.
+    CancelWait(u32, CancelCause),
     /// Prints the number of entries of the history.
     TellSteps,
     /// Begins the lines without an order. Prints nothing.

@@ -11,4 +11,4 @@ pager_commands size names = drop 11 (commands size names)
 
 -- the rows that begin a part of a plan, or state a rule
 abbrev pub part_commands : PageSize → Names → List (List ℕ × (List (List ℕ) → Option Request))
-part_commands size names = drop 17 (commands size names)
+part_commands size names = drop 19 (commands size names)

@@ -16,6 +16,12 @@ returns-then-is_name c = λ size. let e = c.give_name.ensures size in search rul
 pub returns-then-eq-3 : goal.returns-then-eq-3
 returns-then-eq-3 c = λ size. let e = c.reply.ensures size in search rules
 
+pub returns-then-is_timeout : goal.returns-then-is_timeout
+returns-then-is_timeout c = λ size. let e = c.timeout.ensures size in search rules
+
+pub returns-then-is_cancel : goal.returns-then-is_cancel
+returns-then-is_cancel c = λ size. let e = c.cancel.ensures size in search rules
+
 pub returns-then-eq-4 : goal.returns-then-eq-4
 returns-then-eq-4 c = λ size. let e = c.steps.ensures size c.args.names.now in search rules
 
