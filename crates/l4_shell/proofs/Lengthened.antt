@@ -13,11 +13,12 @@ use Rattle.l4_record.specs.Seated.{with_number}
 use Rattle.l4_answers.specs.Reports.{Report}
 use Rattle.l4_names.specs.Names.{Names}
 use Rattle.l4_commands.specs.declared.requests.Request.{Request}
-use Rattle.l4_commands.specs.declared.requests.Request.TheVariants.{Enter, CreateThread, EndThread, SendPlan, ListPages, TellParent, AddRegion, ServeThread, GiveName, TellReply, TellSteps, BeginUnordered, BeginFinally, StateRule}
+use Rattle.l4_commands.specs.declared.requests.Request.TheVariants.{Enter, CreateThread, EndThread, SendPlan, ListPages, TellParent, AddRegion, ServeThread, GiveName, TellReply, CancelWait, TellSteps, BeginUnordered, BeginFinally, StateRule}
 use Rattle.l4_commands.specs.Requests.{Unread}
 use Rattle.l4_commands.specs.Calls.{root, delete_call}
 use Rattle.l4_shell.specs.Refusals.{region_refusal}
-use Rattle.l4_shell.specs.Sessions.{Session, State, Act, after_act, done_entry, AreActs, StopsActing, Follows, RefusesFor, Enters, RegionAdded, CarriesOut, AnswersLine}
+use Rattle.l4_ipc.specs.declared.steps.CancelCause.{CancelCause}
+use Rattle.l4_shell.specs.Sessions.{Session, State, Act, after_act, done_entry, AreActs, StopsActing, Follows, RefusesFor, Enters, after_cancel, WaitEnds, RegionAdded, CarriesOut, AnswersLine}
 
 -- entries were appended, and none was handed out
 pub record Lengthens (old new : Session) : Type 0 where
@@ -68,6 +69,12 @@ enters_longer old line thread call sv told new e = elim e [
   | inr r ↦ same_history old new r.2.1
 ]
 
+wait_longer : (old : Session) (thread : ℕ) (cause : CancelCause) (told : List Report) (new : Session) → WaitEnds old thread cause told new → Lengthens old new
+wait_longer old thread cause told new w =
+    both old w.between new
+    (both old (after_cancel old w.own) w.between (record { more = done_entry 0 w.own ∷ []; history = refl; kept_from = refl }) (are_acts_longer (after_cancel old w.own) w.acts w.between w.are))
+    (stops_longer w.between (length w.acts) w.last new w.stops)
+
 adds_longer : (old : Session) (line thread : ℕ) (entry : Entry) (space : Option ℕ) (told refused : List Report) (new : Session)
     → MatchOption space ((told ≡ refused) × (new ≡ old)) (λ _. RegionAdded old thread entry told new ⊎ RefusesFor (RegionFails old.servers thread entry) region_refusal old line told new) → Lengthens old new
 adds_longer old line thread entry None told refused new a = same_history old new a.1
@@ -105,6 +112,10 @@ carries_longer names old line (ServeThread thread) told new c = elim c [
 ]
 carries_longer names old line (GiveName name thread) told new c = same_history old new c.1
 carries_longer names old line (TellReply thread) told new c = same_history old new c.1
+carries_longer names old line (CancelWait thread cause) told new c = elim c [
+  | inl w ↦ wait_longer old thread cause told new w
+  | inr r ↦ same_history old new r.2.1
+]
 carries_longer names old line TellSteps told new c = record {
   more = [];
   history = ap (λ (s : Session). s.history) c.4 ∙ sym (append-nil old.history);

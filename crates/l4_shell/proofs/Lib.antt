@@ -1,4 +1,5 @@
 pub mod Going
+pub mod Canceling
 pub mod Listing
 pub mod Scripting
 pub mod Delegating

@@ -10,7 +10,7 @@ use Rattle.l4_threads.specs.declared.Reply.{Reply}
 use Rattle.l4_pager.specs.declared.regions.Entry.{Entry}
 use Rattle.l4_ipc.specs.declared.calls.Call.{Call}
 use Rattle.l4_ipc.specs.declared.steps.Step.{Step}
-use Rattle.l4_ipc.specs.declared.steps.Step.TheVariants.{Start, Transfer, Expire}
+use Rattle.l4_ipc.specs.declared.steps.Step.TheVariants.{Start, Transfer, Expire, Cancel}
 use Rattle.l4_ipc.specs.declared.steps.Outcome.{Outcome}
 use Rattle.l4_ipc.specs.declared.steps.Refused.TheVariants.{UnknownThread}
 use Rattle.l4_ipc.specs.Machine.{Machine}
@@ -22,11 +22,12 @@ use Rattle.l4_names.specs.Names.{Names, given}
 use Rattle.l4_record.specs.Seated.{is_among, with_number}
 use Rattle.l4_servers.specs.Servers.{Servers, RegionFails}
 use Rattle.l4_commands.specs.declared.requests.Request.{Request}
-use Rattle.l4_commands.specs.declared.requests.Request.TheVariants.{Enter, CreateThread, EndThread, SendPlan, ListPages, TellParent, AddRegion, ServeThread, GiveName, TellReply, TellSteps, BeginUnordered, BeginFinally, StateRule}
+use Rattle.l4_commands.specs.declared.requests.Request.TheVariants.{Enter, CreateThread, EndThread, SendPlan, ListPages, TellParent, AddRegion, ServeThread, GiveName, TellReply, CancelWait, TellSteps, BeginUnordered, BeginFinally, StateRule}
 use Rattle.l4_shell.specs.Refusals.{script_refusal, plan_refusal, too_many_names, lacks_memory, call_refusal, region_refusal}
 use Rattle.l4_commands.specs.Requests.{Unread}
 use Rattle.l4_shell.specs.Scripts.{IsOneAnswer}
-use Rattle.l4_shell.specs.Sessions.{Session, State, own_report, ended_reports, done_reports, ended_in, waiting_reports, steps_in, StopsActing, Follows, RefusesLine, RefusesFor, Enters, RegionAdded, place_in, place_reports, ListsPages, ended_answer, CarriesOut, AnswersLine}
+use Rattle.l4_ipc.specs.declared.steps.CancelCause.{CancelCause}
+use Rattle.l4_shell.specs.Sessions.{Session, State, own_report, ended_reports, done_reports, ended_in, waiting_reports, steps_in, StopsActing, Follows, RefusesLine, RefusesFor, Enters, WaitEnds, RegionAdded, place_in, place_reports, ListsPages, ended_answer, CarriesOut, AnswersLine}
 
 or_none : (a b c : Bool) → (a || b) ≡ false → (b ≡ false → c ≡ false) → (a || c) ≡ false
 or_none true b c h f = h
@@ -46,6 +47,7 @@ own_none : (step : Step) (outcome : Outcome) → has_refusal (own_report step ou
 own_none (Start n call) outcome = refl
 own_none (Transfer sender receiver) outcome = refl
 own_none (Expire n) outcome = refl
+own_none (Cancel n cause) outcome = refl
 
 done_none : (done : Done) → has_refusal (done_reports done) ≡ false
 done_none done =
@@ -83,6 +85,11 @@ enters_one old line thread call sv told new e = elim e [
   | inl f ↦ follows_one old line thread call sv told new f
   | inr r ↦ for_one _ call_refusal old line told new r
 ]
+
+wait_one : (old : Session) (line thread : ℕ) (cause : CancelCause) (told : List Report) (new : Session) → WaitEnds old thread cause told new → IsOneAnswer line told
+wait_one old line thread cause told new w =
+    inl (ap has_refusal w.told_is
+    ∙ none_more (flat_map done_reports (w.own ∷ steps_in w.acts)) w.last (none_in done_reports (w.own ∷ steps_in w.acts) done_none) (stops_none w.between (length w.acts) w.last new w.stops))
 
 -- PAGES
 
@@ -149,6 +156,10 @@ carries_one names old line (ServeThread thread) told new c = elim c [
 ]
 carries_one names old line (GiveName name thread) told new c = naming_one (is_some (given names name thread)) line thread told c.0
 carries_one names old line (TellReply thread) told new c = reply_one (space_of old.machine.threads thread) old.machine line thread told c.0
+carries_one names old line (CancelWait thread cause) told new c = elim c [
+  | inl w ↦ wait_one old line thread cause told new w
+  | inr r ↦ for_one _ call_refusal old line told new r
+]
 carries_one names old line TellSteps told new c = inl (ap has_refusal c.3)
 carries_one names old line BeginUnordered told new c = inl (ap has_refusal c.0)
 carries_one names old line BeginFinally told new c = inl (ap has_refusal c.0)

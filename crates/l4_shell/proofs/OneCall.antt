@@ -4,20 +4,21 @@ use Rattle.l4_ipc.specs.declared.calls.Call.{Call}
 use Rattle.l4_ipc.specs.declared.steps.Answer.{Answer}
 use Rattle.l4_ipc.specs.declared.steps.Refused.{Refused}
 use Rattle.l4_ipc.specs.declared.steps.Step.{Step}
-use Rattle.l4_ipc.specs.declared.steps.Step.TheVariants.{Start}
+use Rattle.l4_ipc.specs.declared.steps.CancelCause.{CancelCause}
+use Rattle.l4_ipc.specs.declared.steps.Step.TheVariants.{Start, Cancel}
 use Rattle.l4_ipc.specs.Following.{Done, AreNext}
 use Rattle.l4_ipc.specs.Machine.{Machine}
 use Rattle.l4_ipc.specs.Steps.{Steps}
 use Rattle.l4_ipc.proofs.OneState.{one_step}
 use Rattle.l4_answers.specs.Reports.{Report}
 use Rattle.l4_record.specs.Replays.{RanOut}
-use Rattle.l4_record.specs.Seated.{is_among, Refuses as RefusesCall}
+use Rattle.l4_record.specs.Seated.{is_among, Refuses as RefusesCall, RefusesCancel}
 use Rattle.l4_record.specs.declared.refusals.RecordRefusal.{RecordRefusal}
 use Rattle.l4_record.proofs.OneAnswer.{one_answer}
 use Rattle.l4_servers.specs.Servers.{Servers}
 use Rattle.l4_servers.specs.Acting.{NoneReady, ActsNext}
 use Rattle.l4_shell.specs.Refusals.{call_refusal}
-use Rattle.l4_shell.specs.Sessions.{Session, kept_in, done_reports, steps_in, Act, IsEntered, after_act, AreActs, most_acts, StopsActing, Follows}
+use Rattle.l4_shell.specs.Sessions.{Session, kept_in, done_reports, steps_in, Act, IsEntered, after_act, AreActs, most_acts, StopsActing, Follows, after_cancel, WaitEnds}
 use Rattle.l4_determined.specs.Inside.InOrder.{IsInOrder}
 use Rattle.l4_determined.proofs.InOrder.{step_in_order}
 use Rattle.l4_determined.proofs.OneNext.{one_end, next_in_order}
@@ -25,7 +26,7 @@ use Rattle.l4_determined.specs.Memory.{NoneRanOut}
 use Rattle.l4_determined.proofs.OneAct.{one_act}
 use Rattle.l4_shell.specs.Lacking.{lacks_by_code, LacksNothing}
 use Rattle.l4_shell.specs.Alike.{AreAlike}
-use Rattle.l4_shell.proofs.Quiet.{nothing_parts, nothing_both, quiet_step, quiet_steps, not_entered}
+use Rattle.l4_shell.proofs.Quiet.{nothing_parts, nothing_both, quiet_step, quiet_steps, not_entered, not_canceled}
 
 -- ONE CALL
 
@@ -168,3 +169,39 @@ pub follow_or_refuse : (s t : Session) (thread : ℕ) (call : Call) (u : Servers
 follow_or_refuse s t thread call u told new refusal alike f h refused lacks =
     entered_or_refused s t f.own thread call refusal alike f.entered
     (steps_apart f.own f.acts f.last (nothing_parts (flat_map done_reports (steps_in (f.own ∷ f.acts)) ++ f.last) _ (subst LacksNothing f.told_is h)).0).0 f.own_is.0 f.own_is.1 refused lacks
+
+-- A CANCELED WAIT
+
+wait_apart : (old : Session) (thread : ℕ) (cause : CancelCause) (told : List Report) (new : Session) → (w : WaitEnds old thread cause told new) → LacksNothing told
+    → LacksNothing (done_reports w.own) × LacksNothing (flat_map done_reports (steps_in w.acts) ++ w.last)
+wait_apart old thread cause told new w h =
+    let acts : List Report = flat_map done_reports (steps_in w.acts) in
+    let all = nothing_parts (done_reports w.own ++ acts) w.last (subst LacksNothing w.told_is h) in
+    let split = nothing_parts (done_reports w.own) acts all.0 in
+    (split.0, nothing_both acts w.last split.1 all.1)
+
+canceled_by : (s : Session) (thread : ℕ) (cause : CancelCause) (told : List Report) (new : Session) → (w : WaitEnds s thread cause told new) → Steps s.machine (Cancel thread cause) (Ok w.own.answer) w.own.after
+canceled_by s thread cause told new w = subst (λ (step : Step). Steps s.machine step (Ok w.own.answer) w.own.after) w.own_is w.steps
+
+-- a wait that is canceled, and the acts that follow, lead to one state
+pub one_wait : (s t : Session) (thread : ℕ) (cause : CancelCause) (told other : List Report) (new also : Session) → AreAlike s t → IsInOrder s.machine.threads
+    → WaitEnds s thread cause told new → WaitEnds t thread cause other also → LacksNothing told → LacksNothing other → AreAlike new also
+one_wait s t thread cause told other new also alike so x y p q =
+    let a = wait_apart s thread cause told new x p in
+    let b = wait_apart t thread cause other also y q in
+    let mine = canceled_by s thread cause told new x in
+    let theirs = subst (λ (m : Machine). Steps m (Cancel thread cause) (Ok y.own.answer) y.own.after) (sym alike.machine) (canceled_by t thread cause other also y) in
+    let given : ◌≡◌ {A = Result Answer Refused} (Ok y.own.answer) (Ok x.own.answer) = one_answer s.machine (Cancel thread cause) x.own.answer (Ok y.own.answer) x.own.after y.own.after mine theirs (quiet_step s.machine x.own x.steps a.0) (quiet_step t.machine y.own y.steps b.0) in
+    let answer : y.own.answer ≡ x.own.answer = cc in
+    let after : y.own.after ≡ x.own.after = one_step s.machine (Cancel thread cause) (Ok x.own.answer) y.own.after x.own.after
+    (subst (λ (r : Answer). Steps s.machine (Cancel thread cause) (Ok r) y.own.after) answer theirs) mine in
+    one_acting (after_cancel s x.own) (after_cancel t y.own) x.between y.between new also x.acts y.acts 0 x.last y.last
+    (record { machine = sym after; servers = alike.servers; numbers = alike.numbers }) (step_in_order s.machine (Cancel thread cause) (Ok x.own.answer) x.own.after mine so) x.are y.are
+    (subst (λ (n : ℕ). StopsActing x.between n x.last new) (omega arith) x.stops) (subst (λ (n : ℕ). StopsActing y.between n y.last also) (omega arith) y.stops) (omega (arith, x.few)) (omega (arith, y.few)) a.1 b.1
+
+-- where a wait is canceled, that is not refused
+pub wait_or_refuse : (s t : Session) (thread : ℕ) (cause : CancelCause) (told : List Report) (new : Session) (refusal : RecordRefusal) → AreAlike s t → WaitEnds s thread cause told new
+    → RefusesCancel t.machine (kept_in t) thread cause refusal → lacks_by_code (call_refusal refusal).name ≡ false → ⊥
+wait_or_refuse s t thread cause told new refusal alike w refused lacks =
+    not_canceled t.machine w.own.after (kept_in t) thread cause refusal w.own.answer refused lacks
+    (subst (λ (m : Machine). Steps m (Cancel thread cause) (Ok w.own.answer) w.own.after) alike.machine (canceled_by s thread cause told new w))

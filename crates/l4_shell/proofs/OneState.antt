@@ -30,9 +30,9 @@ use Rattle.l4_commands.specs.Calls.{root, send_call, delete_call}
 use Rattle.l4_shell.specs.Delegations.{ArePlanWords, HasNoPlan}
 use Rattle.l4_shell.specs.Refusals.{lacks_memory, call_refusal, region_refusal}
 use Rattle.l4_commands.specs.Requests.{Unread, names_after}
-use Rattle.l4_shell.specs.Sessions.{Session, State, Act, AreActs, after_act, StopsActing, Follows, RefusesLine, RefusesFor, Enters, Creates, ServesThread, RegionAdded, AddsRegion, Delegates, CarriesOut, AnswersLine}
+use Rattle.l4_shell.specs.Sessions.{Session, State, Act, AreActs, after_act, StopsActing, Follows, RefusesLine, RefusesFor, Enters, after_cancel, WaitEnds, CancelsWait, Creates, ServesThread, RegionAdded, AddsRegion, Delegates, CarriesOut, AnswersLine}
 use Rattle.l4_commands.specs.declared.requests.Request.{Request}
-use Rattle.l4_commands.specs.declared.requests.Request.TheVariants.{Enter, CreateThread, EndThread, SendPlan, ListPages, TellParent, AddRegion, ServeThread, GiveName, TellReply, TellSteps, BeginUnordered, BeginFinally, StateRule}
+use Rattle.l4_commands.specs.declared.requests.Request.TheVariants.{Enter, CreateThread, EndThread, SendPlan, ListPages, TellParent, AddRegion, ServeThread, GiveName, TellReply, CancelWait, TellSteps, BeginUnordered, BeginFinally, StateRule}
 use Rattle.l4_determined.specs.Inside.InOrder.{IsInOrder}
 use Rattle.l4_shell.specs.Lacking.{lacks_by_code, LacksNothing}
 use Rattle.l4_shell.specs.Alike.{AreAlike}
@@ -40,7 +40,9 @@ use Rattle.l4_commands.specs.declared.requests.Which.{Which}
 use Rattle.l4_commands.specs.declared.requests.Which.TheVariants.{Only, Message}
 use Rattle.l4_commands.specs.declared.partners.Partner.{Partner}
 use Rattle.std.proofs.lemmas.Bool.{false≢true}
-use Rattle.l4_shell.proofs.OneCall.{one_follow, follow_or_refuse, entered_in_order}
+use Rattle.l4_ipc.specs.declared.steps.CancelCause.{CancelCause}
+use Rattle.l4_determined.proofs.InOrder.{step_in_order}
+use Rattle.l4_shell.proofs.OneCall.{one_follow, follow_or_refuse, entered_in_order, one_wait, wait_or_refuse}
 
 -- SESSIONS OF ONE STATE
 
@@ -71,6 +73,15 @@ one_enter s t line thread call u v told other new also alike same so (inl x) (in
 one_enter s t line thread call u v told other new also alike same so (inr x) (inl y) p q =
     absurd (follow_or_refuse t s thread call v other also x.0 (flip s t alike) y q x.1 (quiet_code line (call_refusal x.0) told x.2.0 p))
 one_enter s t line thread call u v told other new also alike same so (inr x) (inr y) p q = kept_alike s t new also alike x.2.1 y.2.1
+
+one_cancel : (s t : Session) (line thread : ℕ) (cause : CancelCause) (told other : List Report) (new also : Session) → AreAlike s t → IsInOrder s.machine.threads
+    → CancelsWait s line thread cause told new → CancelsWait t line thread cause other also → LacksNothing told → LacksNothing other → AreAlike new also
+one_cancel s t line thread cause told other new also alike so (inl x) (inl y) p q = one_wait s t thread cause told other new also alike so x y p q
+one_cancel s t line thread cause told other new also alike so (inl x) (inr y) p q =
+    absurd (wait_or_refuse s t thread cause told new y.0 alike x y.1 (quiet_code line (call_refusal y.0) other y.2.0 q))
+one_cancel s t line thread cause told other new also alike so (inr x) (inl y) p q =
+    absurd (wait_or_refuse t s thread cause other also x.0 (flip s t alike) y x.1 (quiet_code line (call_refusal x.0) told x.2.0 p))
+one_cancel s t line thread cause told other new also alike so (inr x) (inr y) p q = kept_alike s t new also alike x.2.1 y.2.1
 
 one_create : (s t : Session) (line number : ℕ) (call : Call) (told other : List Report) (new also : Session) → AreAlike s t → IsInOrder s.machine.threads
     → Creates s line number call told new → Creates t line number call other also → LacksNothing told → LacksNothing other → AreAlike new also
@@ -197,6 +208,7 @@ one_request s t names others line (AddRegion thread entry) told other new also a
 one_request s t names others line (ServeThread thread) told other new also alike so x y p q = one_serve s t line thread told other new also alike so x y p q
 one_request s t names others line (GiveName name thread) told other new also alike so x y p q = kept_alike s t new also alike x.1 y.1
 one_request s t names others line (TellReply thread) told other new also alike so x y p q = kept_alike s t new also alike x.1 y.1
+one_request s t names others line (CancelWait thread cause) told other new also alike so x y p q = one_cancel s t line thread cause told other new also alike so x y p q
 one_request s t names others line BeginUnordered told other new also alike so x y p q = kept_alike s t new also alike x.1 y.1
 one_request s t names others line BeginFinally told other new also alike so x y p q = kept_alike s t new also alike x.1 y.1
 one_request s t names others line StateRule told other new also alike so x y p q = kept_alike s t new also alike x.1 y.1
@@ -238,6 +250,11 @@ enter_in_order : (old new : Session) (line thread : ℕ) (call : Call) (servers 
 enter_in_order old new line thread call servers told so (inl x) = follow_in_order old new thread call servers told so x
 enter_in_order old new line thread call servers told so (inr x) = subst (λ (v : Session). IsInOrder v.machine.threads) (sym x.2.1) so
 
+wait_in_order : (old new : Session) (thread : ℕ) (cause : CancelCause) (told : List Report) → IsInOrder old.machine.threads → WaitEnds old thread cause told new → IsInOrder new.machine.threads
+wait_in_order old new thread cause told so w =
+    stop_in_order w.between new (length w.acts) w.last
+    (acts_in_order (after_cancel old w.own) w.between w.acts (step_in_order old.machine w.own.step (Ok w.own.answer) w.own.after w.steps so) w.are) w.stops
+
 same_in_order : (old new : Session) → new ≡ old → IsInOrder old.machine.threads → IsInOrder new.machine.threads
 same_in_order old new is so = subst (λ (v : Session). IsInOrder v.machine.threads) (sym is) so
 
@@ -261,6 +278,8 @@ request_in_order old new names line (ServeThread thread) told so (inr (inl x)) =
 request_in_order old new names line (ServeThread thread) told so (inr (inr x)) = same_in_order old new x.lacks.1 so
 request_in_order old new names line (GiveName name thread) told so x = same_in_order old new x.1 so
 request_in_order old new names line (TellReply thread) told so x = same_in_order old new x.1 so
+request_in_order old new names line (CancelWait thread cause) told so (inl x) = wait_in_order old new thread cause told so x
+request_in_order old new names line (CancelWait thread cause) told so (inr x) = same_in_order old new x.2.1 so
 request_in_order old new names line BeginUnordered told so x = same_in_order old new x.1 so
 request_in_order old new names line BeginFinally told so x = same_in_order old new x.1 so
 request_in_order old new names line StateRule told so x = same_in_order old new x.1 so

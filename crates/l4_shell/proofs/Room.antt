@@ -20,7 +20,7 @@ use Rattle.l4_unmap.specs.declared.UnmapFault.{UnmapFault}
 use Rattle.l4_unmap.specs.declared.UnmapFault.TheVariants.{BadFpage, TooFew}
 use Rattle.l4_ipc.specs.declared.calls.Call.{Call}
 use Rattle.l4_ipc.specs.declared.steps.Step.{Step}
-use Rattle.l4_ipc.specs.declared.steps.Step.TheVariants.{Start, Transfer, Expire}
+use Rattle.l4_ipc.specs.declared.steps.Step.TheVariants.{Start, Transfer, Expire, Cancel}
 use Rattle.l4_ipc.specs.declared.steps.Outcome.{Outcome}
 use Rattle.l4_ipc.specs.declared.steps.Refused.{Refused}
 use Rattle.l4_ipc.specs.declared.steps.Refused.TheVariants.{NotEnabled, UnknownThread, Busy, BadTimeout, Lower as Below, BadFrames}
@@ -38,7 +38,7 @@ use Rattle.l4_plan.specs.declared.plans.PlanRefusal.{PlanRefusal}
 use Rattle.l4_plan.specs.declared.plans.PlanRefusal.TheVariants.{Empty, OutOfSpace, NoRights, TooLong, Several, NoPart}
 use Rattle.l4_record.specs.declared.refusals.RecordRefusal.{RecordRefusal}
 use Rattle.l4_record.specs.declared.refusals.RecordRefusal.TheVariants.{HistoryFull, NoMemory, Kernel as ByKernel}
-use Rattle.l4_record.specs.Seated.{is_among, with_number, Refuses as RefusesCall}
+use Rattle.l4_record.specs.Seated.{is_among, with_number, Refuses as RefusesCall, RefusesCancel}
 use Rattle.l4_record.specs.Sizes.{last_start}
 use Rattle.l4_answers.specs.Refusals.{Refusal, message_refusal, thread_refusal, unmap_refusal, kernel_refusal}
 use Rattle.l4_answers.specs.Reports.{Report, RefusedLine, Waits, Named, Ended, Page, Shown, Parent}
@@ -47,12 +47,13 @@ use Rattle.l4_text.specs.Grammar.{TextLine}
 use Rattle.l4_commands.specs.declared.commands.ScriptFault.{ScriptFault}
 use Rattle.l4_commands.specs.declared.commands.ScriptFault.TheVariants.{UnknownCommand, BadTokens, LineTooLong, CutLine}
 use Rattle.l4_commands.specs.declared.requests.Request.{Request}
-use Rattle.l4_commands.specs.declared.requests.Request.TheVariants.{Enter, CreateThread, EndThread, SendPlan, ListPages, TellParent, AddRegion, ServeThread, GiveName, TellReply, TellSteps, BeginUnordered, BeginFinally, StateRule}
+use Rattle.l4_commands.specs.declared.requests.Request.TheVariants.{Enter, CreateThread, EndThread, SendPlan, ListPages, TellParent, AddRegion, ServeThread, GiveName, TellReply, CancelWait, TellSteps, BeginUnordered, BeginFinally, StateRule}
 use Rattle.l4_commands.specs.Requests.{Unread, asked_of}
 use Rattle.l4_commands.specs.Calls.{root, delete_call}
 use Rattle.l4_shell.specs.Refusals.{script_refusal, plan_refusal, too_many_names, lacks_memory, call_refusal, region_refusal}
 use Rattle.l4_shell.specs.Room.{is_full, says_full, any_full}
-use Rattle.l4_shell.specs.Sessions.{Session, State, first_state, kept_in, segment_entries, without_kept, between_lines, own_report, ended_reports, done_reports, done_entry, ended_in, waiting_reports, steps_in, Act, IsEntered, after_act, AreActs, StopsActing, Follows, RefusesLine, RefusesFor, Refuses, Enters, RegionAdded, ended_answer, place_in, place_reports, ListsPages, CarriesOut, AnswersLine, AnswersLines, IsAnswered}
+use Rattle.l4_ipc.specs.declared.steps.CancelCause.{CancelCause}
+use Rattle.l4_shell.specs.Sessions.{Session, State, first_state, kept_in, segment_entries, without_kept, between_lines, own_report, ended_reports, done_reports, done_entry, ended_in, waiting_reports, steps_in, Act, IsEntered, after_act, AreActs, StopsActing, Follows, RefusesLine, RefusesFor, Refuses, Enters, after_cancel, WaitEnds, RegionAdded, ended_answer, place_in, place_reports, ListsPages, CarriesOut, AnswersLine, AnswersLines, IsAnswered}
 use Rattle.l4_shell.proofs.Lengthened.{are_acts_longer, line_longer}
 
 -- CODES
@@ -115,6 +116,11 @@ call_not m entries numbers n call HistoryFull few h = let full = h.1 in absurd (
 call_not m entries numbers n call NoMemory few h = refl
 call_not m entries numbers n call (ByKernel e) few h = kernel_not e
 
+cancel_not : (m : Machine) (entries n : ℕ) (cause : CancelCause) (r : RecordRefusal) → entries ≤ last_start → RefusesCancel m entries n cause r → is_full (call_refusal r) ≡ false
+cancel_not m entries n cause HistoryFull few h = absurd (omega (arith, few, h))
+cancel_not m entries n cause NoMemory few h = refl
+cancel_not m entries n cause (ByKernel e) few h = kernel_not e
+
 -- LISTS OF ANSWERS
 
 or_false : (a b : Bool) → a ≡ false → b ≡ false → (a || b) ≡ false
@@ -149,6 +155,7 @@ own_none : (step : Step) (outcome : Outcome) → any_full (own_report step outco
 own_none (Start n call) outcome = refl
 own_none (Transfer sender receiver) outcome = refl
 own_none (Expire n) outcome = refl
+own_none (Cancel n cause) outcome = refl
 
 done_none : (done : Done) → any_full (done_reports done) ≡ false
 done_none done =
@@ -202,6 +209,15 @@ refuses_none old line thread call told new few r =
 
 enters_none : (old : Session) (line thread : ℕ) (call : Call) (sv : Servers) (told : List Report) (new : Session) → kept_in old < 100000 → Enters old line thread call sv told new → any_full told ≡ false
 enters_none old line thread call sv told new few e = elim e [ inl f ↦ follows_none old thread call sv told new few f | inr r ↦ refuses_none old line thread call told new few r ]
+
+wait_none : (old : Session) (thread : ℕ) (cause : CancelCause) (told : List Report) (new : Session) → kept_in old < 100000 → WaitEnds old thread cause told new → any_full told ≡ false
+wait_none old thread cause told new few w =
+    let between : kept_in w.between ≤ last_start =
+    (let more = acts_few (after_cancel old w.own) w.acts w.between w.are in
+    let acts = w.few in
+    omega (arith, few, more, acts, length-append old.history (done_entry 0 w.own ∷ []))) in
+    ap any_full w.told_is
+    ∙ none_more (flat_map done_reports (w.own ∷ steps_in w.acts)) w.last (none_in done_reports (w.own ∷ steps_in w.acts) done_none) (stops_none w.between (length w.acts) w.last new between w.stops)
 
 place_none : (o : Option Mapping) (page : ℕ) → any_full (option_map_or (λ mapping. Page page mapping ∷ []) o []) ≡ false
 place_none None page = refl
@@ -264,6 +280,10 @@ carries_none names old line (ServeThread thread) told new few c = elim c [
 ]
 carries_none names old line (GiveName name thread) told new few c = naming_none (is_some (given names name thread)) line thread told c.0
 carries_none names old line (TellReply thread) told new few c = reply_none (space_of old.machine.threads thread) old.machine line thread told c.0
+carries_none names old line (CancelWait thread cause) told new few c = elim c [
+  | inl w ↦ wait_none old thread cause told new few w
+  | inr r ↦ line_not old line (call_refusal r.0) told new r.2 (cancel_not old.machine (kept_in old) thread cause r.0 (omega (arith, few)) r.1)
+]
 carries_none names old line TellSteps told new few c = ap any_full c.3
 carries_none names old line BeginUnordered told new few c = ap any_full c.0
 carries_none names old line BeginFinally told new few c = ap any_full c.0
@@ -358,6 +378,30 @@ follows_too k old thread call sv told new le none f =
       told_is = f.told_is;
     }
 
+cancel_refused_too : (m : Machine) (entries fewer n : ℕ) (cause : CancelCause) (r : RecordRefusal) → fewer ≤ entries → is_full (call_refusal r) ≡ false → RefusesCancel m entries n cause r → RefusesCancel m fewer n cause r
+cancel_refused_too m entries fewer n cause HistoryFull le none h = absurd (false≢true (sym none))
+cancel_refused_too m entries fewer n cause NoMemory le none h = omega (arith, le, h)
+cancel_refused_too m entries fewer n cause (ByKernel e) le none h = ((let few = h.0 in omega (arith, le, few)), h.1)
+
+wait_too : (k : ℕ) (old : Session) (thread : ℕ) (cause : CancelCause) (told : List Report) (new : Session) → old.kept_from ≤ k → any_full told ≡ false → WaitEnds old thread cause told new → WaitEnds (moved k old) thread cause told (moved k new)
+wait_too k old thread cause told new le none w =
+    let same = (are_acts_longer (after_cancel old w.own) w.acts w.between w.are).kept_from in
+    let steps : List Report = flat_map done_reports (w.own ∷ steps_in w.acts) in
+    record {
+      room = (let room = w.room in omega (arith, le, room));
+      own = w.own;
+      own_is = w.own_is;
+      steps = w.steps;
+      idle = w.idle;
+      acts = w.acts;
+      between = moved k w.between;
+      are = acts_too k (after_cancel old w.own) w.acts w.between le w.are;
+      few = w.few;
+      last = w.last;
+      stops = stops_too k w.between (length w.acts) w.last new (omega (arith, le, same)) (none_last steps w.last (sym (ap any_full w.told_is) ∙ none)) w.stops;
+      told_is = w.told_is;
+    }
+
 refuses_too : (k : ℕ) (old : Session) (line thread : ℕ) (call : Call) (told : List Report) (new : Session) → old.kept_from ≤ k → any_full told ≡ false → Refuses old line thread call told new → Refuses (moved k old) line thread call told (moved k new)
 refuses_too k old line thread call told new le none r = (
   r.0,
@@ -409,6 +453,14 @@ carries_too k names old line (ServeThread thread) told new le none c = elim c [
 ]
 carries_too k names old line (GiveName name thread) told new le none c = (c.0, still k old new c.1)
 carries_too k names old line (TellReply thread) told new le none c = (c.0, still k old new c.1)
+carries_too k names old line (CancelWait thread cause) told new le none c = elim c [
+  | inl w ↦ inl (wait_too k old thread cause told new le none w)
+  | inr r ↦ inr (
+    r.0,
+    cancel_refused_too old.machine (kept_in old) (kept_in (moved k old)) thread cause r.0 (omega (arith, le)) (or_left (is_full (call_refusal r.0)) false (sym (ap any_full r.2.0) ∙ none)) r.1,
+    line_too k old line (call_refusal r.0) told new r.2,
+  )
+]
 carries_too k names old line TellSteps told new le none c = (c.0, c.1, c.2, c.3, ap (moved k) c.4)
 carries_too k names old line BeginUnordered told new le none c = (c.0, still k old new c.1)
 carries_too k names old line BeginFinally told new le none c = (c.0, still k old new c.1)

@@ -19,7 +19,7 @@ use Rattle.l4_pager.specs.declared.regions.Entry.{Entry}
 use Rattle.l4_servers.specs.Servers.{Servers, servers, regions_of, with_region, with_served, without, RegionFails}
 use Rattle.l4_servers.specs.Acting.{Answers, ActsNext}
 use Rattle.l4_commands.specs.declared.requests.Request.{Request}
-use Rattle.l4_commands.specs.declared.requests.Request.TheVariants.{Enter, CreateThread, EndThread, SendPlan, ListPages, TellParent, AddRegion, ServeThread, GiveName, TellReply, TellSteps, BeginUnordered, BeginFinally, StateRule}
+use Rattle.l4_commands.specs.declared.requests.Request.TheVariants.{Enter, CreateThread, EndThread, SendPlan, ListPages, TellParent, AddRegion, ServeThread, GiveName, TellReply, CancelWait, TellSteps, BeginUnordered, BeginFinally, StateRule}
 use Rattle.l4_answers.specs.Reports.{Report}
 use Rattle.l4_names.specs.Names.{Names}
 use Rattle.l4_text.specs.Grammar.{TextLine}
@@ -27,7 +27,8 @@ use Rattle.l4_commands.specs.Requests.{Unread, asked_of}
 use Rattle.l4_commands.specs.Calls.{root, delete_call}
 use Rattle.l4_record.specs.Seated.{with_number}
 use Rattle.l4_shell.specs.Refusals.{region_refusal}
-use Rattle.l4_shell.specs.Sessions.{Session, State, first_session, Act, IsEntered, after_act, AreActs, StopsActing, Follows, RefusesFor, Enters, RegionAdded, CarriesOut, AnswersLine, kept_in, segment_entries, without_kept, between_lines, AnswersLines}
+use Rattle.l4_ipc.specs.declared.steps.CancelCause.{CancelCause}
+use Rattle.l4_shell.specs.Sessions.{Session, State, first_session, Act, IsEntered, after_act, AreActs, StopsActing, Follows, RefusesFor, Enters, after_cancel, WaitEnds, RegionAdded, CarriesOut, AnswersLine, kept_in, segment_entries, without_kept, between_lines, AnswersLines}
 use Rattle.l4_shell.specs.Sizes.{GoBy, HasSize}
 
 -- STEPS
@@ -124,6 +125,12 @@ enters_size size old line thread call sv told new e h go = elim e [
   | inr r ↦ same_size size old new r.2.1 h
 ]
 
+wait_size : (size : PageSize) (old : Session) (thread : ℕ) (cause : CancelCause) (told : List Report) (new : Session) → WaitEnds old thread cause told new → HasSize size old → HasSize size new
+wait_size size old thread cause told new w h =
+    stops_size size w.between (length w.acts) w.last new w.stops
+    (are_acts_size size (after_cancel old w.own) w.acts w.between w.are
+    (record { machine = size_stays old.machine w.own.step (Ok w.own.answer) w.own.after w.steps ∙ h.machine; servers = h.servers }))
+
 adds_size : (size : PageSize) (old : Session) (line thread : ℕ) (entry : Entry) (space : Option ℕ) (told refused : List Report) (new : Session)
     → MatchOption space ((told ≡ refused) × (new ≡ old)) (λ _. RegionAdded old thread entry told new ⊎ RefusesFor (RegionFails old.servers thread entry) region_refusal old line told new) → HasSize size old → HasSize size new
 adds_size size old line thread entry None told refused new a h = same_size size old new a.1 h
@@ -157,6 +164,10 @@ carries_size size names old line (ServeThread thread) told new c h = elim c [
 ]
 carries_size size names old line (GiveName name thread) told new c h = same_size size old new c.1 h
 carries_size size names old line (TellReply thread) told new c h = same_size size old new c.1 h
+carries_size size names old line (CancelWait thread cause) told new c h = elim c [
+  | inl w ↦ wait_size size old thread cause told new w h
+  | inr r ↦ same_size size old new r.2.1 h
+]
 carries_size size names old line TellSteps told new c h = subst (HasSize size) (sym c.4) (record { machine = h.machine; servers = h.servers })
 carries_size size names old line BeginUnordered told new c h = same_size size old new c.1 h
 carries_size size names old line BeginFinally told new c h = same_size size old new c.1 h

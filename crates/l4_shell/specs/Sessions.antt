@@ -10,7 +10,8 @@ use Rattle.l4_threads.specs.Threads.{space_of, runs}
 use Rattle.l4_threads.specs.declared.Reply.{Reply}
 use Rattle.l4_ipc.specs.declared.calls.Call.{Call}
 use Rattle.l4_ipc.specs.declared.steps.Step.{Step}
-use Rattle.l4_ipc.specs.declared.steps.Step.TheVariants.{Start, Transfer, Expire}
+use Rattle.l4_ipc.specs.declared.steps.Step.TheVariants.{Start, Transfer, Expire, Cancel}
+use Rattle.l4_ipc.specs.declared.steps.CancelCause.{CancelCause}
 use Rattle.l4_ipc.specs.declared.steps.Outcome.{Outcome}
 use Rattle.l4_ipc.specs.declared.steps.Refused.TheVariants.{UnknownThread}
 use Rattle.l4_ipc.specs.Machine.{Machine, IsBoot}
@@ -20,11 +21,11 @@ use Rattle.l4_ipc.specs.Following.{Done, AreNext}
 use Rattle.l4_record.specs.declared.entries.Entry.{Entry as HistoryEntry}
 use Rattle.l4_record.specs.declared.refusals.RecordRefusal.{RecordRefusal}
 use Rattle.l4_record.specs.Segments.{kept_count}
-use Rattle.l4_record.specs.Sizes.{max_steps}
-use Rattle.l4_record.specs.Seated.{Seated, is_among, with_number, CanEnter, MayEnter, Refuses as RefusesCall}
+use Rattle.l4_record.specs.Sizes.{max_steps, last_start}
+use Rattle.l4_record.specs.Seated.{Seated, is_among, with_number, CanEnter, MayEnter, Refuses as RefusesCall, RefusesCancel}
 use Rattle.l4_commands.specs.declared.requests.Request.{Request}
-use Rattle.l4_commands.specs.declared.requests.Request.TheVariants.{Enter, CreateThread, EndThread, SendPlan, ListPages, TellParent, AddRegion, ServeThread, GiveName, TellReply, TellSteps, BeginUnordered, BeginFinally, StateRule}
-use Rattle.l4_answers.specs.Reports.{Report, RefusedLine, UnreadLine, RefusedAct, Transferred, TimedOut, Waits, Ended, NoneEnded, Page, Shown, Parent, AddedRegion, Named, StepCount, AddsAll}
+use Rattle.l4_commands.specs.declared.requests.Request.TheVariants.{Enter, CreateThread, EndThread, SendPlan, ListPages, TellParent, AddRegion, ServeThread, GiveName, TellReply, CancelWait, TellSteps, BeginUnordered, BeginFinally, StateRule}
+use Rattle.l4_answers.specs.Reports.{Report, RefusedLine, UnreadLine, RefusedAct, Transferred, TimedOut, Canceled, Waits, Ended, NoneEnded, Page, Shown, Parent, AddedRegion, Named, StepCount, AddsAll}
 use Rattle.l4_answers.specs.Refusals.{Refusal, kernel_refusal}
 use Rattle.l4_shell.specs.Refusals.{script_refusal, plan_refusal, too_many_names, lacks_memory, call_refusal, region_refusal}
 use Rattle.l4_names.specs.Names.{Names, given}
@@ -48,6 +49,7 @@ abbrev pub own_report : Step → Outcome → List Report
 own_report (Start n call) outcome = []
 own_report (Transfer sender receiver) outcome = Transferred sender receiver outcome ∷ []
 own_report (Expire n) outcome = TimedOut n ∷ []
+own_report (Cancel n cause) outcome = Canceled n cause ∷ []
 
 -- how the calls of these threads ended, in the machine right after the step
 abbrev pub ended_reports : Machine → List ℕ → List Report
@@ -183,6 +185,33 @@ Refuses old line thread call told new = RefusesFor (RefusesCall old.machine (kep
 abbrev pub Enters : Session → ℕ → ℕ → Call → Servers → List Report → Session → Type 0
 Enters old line thread call servers told new = Follows old thread call servers told new ⊎ Refuses old line thread call told new
 
+-- CANCELED WAITS
+
+-- the session after a step that only the environment takes, whose entry has seat 0
+abbrev pub after_cancel : Session → Done → Session
+after_cancel old done = record old { machine = done.after; history = old.history ++ done_entry 0 done ∷ [] }
+
+-- The wait of the thread was canceled, which leaves no step enabled. Then the served threads acted, one after another. The reports are those
+-- of all steps, and of a refused act if there is one.
+pub record WaitEnds (old : Session) (thread : ℕ) (cause : CancelCause) (told : List Report) (new : Session) : Type 0 where
+  pub room : kept_in old ≤ last_start
+  pub own : Done
+  pub own_is : own.step ≡ Cancel thread cause
+  pub steps : Steps old.machine own.step (Ok own.answer) own.after
+  pub idle : IsIdle own.after
+  pub acts : List Act
+  pub between : Session
+  pub are : AreActs (after_cancel old own) acts between
+  pub few : length acts ≤ most_acts
+  pub last : List Report
+  pub stops : StopsActing between (length acts) last new
+  pub told_is : told ≡ flat_map done_reports (own ∷ steps_in acts) ++ last
+
+-- the wait of a thread is canceled, or the line is refused
+abbrev pub CancelsWait : Session → ℕ → ℕ → CancelCause → List Report → Session → Type 0
+CancelsWait old line thread cause told new =
+    WaitEnds old thread cause told new ⊎ RefusesFor (RefusesCancel old.machine (kept_in old) thread cause) call_refusal old line told new
+
 -- Root creates a thread, whose number has its seat from then on, even if the call is refused. NoMemory is possible only if the number had
 -- no seat.
 abbrev pub Creates : Session → ℕ → ℕ → Call → List Report → Session → Type 0
@@ -300,6 +329,7 @@ CarriesOut names old line (AddRegion thread entry) told new = AddsRegion old lin
 CarriesOut names old line (ServeThread thread) told new = ServesThread old line thread told new
 CarriesOut names old line (GiveName name thread) told new = (told ≡ naming_report names line name thread ∷ []) × (new ≡ old)
 CarriesOut names old line (TellReply thread) told new = (told ≡ reply_answer old.machine line thread ∷ []) × (new ≡ old)
+CarriesOut names old line (CancelWait thread cause) told new = CancelsWait old line thread cause told new
 CarriesOut names old line TellSteps told new = TellsCount old told new
 CarriesOut names old line BeginUnordered told new = (told ≡ []) × (new ≡ old)
 CarriesOut names old line BeginFinally told new = (told ≡ []) × (new ≡ old)

@@ -2,17 +2,18 @@
 ghost use Rattle.std.specs.Prelude.{◌≡◌, ℕ, List};
 ghost use Rattle.std.specs.List.{flat_map};
 ghost use Rattle.l4_phases.specs.Phases.{ended_if};
-ghost use Rattle.l4_ipc.specs.NextSteps.{answer_of};
+ghost use Rattle.l4_ipc.specs.NextSteps.{answer_of, cancel_answer};
 ghost use Rattle.l4_answers.specs.Reports.{Report, AddsAll};
 ghost use Rattle.l4_shell.specs.Sessions.{session, ended_reports, waiting_reports};
 ghost use Rattle.l4_record.specs.Seated.{is_among};
 ghost use Rattle.l4_servers.specs.Acting.{IsFirstReady};
-ghost use Rattle.l4_shell.specs.Inside.Telling.{next_reports, ended_later, TellsAppended, TellsActs, GoesOn};
+ghost use Rattle.l4_ipc.specs.declared.steps.Step.TheVariants.{Cancel};
+ghost use Rattle.l4_shell.specs.Inside.Telling.{step_reports, next_reports, ended_later, TellsAppended, TellsActs, GoesOn};
 
 use crate::refusals::call_code;
 use crate::session::Session;
 use l4_answers::Sink;
-use l4_ipc::{Answer, Kernel, NextStep};
+use l4_ipc::{Answer, CancelCause, Kernel, NextStep};
 use l4_record::Appended;
 
 /// The maximum number of acts of served threads per line.
@@ -72,6 +73,15 @@ fn tell_next<S: Sink>(kernel: &Kernel, next: NextStep, sink: &mut S)
             sink.ended(waiter, kernel.reply(waiter));
         }
     }
+}
+
+/// Reports that a wait was canceled, and how the thread's call ended.
+pub(crate) fn tell_canceled<S: Sink>(kernel: &Kernel, thread: u32, cause: CancelCause, sink: &mut S)
+    ensures { AddsAll S.has_told sink.old sink.new
+        (step_reports (Cancel thread cause) (cancel_answer thread) kernel.now) }
+{
+    sink.cancel(thread, cause);
+    sink.ended(thread, kernel.reply(thread));
 }
 
 /// Returns whether the thread's call ended in a step that was executed next.

@@ -1,7 +1,7 @@
 //! A script's kernel and its servers, and the execution of a line's request on them.
 ghost use Rattle.std.specs.Prelude.{◌≡◌, ◌⊎◌, ◌∷◌, List, [], false, IfOk, MatchOption};
 ghost use Rattle.l4_answers.specs.Reports.{Report, AddsAll};
-ghost use Rattle.l4_shell.specs.Sessions.{session, Enters, Creates, ServesThread, AddsRegion, place_reports, ListsBelow, Shows, parent_answer, reply_answer, Delegates, TellsCount, CarriesOut, naming_report, Refuses, LacksRoom};
+ghost use Rattle.l4_shell.specs.Sessions.{session, Enters, Creates, ServesThread, AddsRegion, place_reports, ListsBelow, Shows, parent_answer, reply_answer, Delegates, CancelsWait, TellsCount, CarriesOut, naming_report, Refuses, LacksRoom};
 ghost use Rattle.l4_record.specs.Segments.{kept};
 ghost use Rattle.l4_shell.specs.Inside.Telling.{TellsCall, TellsRefusal};
 ghost use Rattle.l4_pager.specs.Serving.{waiting};
@@ -12,11 +12,11 @@ ghost use Rattle.l4_commands.specs.Requests.{names_after};
 
 use crate::delegations::plan_words;
 use crate::refusals::{call_code, memory_code, plan_code, region_code, too_many_names_code};
-use crate::serving::tell_appended;
+use crate::serving::{tell_appended, tell_canceled};
 use l4_answers::Sink;
 use l4_commands::{Partner, ROOT, Request, Which, delete_call, send_call};
 use l4_fpage::PageSize;
-use l4_ipc::{Call, Kernel, NoMemory};
+use l4_ipc::{Call, CancelCause, Kernel, NoMemory};
 use l4_msg::Region;
 use l4_names::{Name, Names};
 use l4_pager::{Entry, wait};
@@ -346,6 +346,23 @@ impl Session {
         }
     }
 
+    /// Cancels the wait of a thread, and reports it and how the thread's call ended. Then lets the served threads act.
+    #[inline(never)]
+    fn cancel_wait<S: Sink>(&mut self, line: u64, thread: u32, cause: CancelCause, sink: &mut S)
+        ensures { (told : List Report)
+            × CancelsWait (session self.old.kernel self.old.servers) line thread cause told
+            (session self.new.kernel self.new.servers)
+            × AddsAll S.has_told sink.old sink.new told }
+    {
+        let ended = self.kernel.cancel(thread, cause);
+        if let Err(refusal) = ended {
+            return sink.refused_line(line, &call_code(refusal));
+        }
+        let kernel = self.kernel.kernel();
+        tell_canceled(kernel, thread, cause, sink);
+        self.follow(thread, true, sink);
+    }
+
     /// Carries out the request of a line, where threads have these names.
     pub(crate) fn carry_out<S: Sink>(
         &mut self,
@@ -379,6 +396,7 @@ impl Session {
             Request::ServeThread(thread) => self.serve_thread(line, thread, sink),
             Request::GiveName(name, number) => give_name(line, name, number, names, sink),
             Request::TellReply(thread) => tell_reply(self.kernel.kernel(), line, thread, sink),
+            Request::CancelWait(thread, cause) => self.cancel_wait(line, thread, cause, sink),
             Request::TellSteps => tell_count(&mut self.kernel, sink),
             Request::BeginUnordered => {}
             Request::BeginFinally => {}
