@@ -15,8 +15,10 @@ use Rattle.l4_ipc.specs.declared.calls.UnmapCall.{UnmapCall}
 use Rattle.l4_ipc.specs.declared.calls.Call.{Call}
 use Rattle.l4_ipc.specs.declared.calls.Call.TheVariants.{Ipc, Fault, Unmap, Control as Controls}
 use Rattle.l4_ipc.specs.declared.calls.Control.TheVariants.{Create, SetPager, Delete}
+use Rattle.l4_ipc.specs.declared.steps.CancelCause.{CancelCause}
+use Rattle.l4_ipc.specs.declared.steps.CancelCause.TheVariants.{Timeout, Canceled}
 use Rattle.l4_ipc.specs.declared.steps.Step.{Step}
-use Rattle.l4_ipc.specs.declared.steps.Step.TheVariants.{Start, Transfer, Expire}
+use Rattle.l4_ipc.specs.declared.steps.Step.TheVariants.{Start, Transfer, Expire, Cancel}
 use Rattle.l4_text.specs.Lines.{NoNewline}
 use Rattle.l4_text.specs.Numbers.{number_of, is_hex, hex_of, decimal_of, below, decimal_number_of, word_of}
 use Rattle.l4_text.specs.Texts.{hex_digit, word_text}
@@ -282,6 +284,12 @@ name_transfer = record { plain = (refl, refl, (refl, refl, (refl, refl, (refl, r
 name_expire : IsToken (codes "expire")
 name_expire = record { plain = (refl, refl, (refl, refl, (refl, refl, (refl, refl, (refl, refl, (refl, refl, tt)))))); some = refl; short = omega arith }
 
+name_timeout : IsToken (codes "timeout")
+name_timeout = record { plain = (refl, refl, (refl, refl, (refl, refl, (refl, refl, (refl, refl, (refl, refl, (refl, refl, tt))))))); some = refl; short = omega arith }
+
+name_cancel : IsToken (codes "cancel")
+name_cancel = record { plain = (refl, refl, (refl, refl, (refl, refl, (refl, refl, (refl, refl, (refl, refl, tt)))))); some = refl; short = omega arith }
+
 decimal_tokens : (ns : List ℕ) → AreWords ns → AreTokens (map decimal ns)
 decimal_tokens [] h = tt
 decimal_tokens (n ∷ ns) h = (decimal_token n h.0, decimal_tokens ns h.1)
@@ -341,6 +349,18 @@ expire_reads n number h =
     (ap (λ d. codes "expire " ++ d ++ 10 ∷ []) (sym (append-nil (decimal n)))) refl
     (ap (λ o. option_and_then (named_of (codes "expire")) o) (decimals_back (n ∷ []) h))
 
+cancel_reads : (n : ℕ) (cause : CancelCause) (number : ℕ) → IsStep (Cancel n cause) → Back (Cancel n cause) number
+cancel_reads n Timeout number h =
+    let ts = map decimal (n ∷ []) in
+    reads_line (codes "timeout") ts _ number (Cancel n Timeout) name_timeout (decimal_tokens (n ∷ []) h) (omega arith)
+    (ap (λ d. codes "timeout " ++ d ++ 10 ∷ []) (sym (append-nil (decimal n)))) refl
+    (ap (λ o. option_and_then (named_of (codes "timeout")) o) (decimals_back (n ∷ []) h))
+cancel_reads n Canceled number h =
+    let ts = map decimal (n ∷ []) in
+    reads_line (codes "cancel") ts _ number (Cancel n Canceled) name_cancel (decimal_tokens (n ∷ []) h) (omega arith)
+    (ap (λ d. codes "cancel " ++ d ++ 10 ∷ []) (sym (append-nil (decimal n)))) refl
+    (ap (λ o. option_and_then (named_of (codes "cancel")) o) (decimals_back (n ∷ []) h))
+
 pub reads_back : ReadsBack
 reads_back (Start n (Ipc call)) number h = ipc_reads n number call h
 reads_back (Start n (Fault call)) number h = fault_reads n number call h
@@ -353,3 +373,4 @@ reads_back (Start n (Controls (Delete id))) number h =
     start_hex n number (codes "delete") (id.0 ∷ []) (call_words (Controls (Delete id))) (Controls (Delete id)) h.0 kind_delete h.1 (omega arith) refl refl
 reads_back (Transfer s r) number h = transfer_reads s r number h
 reads_back (Expire n) number h = expire_reads n number h
+reads_back (Cancel n cause) number h = cancel_reads n cause number h

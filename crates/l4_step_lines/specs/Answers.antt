@@ -5,7 +5,7 @@ use Rattle.l4_threads.specs.declared.IpcReply.{IpcReply}
 use Rattle.l4_threads.specs.declared.Reply.{Reply}
 use Rattle.l4_threads.specs.declared.Reply.TheVariants.{Ipc, Hit, Answered, FaultFailed, Unmapped, Controlled, Gone}
 use Rattle.l4_ipc.specs.declared.steps.Outcome.{Outcome}
-use Rattle.l4_ipc.specs.declared.steps.Outcome.TheVariants.{Started, Done, NoWindow, Entangled, NoMemory, Expired}
+use Rattle.l4_ipc.specs.declared.steps.Outcome.TheVariants.{Started, Done, NoWindow, Entangled, NoMemory, Expired, Canceled}
 use Rattle.l4_ipc.specs.declared.steps.Answer.{Answer}
 use Rattle.l4_ipc.specs.declared.steps.Step.{Step}
 use Rattle.l4_ipc.specs.declared.steps.Step.TheVariants.{Transfer, Expire}
@@ -26,6 +26,7 @@ outcome_name NoWindow = codes "no-window"
 outcome_name Entangled = codes "entangled"
 outcome_name NoMemory = codes "no-memory"
 outcome_name Expired = codes "expired"
+outcome_name Canceled = codes "canceled"
 
 abbrev pub ipc_name : IpcReply → List ℕ
 ipc_name reply = codes "ipc " ++ word_text reply.tag ++ space ++ decimal reply.error ++ space ++ word_text reply.from.0

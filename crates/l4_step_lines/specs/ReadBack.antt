@@ -6,7 +6,7 @@ use Rattle.l4_ipc.specs.declared.calls.Call.TheVariants.{Ipc, Fault, Unmap, Cont
 use Rattle.l4_ipc.specs.declared.calls.Control.{Control}
 use Rattle.l4_ipc.specs.declared.calls.Control.TheVariants.{Create, SetPager, Delete}
 use Rattle.l4_ipc.specs.declared.steps.Step.{Step}
-use Rattle.l4_ipc.specs.declared.steps.Step.TheVariants.{Start, Transfer, Expire}
+use Rattle.l4_ipc.specs.declared.steps.Step.TheVariants.{Start, Transfer, Expire, Cancel}
 use Rattle.l4_step_lines.specs.declared.requests.Request.TheVariants.{Do}
 use Rattle.l4_step_lines.specs.Steps.{step_line}
 use Rattle.l4_text.specs.Grammar.{TextLine, lines_of}
@@ -33,6 +33,7 @@ abbrev pub IsStep : Step → Type 0
 IsStep (Start number call) = (number < 2 ^ 32) × IsCall call
 IsStep (Transfer sender receiver) = AreWords (sender ∷ receiver ∷ [])
 IsStep (Expire number) = AreWords (number ∷ [])
+IsStep (Cancel number cause) = AreWords (number ∷ [])
 
 -- the line of a step asks for this step, wherever it stands in a list
 abbrev pub ReadsBack : Type 0

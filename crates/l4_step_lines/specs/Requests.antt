@@ -8,11 +8,12 @@ use Rattle.l4_ipc.specs.declared.calls.Control.TheVariants.{Create, SetPager, De
 use Rattle.l4_ipc.specs.declared.calls.Call.{Call}
 use Rattle.l4_ipc.specs.declared.calls.Call.TheVariants.{Ipc, Fault, Unmap, Control as Controls}
 use Rattle.l4_ipc.specs.declared.steps.Step.{Step}
-use Rattle.l4_ipc.specs.declared.steps.Step.TheVariants.{Start, Transfer, Expire}
+use Rattle.l4_ipc.specs.declared.steps.Step.TheVariants.{Start, Transfer, Expire, Cancel}
 use Rattle.l4_step_lines.specs.declared.requests.Request.{Request}
 use Rattle.l4_step_lines.specs.declared.requests.Request.TheVariants.{Do, Enabled, Reply, Space, Pages}
 use Rattle.l4_text.specs.Grammar.{◌>>=◌, numbers_of}
 use Rattle.l4_text.specs.Numbers.{number_of}
+use Rattle.l4_ipc.specs.declared.steps.CancelCause.TheVariants.{Timeout, Canceled}
 
 -- the only number
 abbrev pub only_of : List ℕ → Option ℕ
@@ -83,11 +84,13 @@ abbrev pub named_of : List ℕ → List ℕ → Option Request
 named_of name ns =
     if bytes_eq name (codes "transfer") then option_map Do (transfer_of ns)
     else (if bytes_eq name (codes "expire") then option_map (λ n. Do (Expire n)) (only_of ns)
+    else (if bytes_eq name (codes "timeout") then option_map (λ n. Do (Cancel n Timeout)) (only_of ns)
+    else (if bytes_eq name (codes "cancel") then option_map (λ n. Do (Cancel n Canceled)) (only_of ns)
     else (if bytes_eq name (codes "reply") then option_map Reply (only_of ns)
     else (if bytes_eq name (codes "space") then option_map Space (only_of ns)
     else (if bytes_eq name (codes "pages") then option_map Pages (only_of ns)
     else (if bytes_eq name (codes "enabled") then (if nat_le (length ns) 0 then Some Enabled else None)
-    else None)))))
+    else None)))))))
 
 -- what the tokens of a line ask for, None where they can't be read
 abbrev pub request_of : List (List ℕ) → Option Request

@@ -10,9 +10,9 @@ use Rattle.l4_ipc.specs.declared.calls.Control.TheVariants.{Create, SetPager, De
 use Rattle.l4_ipc.specs.declared.calls.Call.{Call}
 use Rattle.l4_ipc.specs.declared.calls.Call.TheVariants.{Ipc, Fault, Unmap, Control as Controls}
 use Rattle.l4_ipc.specs.declared.steps.Step.{Step}
-use Rattle.l4_ipc.specs.declared.steps.Step.TheVariants.{Start, Transfer, Expire}
+use Rattle.l4_ipc.specs.declared.steps.Step.TheVariants.{Start, Transfer, Expire, Cancel}
 use Rattle.l4_text.specs.Texts.{word_text}
-use Rattle.l4_answers.specs.Replies.{space, newline, expire_text}
+use Rattle.l4_answers.specs.Replies.{space, newline, expire_text, cancel_text}
 
 -- a word after a space, in hexadecimal
 abbrev pub hex_text : ℕ → List ℕ
@@ -50,3 +50,4 @@ abbrev pub step_line : Step → List ℕ
 step_line (Start number call) = codes "start " ++ decimal number ++ call_words call ++ newline
 step_line (Transfer sender receiver) = pair_line sender receiver
 step_line (Expire number) = expire_text number
+step_line (Cancel number cause) = cancel_text number cause

@@ -45,11 +45,13 @@ abbrev pub shape_of : List ℕ → Option Shape
 shape_of name =
     if bytes_eq name (codes "transfer") then just (Number ∷ Number ∷ [])
     else (if bytes_eq name (codes "expire") then just (Number ∷ [])
+    else (if bytes_eq name (codes "timeout") then just (Number ∷ [])
+    else (if bytes_eq name (codes "cancel") then just (Number ∷ [])
     else (if bytes_eq name (codes "reply") then just (Number ∷ [])
     else (if bytes_eq name (codes "space") then just (Number ∷ [])
     else (if bytes_eq name (codes "pages") then just (Number ∷ [])
     else (if bytes_eq name (codes "enabled") then just []
-    else None)))))
+    else None)))))))
 
 -- THE STOP
 
@@ -104,7 +106,7 @@ stop_of (name ∷ tokens) = if bytes_eq name (codes "start") then start_stop tok
 
 -- what is right at a place
 unfoldable pub expected_says : Expected → List ℕ
-expected_says StepName = codes "\"start\", \"transfer\", \"expire\", \"enabled\", \"reply\", \"space\" or \"pages\""
+expected_says StepName = codes "\"start\", \"transfer\", \"expire\", \"timeout\", \"cancel\", \"enabled\", \"reply\", \"space\" or \"pages\""
 expected_says CallName = codes "\"ipc\", \"fault\", \"unmap\", \"create\", \"setpager\" or \"delete\""
 expected_says Number = codes "a number from 0 to 0xffffffff"
 expected_says Access = codes "a number from 0 to 7, the sum of r (4), w (2) and x (1)"

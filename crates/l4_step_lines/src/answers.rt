@@ -27,6 +27,7 @@ fn outcome_name(outcome: Outcome) -> &'static [u8]
         Outcome::Entangled => b"entangled",
         Outcome::NoMemory => b"no-memory",
         Outcome::Expired => b"expired",
+        Outcome::Canceled => b"canceled",
     }
 }
 
@@ -163,7 +164,7 @@ fn add_step(text: &mut Text, step: Option<&Step>)
             text.add(b"expire ");
             text.add_number(u64::from(*number));
         }
-        Some(Step::Start(_, _)) | None => text.add(b"none"),
+        Some(Step::Start(_, _)) | Some(Step::Cancel(_, _)) | None => text.add(b"none"),
     }
 }
 

@@ -5,7 +5,7 @@ ghost use Rattle.l4_fpage.specs.Rights.{bits_of};
 ghost use Rattle.l4_text.specs.Streams.{Tells};
 ghost use Rattle.l4_step_lines.specs.Steps.{hex_text, hex_texts, ipc_words, fault_words, unmap_words, control_words, call_words, pair_line, step_line};
 
-use l4_answers::put_expire;
+use l4_answers::{put_cancel, put_expire};
 use l4_ipc::{Call, Control, FaultCall, IpcCall, Step, UnmapCall};
 use l4_text::{Output, Text};
 use std::io::Write;
@@ -162,5 +162,6 @@ pub fn put_step<W: Write>(step: &Step, out: &mut Output, writer: &mut W)
         Step::Start(number, call) => put_start(*number, call, out, writer),
         Step::Transfer(sender, receiver) => { out.put(writer, &transfer_text(*sender, *receiver)) }
         Step::Expire(number) => put_expire(*number, out, writer),
+        Step::Cancel(number, cause) => put_cancel(*number, *cause, out, writer),
     }
 }

@@ -6,7 +6,9 @@ ghost use Rattle.l4_step_lines.specs.Requests.{only_of, registers_of, access_of,
 use crate::numbers::numbers;
 use arrayvec::ArrayVec;
 use l4_fpage::Rights;
-use l4_ipc::{Call, Control, Create, FaultCall, IpcCall, MAX_WORDS, SetPager, Step, UnmapCall};
+use l4_ipc::{
+    Call, CancelCause, Control, Create, FaultCall, IpcCall, MAX_WORDS, SetPager, Step, UnmapCall,
+};
 use l4_text::{next_token, number};
 use l4_threads::ThreadId;
 
@@ -30,6 +32,10 @@ pub(crate) const START: &[u8] = b"start";
 pub(crate) const TRANSFER: &[u8] = b"transfer";
 
 pub(crate) const EXPIRE: &[u8] = b"expire";
+
+pub(crate) const TIMEOUT: &[u8] = b"timeout";
+
+pub(crate) const CANCEL: &[u8] = b"cancel";
 
 pub(crate) const ENABLED: &[u8] = b"enabled";
 
@@ -208,6 +214,12 @@ fn named(name: &[u8], numbers: &[u32]) -> Option<Request>
     }
     if name == EXPIRE {
         return Some(Request::Do(Step::Expire(only(numbers)?)));
+    }
+    if name == TIMEOUT {
+        return Some(Request::Do(Step::Cancel(only(numbers)?, CancelCause::Timeout)));
+    }
+    if name == CANCEL {
+        return Some(Request::Do(Step::Cancel(only(numbers)?, CancelCause::Canceled)));
     }
     if name == REPLY {
         return Some(Request::Reply(only(numbers)?));

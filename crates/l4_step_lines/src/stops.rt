@@ -8,8 +8,8 @@ ghost use Rattle.l4_step_lines.specs.Stops.{just, with_words, call_shape_of, sha
 ghost use Rattle.l4_step_lines.specs.declared.stops.Expected.TheVariants.{StepName};
 
 use crate::requests::{
-    CREATE, DELETE, ENABLED, EXPIRE, FAULT, IPC, PAGES, REPLY, SETPAGER, SPACE, START, TRANSFER,
-    UNMAP, access,
+    CANCEL, CREATE, DELETE, ENABLED, EXPIRE, FAULT, IPC, PAGES, REPLY, SETPAGER, SPACE, START,
+    TIMEOUT, TRANSFER, UNMAP, access,
 };
 use l4_ipc::MAX_WORDS;
 use l4_reasons::{Reason, line_reason, missing_reason, token_reason};
@@ -120,6 +120,12 @@ fn form_of(name: &[u8]) -> Option<Form>
     if name == EXPIRE {
         return just(ONE);
     }
+    if name == TIMEOUT {
+        return just(ONE);
+    }
+    if name == CANCEL {
+        return just(ONE);
+    }
     if name == REPLY {
         return just(ONE);
     }
@@ -143,7 +149,7 @@ fn expected_says(expected: Expected) -> &'static [u8]
 {
     match expected {
         Expected::StepName => {
-            b"\"start\", \"transfer\", \"expire\", \"enabled\", \"reply\", \"space\" or \"pages\""
+            b"\"start\", \"transfer\", \"expire\", \"timeout\", \"cancel\", \"enabled\", \"reply\", \"space\" or \"pages\""
         }
         Expected::CallName => {
             b"\"ipc\", \"fault\", \"unmap\", \"create\", \"setpager\" or \"delete\""
