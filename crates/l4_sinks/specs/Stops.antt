@@ -46,12 +46,14 @@ pager_shape_of name =
     else (if is_word (codes "serve") name then just (ThreadNumber ∷ [])
     else (if is_word (codes "name") name then just (NewName ∷ ThreadNumber ∷ [])
     else (if is_word (codes "reply") name then just (ThreadNumber ∷ [])
+    else (if is_word (codes "timeout") name then just (ThreadNumber ∷ [])
+    else (if is_word (codes "cancel") name then just (ThreadNumber ∷ [])
     else (if is_word (codes "steps") name then just []
     else (if is_word (codes "unordered") name then just []
     else (if is_word (codes "finally") name then just []
     else (if is_word (codes "never") name then with_rest [] Answer
     else (if is_word (codes "always") name then with_rest [] Answer
-    else None)))))))))
+    else None)))))))))))
 
 -- by the command's name; None where there is no such command
 abbrev pub shape_of : List ℕ → Option Shape

@@ -2,19 +2,21 @@
 use Rattle.std.specs.Prelude.{ℕ, ◌==◌, List, [], ◌∷◌, ◌++◌, length, Option, None, Some, if◌then◌else◌, codes, decimal, bytes_eq}
 use Rattle.l4_fpage.specs.declared.sizes.PageSize.{PageSize}
 use Rattle.l4_ipc.specs.declared.steps.Outcome.{Outcome}
-use Rattle.l4_ipc.specs.declared.steps.Outcome.TheVariants.{Started, Done, NoWindow, Entangled, NoMemory, Expired}
+use Rattle.l4_ipc.specs.declared.steps.Outcome.TheVariants.{Started, Done, NoWindow, Entangled, NoMemory, Expired, Canceled as ByCancel}
 use Rattle.l4_mapdb.specs.declared.Mapping.{Mapping}
 use Rattle.l4_mapdb.specs.declared.Place.{Place}
 use Rattle.l4_threads.specs.declared.IpcReply.{IpcReply}
 use Rattle.l4_threads.specs.declared.Reply.{Reply}
 use Rattle.l4_threads.specs.declared.Reply.TheVariants.{Ipc, Hit, Answered, FaultFailed, Unmapped, Controlled, Gone}
 use Rattle.l4_answers.specs.Refusals.{Refusal}
-use Rattle.l4_answers.specs.Reports.{Report, RefusedLine, UnreadLine, RefusedAct, Transferred, TimedOut, Waits, Ended, NoneEnded, Page, Shown, Parent, AddedRegion, Named, StepCount}
+use Rattle.l4_answers.specs.Reports.{Report, RefusedLine, UnreadLine, RefusedAct, Transferred, TimedOut, Canceled, Waits, Ended, NoneEnded, Page, Shown, Parent, AddedRegion, Named, StepCount}
 use Rattle.l4_names.specs.Names.{Names}
 use Rattle.l4_refusals.specs.Texts.{texts, text_in, spelled}
 use Rattle.l4_reasons.specs.Reasons.{line_says, token_says, symbol_says, missing_says}
 use Rattle.l4_symbols.specs.Reasons.{reason_text}
 use Rattle.l4_symbols.specs.declared.words.WordKind.TheVariants.{Fpage, Window, Timeouts, Control, Id}
+use Rattle.l4_ipc.specs.declared.steps.CancelCause.{CancelCause}
+use Rattle.l4_ipc.specs.declared.steps.CancelCause.TheVariants.{Timeout, Canceled as ByRequest}
 use Rattle.l4_text.specs.Tokens.{tokens_of}
 use Rattle.l4_commands.specs.declared.kinds.TokenKind.{TokenKind}
 use Rattle.l4_commands.specs.declared.kinds.TokenKind.TheVariants.{ThreadNumber, ThreadOrNew, ThreadOrNil, ThreadNilOrAny, Number, Symbol, Rights, NewName}
@@ -29,6 +31,7 @@ transfer_says NoWindow = codes "the message was not delivered: it has map or gra
 transfer_says Entangled = codes "the message was not delivered: its items fill one page twice, move a granted page twice, or replace a page that they move or an ancestor of it"
 transfer_says NoMemory = codes "the message was not delivered: there was not enough memory to map its pages"
 transfer_says Expired = codes "the timeout expired"
+transfer_says ByCancel = codes "the wait was canceled"
 
 unfoldable pub origin_says : Option Place → List ℕ
 origin_says None = codes "the page has no parent"
@@ -41,22 +44,28 @@ parent_says (Some mapping) = origin_says mapping.parent
 -- why a fault failed, by its ErrorCode
 unfoldable pub failed_says : ℕ → List ℕ
 failed_says code =
-    if code == 4 then codes "the pager does not exist, is the thread itself, or was deleted before it received the fault"
+    if code == 2 then codes "a timeout ended the send of the fault before the pager received it"
+    else (if code == 3 then codes "a timeout ended the wait for the pager's answer"
+    else (if code == 6 then codes "the send of the fault was canceled before the pager received it"
+    else (if code == 7 then codes "the wait for the pager's answer was canceled"
+    else (if code == 4 then codes "the pager does not exist, is the thread itself, or was deleted before it received the fault"
     else (if code == 5 then codes "the pager received the fault, but was deleted before it answered"
     else (if code == 9 then codes "the pages in the pager's answer could not be delivered"
-    else codes "the fault failed"))
+    else codes "the fault failed"))))))
 
 -- how an Ipc ended that received no message, by its ErrorCode
 unfoldable pub ipc_says : ℕ → List ℕ
 ipc_says code =
     if code == 0 then codes "the call ended without an error and received no message"
-    else (if code == 2 then codes "the zero send timeout expired"
-    else (if code == 3 then codes "the zero receive timeout expired"
+    else (if code == 2 then codes "the send timeout expired"
+    else (if code == 3 then codes "the receive timeout expired"
     else (if code == 4 then codes "the thread to send to does not exist, is the caller itself, or was deleted"
     else (if code == 5 then codes "the thread to receive from does not exist, or was deleted"
+    else (if code == 6 then codes "the send phase was canceled"
+    else (if code == 7 then codes "the receive phase was canceled"
     else (if code == 8 then codes "the pages in the message could not be delivered to the receiver"
     else (if code == 9 then codes "the pages in a message to this thread could not be delivered"
-    else codes "the call failed"))))))
+    else codes "the call failed"))))))))
 
 unfoldable pub gone_says : List ℕ
 gone_says = codes "the thread was deleted before its call ended"
@@ -99,6 +108,10 @@ refusal_says refusal = code_says refusal.name ++ number_says refusal.name refusa
 unfoldable pub expired_says : List ℕ
 expired_says = codes "the thread's zero timeout expired"
 
+unfoldable pub canceled_says : CancelCause → List ℕ
+canceled_says Timeout = codes "a clock outside the kernel ended the thread's wait"
+canceled_says ByRequest = codes "the thread's wait was canceled"
+
 unfoldable pub waits_says : List ℕ
 waits_says = codes "the call blocks until a later line ends it"
 
@@ -118,7 +131,7 @@ unfoldable pub named_says : List ℕ
 named_says = codes "from the next line on, the name stands for this thread"
 
 unfoldable pub steps_says : List ℕ
-steps_says = codes "the number of steps so far: calls that started, transfers and expiries"
+steps_says = codes "the number of steps so far: calls that started, transfers, expiries and canceled waits"
 
 -- what a token of this kind is
 unfoldable pub kind_says : TokenKind → List ℕ
@@ -179,6 +192,7 @@ says (UnreadLine size names line refusal bytes) = unread_says size names line re
 says (RefusedAct thread refusal) = refusal_says refusal
 says (Transferred sender receiver outcome) = transfer_says outcome
 says (TimedOut thread) = expired_says
+says (Canceled thread cause) = canceled_says cause
 says (Waits thread) = waits_says
 says (Ended thread reply) = reply_says reply
 says (NoneEnded thread) = none_says

@@ -1,10 +1,10 @@
 //! What answers mean, each in a sentence.
 ghost use Rattle.std.specs.Prelude.{◌≡◌, ◌≤◌, length, bytes_eq};
-ghost use Rattle.l4_sinks.specs.Words.{transfer_says, origin_says, parent_says, failed_says, ipc_says, gone_says, reply_says, code_says, number_name, kind_says, expected_says, expired_says, waits_says, none_says, page_says, shown_says, region_says, named_says, steps_says};
+ghost use Rattle.l4_sinks.specs.Words.{transfer_says, origin_says, parent_says, failed_says, canceled_says, ipc_says, gone_says, reply_says, code_says, number_name, kind_says, expected_says, expired_says, waits_says, none_says, page_says, shown_says, region_says, named_says, steps_says};
 
 use crate::stops::Expected;
 use l4_commands::TokenKind;
-use l4_ipc::Outcome;
+use l4_ipc::{CancelCause, Outcome};
 use l4_mapdb::{Mapping, Place};
 use l4_refusals::{number_of, text_of};
 use l4_symbols::WordKind;
@@ -29,6 +29,7 @@ pub(crate) fn transfer_says(outcome: Outcome) -> &'static [u8]
             b"the message was not delivered: there was not enough memory to map its pages"
         }
         Outcome::Expired => b"the timeout expired",
+        Outcome::Canceled => b"the wait was canceled",
     }
 }
 
@@ -62,6 +63,18 @@ fn failed_says(code: u32) -> &'static [u8]
     ensures says { result.now ≡ failed_says code }
     ensures short { length result.now ≤ 160 }
 {
+    if code == 2 {
+        return b"a timeout ended the send of the fault before the pager received it";
+    }
+    if code == 3 {
+        return b"a timeout ended the wait for the pager's answer";
+    }
+    if code == 6 {
+        return b"the send of the fault was canceled before the pager received it";
+    }
+    if code == 7 {
+        return b"the wait for the pager's answer was canceled";
+    }
     if code == 4 {
         return b"the pager does not exist, is the thread itself, or was deleted before it received the fault";
     }
@@ -84,16 +97,22 @@ fn ipc_says(code: u32) -> &'static [u8]
         return b"the call ended without an error and received no message";
     }
     if code == 2 {
-        return b"the zero send timeout expired";
+        return b"the send timeout expired";
     }
     if code == 3 {
-        return b"the zero receive timeout expired";
+        return b"the receive timeout expired";
     }
     if code == 4 {
         return b"the thread to send to does not exist, is the caller itself, or was deleted";
     }
     if code == 5 {
         return b"the thread to receive from does not exist, or was deleted";
+    }
+    if code == 6 {
+        return b"the send phase was canceled";
+    }
+    if code == 7 {
+        return b"the receive phase was canceled";
     }
     if code == 8 {
         return b"the pages in the message could not be delivered to the receiver";
@@ -137,6 +156,18 @@ pub(crate) fn expired_says() -> &'static [u8]
     ensures short { length result.now ≤ 160 }
 {
     b"the thread's zero timeout expired"
+}
+
+/// The meaning of a `timeout` or `cancel` line.
+#[tactic(auto, unfolding(crate::specs::Words::canceled_says))]
+pub(crate) fn canceled_says(cause: CancelCause) -> &'static [u8]
+    ensures says { result.now ≡ canceled_says cause }
+    ensures short { length result.now ≤ 160 }
+{
+    match cause {
+        CancelCause::Timeout => b"a clock outside the kernel ended the thread's wait",
+        CancelCause::Canceled => b"the thread's wait was canceled",
+    }
 }
 
 /// The meaning of a `waits` line.
@@ -199,7 +230,7 @@ pub(crate) fn steps_says() -> &'static [u8]
     ensures says { result.now ≡ steps_says }
     ensures short { length result.now ≤ 160 }
 {
-    b"the number of steps so far: calls that started, transfers and expiries"
+    b"the number of steps so far: calls that started, transfers, expiries and canceled waits"
 }
 
 /// What a token of this kind is.

@@ -7,7 +7,7 @@ ghost use Rattle.l4_sinks.specs.Words.{line_refusal_says, unread_says};
 use crate::reasons::{LineRefusal, is_lack, refusal_reason, unread_reason};
 use l4_answers::{Code, Sink};
 use l4_fpage::PageSize;
-use l4_ipc::Outcome;
+use l4_ipc::{CancelCause, Outcome};
 use l4_mapdb::Mapping;
 use l4_names::Names;
 use l4_text::{LineReader, RunFault};
@@ -94,6 +94,8 @@ impl Sink for Silent {
     fn transfer(&mut self, sender: u32, receiver: u32, outcome: Outcome) {}
 
     fn expire(&mut self, number: u32) {}
+
+    fn cancel(&mut self, number: u32, cause: CancelCause) {}
 
     fn waits(&mut self, number: u32) {}
 

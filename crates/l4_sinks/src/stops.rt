@@ -171,6 +171,12 @@ fn pager_form(name: &[u8]) -> Option<Form>
     if is(name, b"reply") {
         return of_kinds(ONE_THREAD, Rest::Nothing);
     }
+    if is(name, b"timeout") {
+        return of_kinds(ONE_THREAD, Rest::Nothing);
+    }
+    if is(name, b"cancel") {
+        return of_kinds(ONE_THREAD, Rest::Nothing);
+    }
     if is(name, b"steps") {
         return of_kinds(&[], Rest::Nothing);
     }

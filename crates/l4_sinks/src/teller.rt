@@ -12,17 +12,17 @@ ghost use Rattle.l4_sinks.specs.Tellers.{HasReported, HasWritten, is_over};
 
 use crate::reasons::{act_reason, refusal_reason, unread_reason};
 use crate::sentences::{
-    expired_says, gone_says, known_says, named_says, none_says, page_says, parent_says,
-    region_says, shown_says, steps_says, transfer_says, waits_says,
+    canceled_says, expired_says, gone_says, known_says, named_says, none_says, page_says,
+    parent_says, region_says, shown_says, steps_says, transfer_says, waits_says,
 };
 use arrayvec::ArrayVec;
 use l4_answers::{
-    Code, Sink, put_expire, put_named, put_none, put_page, put_parent, put_refused_act,
+    Code, Sink, put_cancel, put_expire, put_named, put_none, put_page, put_parent, put_refused_act,
     put_refused_line, put_region, put_reply, put_shown, put_steps, put_transfer, put_waits,
 };
 use l4_decode::put_message;
 use l4_fpage::PageSize;
-use l4_ipc::Outcome;
+use l4_ipc::{CancelCause, Outcome};
 use l4_mapdb::Mapping;
 use l4_names::Names;
 use l4_reasons::Reason;
@@ -331,6 +331,18 @@ impl<W: Write> Sink for Teller<W> {
         say(
             self.explains,
             expired_says(),
+            &mut self.out,
+            &mut self.writer,
+        );
+    }
+
+    #[cold]
+    #[inline(never)]
+    fn cancel(&mut self, number: u32, cause: CancelCause) {
+        put_cancel(number, cause, &mut self.out, &mut self.writer);
+        say(
+            self.explains,
+            canceled_says(cause),
             &mut self.out,
             &mut self.writer,
         );
