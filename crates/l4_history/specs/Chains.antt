@@ -4,7 +4,7 @@ use Rattle.std.specs.List.{flat_map}
 use Rattle.l4_mapdb.specs.declared.Mapping.{Mapping}
 use Rattle.l4_mapdb.specs.declared.Place.{Place}
 use Rattle.l4_ipc.specs.declared.steps.Step.{Step}
-use Rattle.l4_ipc.specs.declared.steps.Step.TheVariants.{Start, Transfer, Expire}
+use Rattle.l4_ipc.specs.declared.steps.Step.TheVariants.{Start, Transfer, Expire, Cancel}
 use Rattle.l4_record.specs.declared.entries.Entry.{Entry}
 use Rattle.l4_record.specs.declared.links.ChainLink.{ChainLink}
 use Rattle.l4_record.specs.Chains.{origin_of}
@@ -20,6 +20,7 @@ unfoldable pub step_parties : Step → List ℕ
 step_parties (Transfer sender receiver) = codes " transfer " ++ decimal sender ++ space ++ decimal receiver
 step_parties (Start number call) = codes " start"
 step_parties (Expire number) = codes " expire"
+step_parties (Cancel number cause) = codes " cancel"
 
 -- the sender and the receiver of an entry, if there is one
 unfoldable pub entry_parties : Option Entry → List ℕ

@@ -7,7 +7,7 @@ use Rattle.l4_mapdb.specs.Transfer.{PageMove}
 use Rattle.l4_ipc.specs.Machine.{Machine}
 use Rattle.l4_ipc.specs.Steps.{Steps, is_done}
 use Rattle.l4_ipc.specs.declared.steps.Step.{Step}
-use Rattle.l4_ipc.specs.declared.steps.Step.TheVariants.{Start, Transfer, Expire}
+use Rattle.l4_ipc.specs.declared.steps.Step.TheVariants.{Start, Transfer, Expire, Cancel}
 use Rattle.l4_record.specs.declared.entries.Entry.{Entry}
 use Rattle.l4_provenance.specs.Moved.{IsMoved}
 use Rattle.l4_answers.specs.Pages.{rights_text}
@@ -42,6 +42,7 @@ abbrev pub is_transfer : Step → Bool
 is_transfer (Transfer sender receiver) = true
 is_transfer (Start number call) = false
 is_transfer (Expire number) = false
+is_transfer (Cancel number cause) = false
 
 -- The next transfer of a history: from this machine on, the entries are executed up to the first transfer, which is executed too, and this is
 -- the text of its moves. The first number is that of the first entry, and the last that of the entry behind. If there is no transfer, all

@@ -50,6 +50,7 @@ fn add_step(text: &mut Text, step: &Step)
         }
         Step::Start(_, _) => text.add(b" start"),
         Step::Expire(_) => text.add(b" expire"),
+        Step::Cancel(_, _) => text.add(b" cancel"),
     }
 }
 

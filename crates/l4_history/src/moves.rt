@@ -97,6 +97,7 @@ fn is_transfer(step: &Step) -> bool
         Step::Transfer(_, _) => true,
         Step::Start(_, _) => false,
         Step::Expire(_) => false,
+        Step::Cancel(_, _) => false,
     }
 }
 
