@@ -3,17 +3,19 @@ use Rattle.std.specs.Prelude.{ℕ, ◌≡◌, ◌≢◌, ◌⊎◌, ⊤, List, [
 use Rattle.l4_ipc.specs.Machine.{Machine}
 use Rattle.l4_ipc.specs.Steps.{IsNext, IsIdle}
 use Rattle.l4_ipc.specs.declared.steps.Step.{Step}
-use Rattle.l4_ipc.specs.declared.steps.Step.TheVariants.{Start, Transfer, Expire}
+use Rattle.l4_ipc.specs.declared.steps.Step.TheVariants.{Start, Transfer, Expire, Cancel}
 use Rattle.l4_record.specs.declared.entries.Entry.{Entry}
 use Rattle.l4_record.specs.declared.faults.ReplayFault.TheVariants.{NoMemory, OtherAnswer as Otherwise}
 use Rattle.l4_record.specs.Replays.{FailsAt}
 use Rattle.l4_saved.specs.declared.following.HistoryFault.{HistoryFault}
 use Rattle.l4_saved.specs.declared.following.HistoryFault.TheVariants.{Memory, Write, NotNext, OtherAnswer}
 
+-- a step that the environment takes, which is never the next one
 abbrev pub IsStart : Step → Type 0
 IsStart (Start n call) = ⊤
 IsStart (Transfer s r) = ⊥
 IsStart (Expire n) = ⊥
+IsStart (Cancel n cause) = ⊤
 
 -- no step is enabled, or the next step is another one
 abbrev pub IsNotNext : Machine → Step → Type 0
@@ -24,6 +26,7 @@ abbrev pub IsNotSeated : Machine → Option ℕ → ℕ → Step → Type 0
 IsNotSeated m last seat (Start n call) = seat ≢ n
 IsNotSeated m last seat (Transfer s r) = (last ≢ Some seat) ⊎ IsNotNext m (Transfer s r)
 IsNotSeated m last seat (Expire n) = (last ≢ Some seat) ⊎ IsNotNext m (Expire n)
+IsNotSeated m last seat (Cancel n cause) = seat ≢ 0
 
 -- the seat of the last entry
 abbrev pub seat_after : Option ℕ → List Entry → Option ℕ

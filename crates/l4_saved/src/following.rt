@@ -16,7 +16,8 @@ pub enum HistoryFault {
     Memory,
     /// A write failed.
     Write,
-    /// The entry with this number neither starts a call of the thread of its seat, nor is the next step of the kernel.
+    /// The entry with this number neither starts a call of the thread of its seat, nor cancels a wait with seat 0, nor is the next step of
+    /// the kernel.
     NotNext(usize),
     /// The kernel gives the step of the entry with this number another answer than the entry has.
     OtherAnswer(usize),
@@ -37,6 +38,7 @@ fn is_same(step: &Step, other: &Step) -> bool
             Step::Expire(waiter) => *number == *waiter,
             _ => false,
         },
+        Step::Cancel(_, _) => false,
     }
 }
 
@@ -61,13 +63,15 @@ fn has_seat(last: Option<u32>, seat: u32) -> bool
     }
 }
 
-/// Returns whether the entry starts a call of the thread of its seat, or is the next step, with the seat of the entry before it.
+/// Returns whether the entry starts a call of the thread of its seat, cancels a wait and has seat 0, or is the next step, with the seat of
+/// the entry before it.
 fn is_seated(kernel: &Kernel, last: Option<u32>, entry: &Entry) -> bool
     ensures yes { result ≡ true → IsSeated kernel.now last entry.now.seat entry.now.step }
     ensures no { result ≡ false → IsNotSeated kernel.now last entry.now.seat entry.now.step }
 {
     match &entry.step {
         Step::Start(number, _) => entry.seat == *number,
+        Step::Cancel(_, _) => entry.seat == 0,
         Step::Transfer(_, _) | Step::Expire(_) => {
             has_seat(last, entry.seat) && is_next(kernel, &entry.step)
         }
