@@ -15,7 +15,7 @@ use Rattle.l4_commands.specs.Requests.{Unread, asked_at, names_after}
 use Rattle.l4_commands.specs.declared.line_kinds.LineKind.{LineKind}
 use Rattle.l4_commands.specs.declared.line_kinds.LineKind.TheVariants.{Silent, Unread as CannotRead, OfThread, Creates, Names as GivesName, Query, Steps, Unordered, Finally}
 use Rattle.l4_commands.specs.declared.requests.Request.{Request}
-use Rattle.l4_commands.specs.declared.requests.Request.TheVariants.{Enter, CreateThread, EndThread, SendPlan, ListPages, TellParent, AddRegion, ServeThread, GiveName, TellReply, TellSteps, BeginUnordered, BeginFinally, StateRule}
+use Rattle.l4_commands.specs.declared.requests.Request.TheVariants.{Enter, CreateThread, EndThread, SendPlan, ListPages, TellParent, AddRegion, ServeThread, GiveName, TellReply, CancelWait, TellSteps, BeginUnordered, BeginFinally, StateRule}
 use Rattle.l4_shell.specs.Sessions.{State, Session, ListsPages, Shows, place_reports, parent_answer, reply_answer, AnswersLine}
 use Rattle.l4_sinks.specs.Texts.{AreAnswerTexts}
 use Rattle.l4_orders.specs.declared.plans.PlanLine.{PlanLine}
@@ -75,6 +75,7 @@ one_query s t line (Ok (Some (TellParent thread page))) told other new also asks
 one_query s t line (Ok (Some (AddRegion thread entry))) told other new also asks same x y = absurd asks
 one_query s t line (Ok (Some (ServeThread thread))) told other new also asks same x y = absurd asks
 one_query s t line (Ok (Some (GiveName name thread))) told other new also asks same x y = absurd asks
+one_query s t line (Ok (Some (CancelWait thread cause))) told other new also asks same x y = absurd asks
 one_query s t line (Ok (Some (TellReply thread))) told other new also asks same x y = record {
   answers = x.0.0 ∙ ap (λ (m : Machine). reply_answer m line thread ∷ []) same ∙ sym y.0.0;
   first = (x.0.1, x.1);

@@ -5,8 +5,8 @@ use Rattle.std.specs.Prelude.{Contains, IsErrAnd, MatchResult}
 use Rattle.std.specs.Option.{option_to_list}
 use Rattle.std.proofs.lemmas.List.{take_more, take-append-drop}
 use Rattle.l4_fpage.specs.declared.sizes.PageSize.{PageSize}
-use Rattle.l4_ipc.specs.declared.steps.Outcome.TheVariants.{Started, Done, NoWindow, Entangled, NoMemory, Expired}
-use Rattle.l4_answers.specs.Reports.{Report, RefusedLine, UnreadLine, RefusedAct, Transferred, TimedOut, Waits, Ended, NoneEnded, Page, Shown, Parent, AddedRegion, Named, StepCount}
+use Rattle.l4_ipc.specs.declared.steps.Outcome.TheVariants.{Started, Done, NoWindow, Entangled, NoMemory, Expired, Canceled as ByCancel}
+use Rattle.l4_answers.specs.Reports.{Report, RefusedLine, UnreadLine, RefusedAct, Transferred, TimedOut, Canceled, Waits, Ended, NoneEnded, Page, Shown, Parent, AddedRegion, Named, StepCount}
 use Rattle.l4_text.specs.declared.lines.Ending.TheVariants.{Whole}
 use Rattle.l4_commands.specs.Requests.{asked_at}
 use Rattle.l4_shell.specs.ByLines.{state_of, IsFirst}
@@ -57,7 +57,9 @@ full_report (Transferred sender receiver NoWindow) h = absurd (no_history Nothin
 full_report (Transferred sender receiver Entangled) h = absurd (no_history Nothing h)
 full_report (Transferred sender receiver NoMemory) h = absurd (no_history Memory h)
 full_report (Transferred sender receiver Expired) h = absurd (no_history Nothing h)
+full_report (Transferred sender receiver ByCancel) h = absurd (no_history Nothing h)
 full_report (TimedOut n) h = absurd (no_history Nothing h)
+full_report (Canceled n cause) h = absurd (no_history Nothing h)
 full_report (Waits n) h = absurd (no_history Nothing h)
 full_report (Ended n reply) h = absurd (no_history Nothing h)
 full_report (NoneEnded n) h = absurd (no_history Nothing h)

@@ -1,7 +1,7 @@
 -- The sink that notes the first lack, and what it says of the answers.
 use Rattle.std.proofs.Common.{◌≡◌, ℕ, Bool, true, false, ◌||◌, if◌then◌else◌, List, [], ◌∷◌, ◌++◌, codes, bytes_eq, refl, sym, ap, subst, ◌∙◌}
-use Rattle.l4_ipc.specs.declared.steps.Outcome.TheVariants.{Started, Done, NoWindow, Entangled, NoMemory, Expired}
-use Rattle.l4_answers.specs.Reports.{Report, RefusedLine, UnreadLine, RefusedAct, Transferred, TimedOut, Waits, Ended, NoneEnded, Page, Shown, Parent, AddedRegion, Named, StepCount}
+use Rattle.l4_ipc.specs.declared.steps.Outcome.TheVariants.{Started, Done, NoWindow, Entangled, NoMemory, Expired, Canceled as ByCancel}
+use Rattle.l4_answers.specs.Reports.{Report, RefusedLine, UnreadLine, RefusedAct, Transferred, TimedOut, Canceled, Waits, Ended, NoneEnded, Page, Shown, Parent, AddedRegion, Named, StepCount}
 use Rattle.l4_shell.specs.Lacking.{lacks, lacks_by_code, LacksNothing}
 use Rattle.l4_orders.specs.declared.lacking.Lack.{Lack}
 use Rattle.l4_orders.specs.declared.lacking.Lack.TheVariants.{Nothing, Memory, History}
@@ -52,7 +52,9 @@ quiet_report (Transferred sender receiver NoWindow) h = refl
 quiet_report (Transferred sender receiver Entangled) h = refl
 quiet_report (Transferred sender receiver NoMemory) h = absurd (is_nothing Memory h)
 quiet_report (Transferred sender receiver Expired) h = refl
+quiet_report (Transferred sender receiver ByCancel) h = refl
 quiet_report (TimedOut n) h = refl
+quiet_report (Canceled n cause) h = refl
 quiet_report (Waits n) h = refl
 quiet_report (Ended n reply) h = refl
 quiet_report (NoneEnded n) h = refl

@@ -1,5 +1,5 @@
 -- What a file says as a plan (this profile's own).
-use Rattle.std.specs.Prelude.{◌≡◌, ℕ, ◌+◌, ◌==◌, ◌||◌, Bool, true, if◌then◌else◌, is_some, Option, Some, None, List, [], ◌∷◌, ◌++◌, map, Result, Ok, Err}
+use Rattle.std.specs.Prelude.{◌≡◌, ℕ, ◌+◌, ◌==◌, ◌||◌, Bool, true, if◌then◌else◌, is_some, Option, Some, None, List, [], ◌∷◌, ◌++◌, map, Result, Ok, Err, ◌&&◌, false, not}
 use Rattle.std.specs.List.{list_any}
 use Rattle.std.specs.Option.{option_map_or}
 use Rattle.l4_fpage.specs.declared.sizes.PageSize.{PageSize}
@@ -16,7 +16,7 @@ use Rattle.l4_commands.specs.declared.requests.Request.{Request}
 use Rattle.l4_commands.specs.declared.requests.Request.TheVariants.{GiveName}
 use Rattle.l4_expectations.specs.Expectations.{is_marked}
 use Rattle.l4_commands.specs.declared.line_kinds.LineKind.{LineKind}
-use Rattle.l4_commands.specs.declared.line_kinds.LineKind.TheVariants.{Silent, Unread, OfThread, Creates, Names as GivesName, Query, Steps, Unordered, Finally}
+use Rattle.l4_commands.specs.declared.line_kinds.LineKind.TheVariants.{Silent, Unread, OfThread, Cancels, Creates, Names as GivesName, Query, Steps, Unordered, Finally}
 use Rattle.l4_orders.specs.declared.plans.Block.{Block}
 use Rattle.l4_orders.specs.declared.plans.Plan.{Plan}
 use Rattle.l4_orders.specs.declared.plans.PlanLine.{PlanLine}
@@ -30,8 +30,10 @@ pub record Line : Type 0 where
   pub number : ℕ
   pub bytes : List ℕ
 
+-- `cancels` says that the lines cancel waits of the thread
 pub record Group : Type 0 where
   pub thread : ℕ
+  pub cancels : Bool
   pub lines : List Line
 
 -- the parts so far, the part that the next line is in, the threads that the lines create, and the names that they give
@@ -48,21 +50,26 @@ no_parts = record { first = []; groups = []; queries = []; part = First; created
 
 -- ONE LINE
 
--- the line is the last one of its thread
-abbrev pub with_line : List Group → ℕ → Line → List Group
-with_line [] thread line = record { thread = thread; lines = line ∷ [] } ∷ []
-with_line (group ∷ groups) thread line =
-    if group.thread == thread then (record { thread = group.thread; lines = group.lines ++ line ∷ [] } ∷ groups) else (group ∷ with_line groups thread line)
+abbrev pub is_same : Bool → Bool → Bool
+is_same true b = b
+is_same false b = not b
+
+-- the line is the last one of its thread, or of those that cancel waits of the thread
+abbrev pub with_line : List Group → ℕ → Bool → Line → List Group
+with_line [] thread cancels line = record { thread = thread; cancels = cancels; lines = line ∷ [] } ∷ []
+with_line (group ∷ groups) thread cancels line =
+    if (group.thread == thread) && is_same group.cancels cancels then (record { thread = group.thread; cancels = group.cancels; lines = group.lines ++ line ∷ [] } ∷ groups)
+    else (group ∷ with_line groups thread cancels line)
 
 -- the line is the last one of the beginning
 abbrev pub with_first : Parts → Line → Parts
 with_first p line = record p { first = p.first ++ line ∷ [] }
 
 -- a line of a thread: before `unordered` it keeps its place, and from there on its place among the lines of its thread
-abbrev pub add_call : Part → Parts → ℕ → Line → Result Parts LineFault
-add_call First p thread line = Ok (with_first p line)
-add_call Free p thread line = Ok (record p { groups = with_line p.groups thread line })
-add_call Last p thread line = Err NoQuery
+abbrev pub add_call : Part → Parts → ℕ → Bool → Line → Result Parts LineFault
+add_call First p thread cancels line = Ok (with_first p line)
+add_call Free p thread cancels line = Ok (record p { groups = with_line p.groups thread cancels line })
+add_call Last p thread cancels line = Err NoQuery
 
 -- a line that gives a name is allowed only before `unordered`
 abbrev pub add_naming : Part → Parts → Line → Result Parts LineFault
@@ -91,8 +98,9 @@ begin_last Last p = Err Repeated
 abbrev pub add_line : LineKind → Parts → Line → Result Parts LineFault
 add_line Silent p line = Ok p
 add_line Unread p line = Err NotRead
-add_line (OfThread thread) p line = add_call p.part p thread line
-add_line (Creates number) p line = add_call p.part (record p { created = p.created ++ number ∷ [] }) root line
+add_line (OfThread thread) p line = add_call p.part p thread false line
+add_line (Cancels thread) p line = add_call p.part p thread true line
+add_line (Creates number) p line = add_call p.part (record p { created = p.created ++ number ∷ [] }) root false line
 add_line GivesName p line = add_naming p.part p line
 add_line Query p line = add_query p.part p line
 add_line Steps p line = Err AsksSteps
@@ -167,7 +175,7 @@ abbrev pub lines_in : List PlanLine → List Line
 lines_in lines = map line_in lines
 
 abbrev pub group_in : Block → Group
-group_in block = record { thread = block.thread; lines = lines_in block.lines.items }
+group_in block = record { thread = block.thread; cancels = block.cancels; lines = lines_in block.lines.items }
 
 abbrev pub groups_in : List Block → List Group
 groups_in blocks = map group_in blocks

@@ -1,8 +1,8 @@
 -- Turns of threads, whose lines a script answers (this profile's own).
-use Rattle.std.specs.Prelude.{◌≡◌, ℕ, ◌+◌, ◌-◌, Bool, false, List, [], ◌∷◌, ◌++◌, length, slice_get, Some, None, codes, decimal, refl}
+use Rattle.std.specs.Prelude.{◌≡◌, ℕ, ◌+◌, ◌-◌, Bool, true, false, not, if◌then◌else◌, List, [], ◌∷◌, ◌++◌, length, slice_get, Some, None, codes, decimal, refl}
 use Rattle.std.specs.Coded.{Coded, code_by, coded×, coded_ℕ, coded_list}
 use Rattle.std.specs.Option.{option_map_or}
-use Rattle.l4_threads.specs.Threads.{runs}
+use Rattle.l4_threads.specs.Threads.{Threads, state_of, is_running, runs}
 use Rattle.l4_threads.specs.declared.Thread.{Thread}
 use Rattle.l4_ipc.specs.Machine.{Machine, machine_code}
 use Rattle.l4_servers.specs.Servers.{Servers, servers_code}
@@ -18,7 +18,7 @@ use Rattle.l4_sinks.specs.Texts.{AreAnswerTexts}
 use Rattle.l4_orders.specs.declared.plans.Block.{Block}
 use Rattle.l4_orders.specs.declared.plans.Plan.{Plan}
 use Rattle.l4_orders.specs.declared.plans.PlanLine.{PlanLine}
-use Rattle.l4_orders.specs.Plans.{line_at, next_of, gone_with}
+use Rattle.l4_orders.specs.Plans.{line_at, next_of, cancels_at, gone_with}
 
 -- STATES
 
@@ -74,9 +74,15 @@ AnswersInTurn old number (line ∷ lines) told new =
 
 -- TURNS
 
--- the thread at this place has a line left, and runs
+-- a line of this thread can be executed: the thread runs, or it waits, if the line cancels its wait
+abbrev pub is_ready : Threads → Bool → ℕ → Bool
+is_ready t true n = option_map_or (λ state. not (is_running state)) (state_of t n) false
+is_ready t false n = runs t n
+
+-- the thread at this place has a line left that can be executed
 abbrev pub may_turn : PlanPoint → ℕ → Bool
-may_turn p place = option_map_or (λ next. runs p.machine.threads next.0) (next_of p.plan.blocks.items p.gone place) false
+may_turn p place =
+    option_map_or (λ next. is_ready p.machine.threads (cancels_at p.plan.blocks.items place) next.0) (next_of p.plan.blocks.items p.gone place) false
 
 -- the number of the next line of the thread at this place
 abbrev pub next_line : PlanPoint → ℕ → ℕ
@@ -108,9 +114,10 @@ turns_left p = left_in p.plan.blocks.items p.gone
 abbrev pub stuck_text : ℕ → ℕ → List ℕ
 stuck_text thread line = codes "stuck " ++ decimal thread ++ codes " " ++ decimal line ++ codes "\n"
 
--- if the thread of this block has lines left, it is stuck before the first of them
+-- If the thread of this block has lines left, it is stuck before the first of them. A line that cancels a wait is left if the thread does not
+-- wait, and nothing is stuck.
 abbrev pub stuck_line : Block → ℕ → List ℕ
-stuck_line block count = option_map_or (λ line. stuck_text block.thread line.number) (slice_get block.lines.items count) []
+stuck_line block count = if block.cancels then [] else option_map_or (λ line. stuck_text block.thread line.number) (slice_get block.lines.items count) []
 
 abbrev pub stuck_lines : List Block → List ℕ → List ℕ
 stuck_lines [] gone = []

@@ -6,7 +6,7 @@ ghost use Rattle.l4_orders.specs.Inside.Lacking.{lack_of, lack_of_code, then_lac
 
 use l4_answers::{Code, Sink};
 use l4_fpage::PageSize;
-use l4_ipc::Outcome;
+use l4_ipc::{CancelCause, Outcome};
 use l4_mapdb::Mapping;
 use l4_names::Names;
 use l4_text::{LineReader, RunFault};
@@ -108,6 +108,8 @@ impl Sink for Lacking {
     }
 
     fn expire(&mut self, number: u32) {}
+
+    fn cancel(&mut self, number: u32, cause: CancelCause) {}
 
     fn waits(&mut self, number: u32) {}
 

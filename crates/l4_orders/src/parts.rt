@@ -89,11 +89,13 @@ pub(crate) fn add(lines: &mut Vec<PlanLine>, line: PlanLine) -> Result<(), PlanF
     Ok(())
 }
 
-/// Returns the place of a thread's block.
-fn place_of(blocks: &[Block], thread: u32) -> Option<usize>
-    ensures { result ≡ position (is_of thread) blocks.now }
+/// Returns the place of a thread's block, or of the block that cancels its waits.
+fn place_of(blocks: &[Block], thread: u32, cancels: bool) -> Option<usize>
+    ensures { result ≡ position (is_of thread cancels) blocks.now }
 {
-    blocks.iter().position(|block| block.thread == thread)
+    blocks
+        .iter()
+        .position(|block| block.thread == thread && block.cancels == cancels)
 }
 
 /// Adds a block with one line.
@@ -101,11 +103,12 @@ fn add_block(
     alloc: Global,
     blocks: &mut Vec<Block>,
     thread: u32,
+    cancels: bool,
     line: PlanLine,
 ) -> Result<(), PlanFault>
     ensures ok { OnOk result (groups_in blocks.new.items
         ≡ groups_in blocks.old.items
-        ++ record { thread = thread; lines = line_in line ∷ [] } ∷ []) }
+        ++ record { thread = thread; cancels = cancels; lines = line_in line ∷ [] } ∷ []) }
     ensures err { IfErr result (λ e. e ≡ Stopped Memory) }
 {
     let mut lines = Vec::new(alloc);
@@ -116,7 +119,11 @@ fn add_block(
     if blocks.reserve(1).is_err() {
         return Err(PlanFault::Stopped(RunFault::Memory));
     }
-    blocks.push_reserved(Block { thread, lines });
+    blocks.push_reserved(Block {
+        thread,
+        cancels,
+        lines,
+    });
     Ok(())
 }
 
@@ -125,14 +132,15 @@ fn add_to_block(
     alloc: Global,
     blocks: &mut Vec<Block>,
     thread: u32,
+    cancels: bool,
     line: PlanLine,
 ) -> Result<(), PlanFault>
     ensures ok { OnOk result (groups_in blocks.new.items
-        ≡ with_line (groups_in blocks.old.items) thread (line_in line)) }
+        ≡ with_line (groups_in blocks.old.items) thread cancels (line_in line)) }
     ensures err { IfErr result (λ e. e ≡ Stopped Memory) }
 {
-    let Some(place) = place_of(blocks.as_slice(), thread) else {
-        return add_block(alloc, blocks, thread, line);
+    let Some(place) = place_of(blocks.as_slice(), thread, cancels) else {
+        return add_block(alloc, blocks, thread, cancels, line);
     };
     add(&mut blocks.as_mut_slice()[place].lines, line)
 }
@@ -195,16 +203,22 @@ impl Reading {
         }
     }
 
-    /// Adds a line of a thread.
-    fn add_call(&mut self, thread: u32, line: PlanLine) -> Result<(), PlanFault>
+    /// Adds a line of a thread, or one that cancels a wait of the thread.
+    fn add_call(&mut self, thread: u32, cancels: bool, line: PlanLine) -> Result<(), PlanFault>
         ensures { Takes
-            (add_call self.old.part (parts_of self.old) thread (line_in line))
+            (add_call self.old.part (parts_of self.old) thread cancels (line_in line))
             (parts_of self.new) line.number result }
     {
         let number = line.number;
         match self.part {
             Part::First => add(&mut self.plan.first, line),
-            Part::Unordered => add_to_block(self.alloc, &mut self.plan.blocks, thread, line),
+            Part::Unordered => add_to_block(
+                self.alloc,
+                &mut self.plan.blocks,
+                thread,
+                cancels,
+                line,
+            ),
             Part::Finally => Err(PlanFault::Malformed(number, LineFault::NoQuery)),
         }
     }
@@ -279,7 +293,7 @@ impl Reading {
             return Err(PlanFault::Stopped(RunFault::Memory));
         }
         self.created.push_reserved(created);
-        self.add_call(ROOT, line)
+        self.add_call(ROOT, false, line)
     }
 
     /// Adds a line of this kind.
@@ -292,7 +306,8 @@ impl Reading {
         match kind {
             LineKind::Silent => Ok(()),
             LineKind::Unread => Err(PlanFault::Malformed(number, LineFault::Unread)),
-            LineKind::OfThread(thread) => self.add_call(thread, line),
+            LineKind::OfThread(thread) => self.add_call(thread, false, line),
+            LineKind::Cancels(thread) => self.add_call(thread, true, line),
             LineKind::Creates(created) => self.add_creation(created, line),
             LineKind::Names => self.add_naming(line),
             LineKind::Query => self.add_query(line),

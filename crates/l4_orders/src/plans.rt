@@ -1,7 +1,7 @@
 //! Litmus tests: the parts of a file.
 ghost use Rattle.std.specs.Prelude.{◌≡◌, IfOk, OnOk, option_map, slice_get};
 ghost use Rattle.std.specs.Option.{option_copied};
-ghost use Rattle.l4_orders.specs.Plans.{line_at, next_of, gone_with, none_gone};
+ghost use Rattle.l4_orders.specs.Plans.{line_at, next_of, cancels_at, gone_with, none_gone};
 
 use l4_names::Names;
 use std::alloc::{AllocError, Global};
@@ -13,10 +13,13 @@ pub struct PlanLine {
     pub bytes: Vec<u8>,
 }
 
-/// The lines of a thread, in their order.
+/// The lines of a thread, in their order, or the lines that cancel its waits.
 #[derive(Drop)]
 pub struct Block {
     pub thread: u32,
+    /// Whether the lines cancel waits of the thread. Each can be executed when the thread waits. Otherwise the thread executes them, each
+    /// when it runs.
+    pub cancels: bool,
     pub lines: Vec<PlanLine>,
 }
 
@@ -68,6 +71,16 @@ impl Plan {
         let count = gone.get(place)?;
         let block = self.blocks.get(place)?;
         block.lines.get(*count)
+    }
+
+    /// Returns whether the lines at a place cancel waits.
+    pub(crate) fn cancels(&self, place: usize) -> bool
+        ensures { result ≡ cancels_at self.now.blocks.items place }
+    {
+        match self.blocks.get(place) {
+            Some(block) => block.cancels,
+            None => false,
+        }
     }
 
     /// Returns the thread at a place, and its next line, where the threads have executed this many lines each.
