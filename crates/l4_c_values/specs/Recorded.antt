@@ -6,7 +6,7 @@ use Rattle.l4_ipc.specs.declared.calls.Call.TheVariants.{Ipc, Fault, Unmap, Cont
 use Rattle.l4_ipc.specs.declared.calls.Control.TheVariants.{Create, SetPager, Delete}
 use Rattle.l4_ipc.specs.declared.steps.Answer.{Answer}
 use Rattle.l4_ipc.specs.declared.steps.Step.{Step}
-use Rattle.l4_ipc.specs.declared.steps.Step.TheVariants.{Start, Transfer, Expire}
+use Rattle.l4_ipc.specs.declared.steps.Step.TheVariants.{Start, Transfer, Expire, Cancel}
 use Rattle.l4_record.specs.declared.entries.Entry.{Entry}
 use Rattle.l4_lock.specs.Books.{SeatState, Book, starts}
 use Rattle.l4_lock.specs.declared.entries.Receipt.{Receipt}
@@ -25,6 +25,8 @@ use Rattle.l4_c_values.specs.declared.recorded.EntryResult.{EntryResult}
 use Rattle.l4_c_values.specs.declared.recorded.ReceiptResult.{ReceiptResult}
 use Rattle.l4_c_values.specs.declared.recorded.SeatResult.{SeatResult}
 use Rattle.l4_c_values.specs.declared.recorded.SeatedResult.{SeatedResult}
+use Rattle.l4_ipc.specs.declared.steps.CancelCause.{CancelCause}
+use Rattle.l4_ipc.specs.declared.steps.CancelCause.TheVariants.{Timeout, Canceled}
 
 -- the number of a refusal of the lock; and the number that it carries, or 0
 abbrev pub lock_code : LockRefusal → ℕ
@@ -115,10 +117,16 @@ entry_with e kind thread receiver call words = record {
   call = call;
 }
 
+-- the kind of an entry in which a wait was canceled
+abbrev pub cause_kind : CancelCause → ℕ
+cause_kind Timeout = 4
+cause_kind Canceled = 5
+
 abbrev pub entry_of_step : Entry → Step → EntryResult
 entry_of_step e (Start n call) = entry_with e 3 n 0 (given_of call) (words_of call)
 entry_of_step e (Transfer sender receiver) = entry_with e 1 sender receiver (no_call 0) []
 entry_of_step e (Expire n) = entry_with e 2 n 0 (no_call 0) []
+entry_of_step e (Cancel n cause) = entry_with e (cause_kind cause) n 0 (no_call 0) []
 
 -- no entry; the code is a refusal, or 0
 abbrev pub no_entry_result : ℕ → EntryResult

@@ -3,9 +3,9 @@ use Rattle.std.specs.Prelude.{ℕ, ◌-◌, List, [], ◌++◌, length, min, rep
 use Rattle.l4_ipc.specs.declared.steps.Refused.{Refused}
 use Rattle.l4_ipc.specs.declared.steps.Answer.{Answer}
 use Rattle.l4_ipc.specs.declared.steps.Step.{Step}
-use Rattle.l4_ipc.specs.declared.steps.Step.TheVariants.{Start, Transfer, Expire}
+use Rattle.l4_ipc.specs.declared.steps.Step.TheVariants.{Start, Transfer, Expire, Cancel}
 use Rattle.l4_ipc.specs.declared.steps.Outcome.{Outcome}
-use Rattle.l4_ipc.specs.declared.steps.Outcome.TheVariants.{Started, Done, NoWindow, Entangled, NoMemory, Expired}
+use Rattle.l4_ipc.specs.declared.steps.Outcome.TheVariants.{Started, Done, NoWindow, Entangled, NoMemory, Expired, Canceled}
 use Rattle.l4_answers.specs.Refusals.{kernel_refusal}
 use Rattle.l4_refusals.specs.Texts.{spelled}
 use Rattle.l4_c_values.specs.declared.results.StepResult.{StepResult}
@@ -32,6 +32,7 @@ outcome_number NoWindow = 3
 outcome_number Entangled = 4
 outcome_number NoMemory = 5
 outcome_number Expired = 6
+outcome_number Canceled = 7
 
 -- a refusal, without an outcome
 abbrev pub refusal_result : ℕ → ℕ → StepResult
@@ -57,16 +58,19 @@ abbrev pub kind_of : Step → ℕ
 kind_of (Start n call) = 0
 kind_of (Transfer sender receiver) = 1
 kind_of (Expire n) = 2
+kind_of (Cancel n cause) = 0
 
 abbrev pub thread_of : Step → ℕ
 thread_of (Start n call) = 0
 thread_of (Transfer sender receiver) = sender
 thread_of (Expire n) = n
+thread_of (Cancel n cause) = 0
 
 abbrev pub receiver_of : Step → ℕ
 receiver_of (Start n call) = 0
 receiver_of (Transfer sender receiver) = receiver
 receiver_of (Expire n) = 0
+receiver_of (Cancel n cause) = 0
 
 -- no next step; the code is a refusal, or 0
 abbrev pub no_step_result : ℕ → NextResult

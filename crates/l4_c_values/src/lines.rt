@@ -196,6 +196,16 @@ pub fn step_line(given: &NextResult) -> Text
         text.add(b"expire ");
         text.add_number(u64::from(given.thread));
         text
+    } else if given.kind == 4 {
+        let mut text = Text::new();
+        text.add(b"timeout ");
+        text.add_number(u64::from(given.thread));
+        text
+    } else if given.kind == 5 {
+        let mut text = Text::new();
+        text.add(b"cancel ");
+        text.add_number(u64::from(given.thread));
+        text
     } else {
         Text::new()
     }

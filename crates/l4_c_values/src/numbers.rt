@@ -56,6 +56,7 @@ pub fn outcome_number(outcome: Outcome) -> u32
         Outcome::Entangled => 4,
         Outcome::NoMemory => 5,
         Outcome::Expired => 6,
+        Outcome::Canceled => 7,
     }
 }
 

@@ -1,13 +1,13 @@
 //! The results of a locked kernel.
 ghost use Rattle.std.specs.Prelude.{◌≡◌, ◌≤◌, [], length, None, Some};
 ghost use Rattle.l4_ipc.specs.declared.calls.Call.TheVariants.{Control as Controls};
-ghost use Rattle.l4_c_values.specs.Recorded.{lock_code, lock_carries, mismatch_code, mismatch_seat, unseated_result, entered_result, no_call, given_of, words_of, entry_with, no_entry_result, entry_result, no_receipt_result, receipt_result, no_seat_result, seat_result};
+ghost use Rattle.l4_c_values.specs.Recorded.{lock_code, lock_carries, mismatch_code, mismatch_seat, unseated_result, entered_result, no_call, given_of, words_of, cause_kind, entry_with, no_entry_result, entry_result, no_receipt_result, receipt_result, no_seat_result, seat_result};
 
 use crate::calls::CallGiven;
 use crate::messages::{no_reply, reply_told};
 use crate::numbers::{NO_MEMORY, kernel_detail, kernel_number, outcome_number};
 use crate::results::{ReplyResult, padded};
-use l4_ipc::{Call, Control, IpcCall, MAX_THREADS, MAX_WORDS, Step};
+use l4_ipc::{Call, CancelCause, Control, IpcCall, MAX_THREADS, MAX_WORDS, Step};
 use l4_lock::{Entered, Entry, LockRefusal, Mismatch, Receipt, Seat};
 
 /// A call that a seat entered, or the reason why it was refused.
@@ -264,6 +264,16 @@ pub fn no_entry(refusal: u32) -> EntryResult
     }
 }
 
+/// Returns the kind of a Cancel with this cause.
+fn cause_kind(cause: CancelCause) -> u32
+    ensures { result ≡ cause_kind cause }
+{
+    match cause {
+        CancelCause::Timeout => 4,
+        CancelCause::Canceled => 5,
+    }
+}
+
 /// Returns the result for an entry of the history.
 pub fn entry_told(entry: &Entry) -> EntryResult
     ensures { result ≡ entry_result (Some entry.now) }
@@ -274,6 +284,9 @@ pub fn entry_told(entry: &Entry) -> EntryResult
             entry_with(entry, 1, *sender, *receiver, no_call(0), &[])
         }
         Step::Expire(number) => entry_with(entry, 2, *number, 0, no_call(0), &[]),
+        Step::Cancel(number, cause) => {
+            entry_with(entry, cause_kind(*cause), *number, 0, no_call(0), &[])
+        }
     }
 }
 

@@ -162,6 +162,7 @@ pub fn step_told(step: &Step) -> NextResult
             told.thread = *thread;
         }
         Step::Start(_, _) => {}
+        Step::Cancel(_, _) => {}
     }
     told
 }
