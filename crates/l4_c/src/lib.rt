@@ -32,6 +32,8 @@ pub use planning::{
     PartResult, PlanResult, l4_plan_message, l4_plan_message_sized, l4_plan_pages,
     l4_plan_pages_sized, l4_plan_region, l4_plan_region_sized,
 };
-pub use stepping::{l4_enabled, l4_enter, l4_expire, l4_next, l4_start, l4_transfer};
+pub use stepping::{
+    l4_cancel, l4_enabled, l4_enter, l4_expire, l4_next, l4_start, l4_timeout, l4_transfer,
+};
 pub use texts::{l4_refusal_code, l4_refusal_text, l4_reply_text, l4_step_text, l4_version};
 pub use watching::{l4_execute, l4_judge};

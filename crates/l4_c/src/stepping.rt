@@ -1,7 +1,8 @@
 //! Executes steps, and enters calls: starts a call, and then executes the steps that follow.
 
 ghost use Rattle.std.specs.Prelude.{◌≡◌, None, Some, ◌≤◌, ◌<◌, length, slice_set};
-ghost use Rattle.l4_ipc.specs.declared.steps.Step.TheVariants.{Start, Transfer, Expire};
+ghost use Rattle.l4_ipc.specs.declared.steps.Step.TheVariants.{Start, Transfer, Expire, Cancel};
+ghost use Rattle.l4_ipc.specs.declared.steps.CancelCause.TheVariants.{Timeout, Canceled};
 ghost use Rattle.l4_c.specs.Exports.{Answers, Starts, Names, GoesOn, Follows, Goes, Enters};
 ghost use Rattle.l4_ipc.specs.NextSteps.{step_of, answer_of};
 ghost use Rattle.l4_c_values.specs.Told.{done_result};
@@ -10,7 +11,9 @@ use l4_c_values::{
     CallGiven, EMPTY, EnterResult, KernelHandle, NO_SUCH_CALL, NextResult, StepResult, answered,
     done_told, kernel_detail, kernel_number, no_step, refused, step_told, told, write_call,
 };
-use l4_ipc::{Answer, ArrayVec, Call, IpcCall, Kernel, NextStep, Outcome, Step, ThreadId};
+use l4_ipc::{
+    Answer, ArrayVec, Call, CancelCause, IpcCall, Kernel, NextStep, Outcome, Step, ThreadId,
+};
 use std::alloc::Global;
 
 /// Executes a step of the handle's kernel. Refuses an empty handle (B1).
@@ -44,6 +47,22 @@ pub extern "C" fn l4_expire(alloc: Global, handle: &mut KernelHandle, thread: u3
     ensures { Answers handle.old.value (Expire thread) result handle.new.value }
 {
     step(alloc, handle, &Step::Expire(thread))
+}
+
+/// Ends the thread's wait, because its timeout has passed by the caller's clock. The refusals are B1 and K1, in this order.
+#[unsafe(no_mangle)]
+pub extern "C" fn l4_timeout(alloc: Global, handle: &mut KernelHandle, thread: u32) -> StepResult
+    ensures { Answers handle.old.value (Cancel thread Timeout) result handle.new.value }
+{
+    step(alloc, handle, &Step::Cancel(thread, CancelCause::Timeout))
+}
+
+/// Cancels the thread's wait. The refusals are B1 and K1, in this order.
+#[unsafe(no_mangle)]
+pub extern "C" fn l4_cancel(alloc: Global, handle: &mut KernelHandle, thread: u32) -> StepResult
+    ensures { Answers handle.old.value (Cancel thread Canceled) result handle.new.value }
+{
+    step(alloc, handle, &Step::Cancel(thread, CancelCause::Canceled))
 }
 
 /// Starts this call of a thread.

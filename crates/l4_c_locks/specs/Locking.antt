@@ -7,7 +7,7 @@ use Rattle.l4_ipc.specs.Machine.{IsBoot}
 use Rattle.l4_ipc.specs.declared.calls.Call.{Call}
 use Rattle.l4_lock.specs.Books.{book, book_at, reply_waits}
 use Rattle.l4_lock.specs.Closing.{Closes, Mismatches, by_history}
-use Rattle.l4_lock.specs.Locked.{Lock, Refuses}
+use Rattle.l4_lock.specs.Locked.{Lock, Refuses, Cancels, RefusesCancel}
 use Rattle.l4_lock.specs.declared.closing.Mismatch.{Mismatch}
 use Rattle.l4_lock.specs.declared.refusals.Entered.{Entered}
 use Rattle.l4_lock.specs.declared.refusals.LockRefusal.{LockRefusal}
@@ -25,6 +25,7 @@ use Rattle.l4_c_values.specs.declared.results.ReplyResult.{ReplyResult}
 use Rattle.l4_c_queries.specs.Recalled.{ListsEnded}
 use Rattle.l4_c_queries.specs.declared.descending.CountResult.{CountResult}
 use Rattle.l4_c_queries.specs.declared.tracing.Verdict.{Verdict}
+use Rattle.l4_ipc.specs.declared.steps.CancelCause.{CancelCause}
 
 -- An empty handle then holds a locked kernel in its boot state with pages of this size and without seats, unless the number of frames is
 -- not 1 to 4,096 (K6) or an allocation failed. A handle that is not empty is refused (B2) and unchanged.
@@ -115,3 +116,12 @@ ClosesLock (Some old) numbers r new =
     (Closes old (seats_back old.books numbers) × (r ≡ record { refusal = 0; detail = 0 }) × (new ≡ None))
     ⊎ ((m : Mismatch) × Mismatches (by_history old.history) old.books (seats_back old.books numbers) m
     × (r ≡ record { refusal = mismatch_code m; detail = mismatch_seat m }) × (new ≡ Some old))
+
+-- The wait of the thread is canceled, or the refusal has this number.
+abbrev pub CancelsIn : Lock → ℕ → CancelCause → ℕ → Lock → Type 0
+CancelsIn old n cause number new =
+    (Cancels old new n cause × (number ≡ 0)) ⊎ ((e : LockRefusal) × RefusesCancel old n cause e × (number ≡ lock_code e) × (new ≡ old))
+
+abbrev pub CancelsThread : Option Lock → ℕ → CancelCause → ℕ → Option Lock → Type 0
+CancelsThread None n cause number new = (number ≡ spelled (codes "B1")) × (new ≡ None)
+CancelsThread (Some old) n cause number new = (after : Lock) × CancelsIn old n cause number after × (new ≡ Some after)

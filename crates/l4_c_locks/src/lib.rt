@@ -7,9 +7,9 @@ mod sharing;
 mod tracing;
 
 pub use locking::{
-    l4_lock_close, l4_lock_ended, l4_lock_enter, l4_lock_entry, l4_lock_frames_of, l4_lock_free,
-    l4_lock_give, l4_lock_kept_from, l4_lock_length, l4_lock_new, l4_lock_new_sized,
-    l4_lock_receipt, l4_lock_seat_of, l4_lock_take,
+    l4_lock_cancel, l4_lock_close, l4_lock_ended, l4_lock_enter, l4_lock_entry, l4_lock_frames_of,
+    l4_lock_free, l4_lock_give, l4_lock_kept_from, l4_lock_length, l4_lock_new, l4_lock_new_sized,
+    l4_lock_receipt, l4_lock_seat_of, l4_lock_take, l4_lock_timeout,
 };
 pub use segments::{
     l4_lock_hand_out, l4_segment_bytes, l4_segment_entry, l4_segment_first, l4_segment_free,

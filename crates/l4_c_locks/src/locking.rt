@@ -3,7 +3,8 @@ ghost use Rattle.std.specs.Prelude.{◌≡◌, None, Some, codes};
 ghost use Rattle.l4_fpage.specs.declared.sizes.PageSize.TheVariants.{Kib4};
 ghost use Rattle.l4_refusals.specs.Texts.{spelled};
 ghost use Rattle.l4_c_values.specs.InBytes.{InBytes};
-ghost use Rattle.l4_c_locks.specs.Locking.{MakesLock, Gives, GivesSeat, EntersCall, EntersSeat, TakesReply, TakesSeat, TellsLength, TellsKeptFrom, TellsEntry, TellsEnded, TellsFrames, TellsSeat, TellsReceipt, ClosesLock};
+ghost use Rattle.l4_ipc.specs.declared.steps.CancelCause.TheVariants.{Timeout, Canceled};
+ghost use Rattle.l4_c_locks.specs.Locking.{MakesLock, Gives, GivesSeat, EntersCall, EntersSeat, CancelsThread, TakesReply, TakesSeat, TellsLength, TellsKeptFrom, TellsEntry, TellsEnded, TellsFrames, TellsSeat, TellsReceipt, ClosesLock};
 
 use l4_c_queries::{
     CountResult, Verdict, counted, ended_from, entry_of, receipt_of, refused_call, verdict_of,
@@ -13,7 +14,7 @@ use l4_c_values::{
     ReceiptResult, ReplyResult, SeatResult, SeatedResult, entered_told, lock_number, mismatch_told,
     no_entry, no_receipt, no_reply, no_seat, reply_told, seat_told, size_of, unseated, write_call,
 };
-use l4_ipc::{ArrayVec, Call, IpcCall, PageSize, ThreadId};
+use l4_ipc::{ArrayVec, Call, CancelCause, IpcCall, PageSize, ThreadId};
 use l4_seated_lock::SeatedLock;
 use std::alloc::Global;
 
@@ -132,6 +133,37 @@ pub extern "C" fn l4_lock_enter(
     let entered = enter(&mut lock, number, call, words);
     handle.put(lock);
     entered
+}
+
+/// Cancels the wait of a thread of the handle's lock, and returns the refusal, or 0.
+fn cancel(alloc: Global, handle: &mut LockHandle, thread: u32, cause: CancelCause) -> u32
+    ensures { CancelsThread handle.old.value thread cause result handle.new.value }
+{
+    let Some(mut lock) = handle.take(alloc) else {
+        return EMPTY;
+    };
+    let canceled = lock.cancel(thread, cause);
+    handle.put(lock);
+    match canceled {
+        Ok(()) => 0,
+        Err(refusal) => lock_number(refusal),
+    }
+}
+
+/// Ends the thread's wait, because its timeout has passed by the caller's clock. The refusals are B1, L1, NoMemory and K1, in this order.
+#[unsafe(no_mangle)]
+pub extern "C" fn l4_lock_timeout(alloc: Global, handle: &mut LockHandle, thread: u32) -> u32
+    ensures { CancelsThread handle.old.value thread Timeout result handle.new.value }
+{
+    cancel(alloc, handle, thread, CancelCause::Timeout)
+}
+
+/// Cancels the thread's wait. The refusals are B1, L1, NoMemory and K1, in this order.
+#[unsafe(no_mangle)]
+pub extern "C" fn l4_lock_cancel(alloc: Global, handle: &mut LockHandle, thread: u32) -> u32
+    ensures { CancelsThread handle.old.value thread Canceled result handle.new.value }
+{
+    cancel(alloc, handle, thread, CancelCause::Canceled)
 }
 
 /// Takes the reply of the seat's call that was left waiting and has since ended.
