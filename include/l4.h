@@ -150,7 +150,7 @@ uint32_t l4_version(void);
 #define L4_B5 UINT32_C(0x4235) /* the line is not a step or query of a step list */
 #define L4_B6 UINT32_C(0x4236) /* the bytes cannot be read as a checkpoint */
 #define L4_B7 UINT32_C(0x4237) /* a number of entries exceeds 2^63 */
-#define L4_K1 UINT32_C(0x4B31) /* the step is not enabled: this transfer or expiry cannot happen now */
+#define L4_K1 UINT32_C(0x4B31) /* the step is not enabled: this transfer or expiry cannot happen now, or the thread does not wait */
 #define L4_K2 UINT32_C(0x4B32) /* there is no thread with this number */
 #define L4_K3 UINT32_C(0x4B33) /* the thread's previous call has not ended yet */
 #define L4_K4 UINT32_C(0x4B34) /* a timeout is neither never (0) nor zero (0x400) */
@@ -350,6 +350,7 @@ typedef struct l4_call {
 #define L4_ENTANGLED UINT32_C(4)  /* a transfer: the message's items conflict; both calls failed */
 #define L4_WANTS_MEMORY UINT32_C(5) /* a transfer: an allocation failed; both calls failed, and no page moved */
 #define L4_EXPIRED UINT32_C(6)    /* a wait with a timeout of zero expired */
+#define L4_WAIT_ENDED UINT32_C(7) /* l4_timeout or l4_cancel ended a wait */
 
 /* The outcome of a step, and the numbers of the threads whose calls ended in it. After a transfer these are the sender and then the
  * receiver; after a Delete, the caller and then the others by rising number. */
@@ -373,6 +374,16 @@ l4_answer l4_transfer(l4_kernel *kernel, uint32_t sender, uint32_t receiver);
 
 /* Ends the thread's wait that has a timeout of zero. Refusals in this order: B1, K1. */
 l4_answer l4_expire(l4_kernel *kernel, uint32_t thread);
+
+/* Ends the thread's wait, whatever its timeouts are, also if a transfer of it is enabled. You call it when a timeout has passed by a clock of
+ * your own. The Ipc ends with ErrorCode 2 if the thread was sending, and 3 if it was receiving; a fault ends as L4_REPLY_FAILED with the
+ * same codes. A receive phase that would have followed a send phase does not begin. Refusals in this order: B1, K1 (the thread does not
+ * wait, or does not exist). */
+l4_answer l4_timeout(l4_kernel *kernel, uint32_t thread);
+
+/* Ends the thread's wait as l4_timeout does, but with ErrorCode 6 if the thread was sending, and 7 if it was receiving. ExchangeRegisters
+ * cancels an Ipc in this way. Refusals in this order: B1, K1. */
+l4_answer l4_cancel(l4_kernel *kernel, uint32_t thread);
 
 /* Kinds of enabled steps. */
 #define L4_NONE UINT32_C(0)
@@ -827,6 +838,11 @@ typedef struct l4_seated {
  * NoMemory, and then those of l4_start from K2 on. */
 l4_seated l4_lock_enter(l4_lock *lock, uint32_t seat, const l4_call *call, const uint32_t *words, size_t count);
 
+/* End the thread's wait as l4_timeout and l4_cancel do, and append this step to the history. The seat of the thread takes the reply by
+ * l4_lock_take. Return 0 or a refusal, in this order: B1, L1, NoMemory, K1. */
+uint32_t l4_lock_timeout(l4_lock *lock, uint32_t thread);
+uint32_t l4_lock_cancel(l4_lock *lock, uint32_t thread);
+
 /* Takes the reply of a call of the seat that was left waiting and has since ended. Each reply can be taken once; the kind is L4_NONE if
  * there is none. This call allocates no memory. Refusals: B1. */
 l4_reply l4_lock_take(l4_lock *lock, uint32_t seat);
@@ -839,10 +855,12 @@ l4_count l4_lock_kept_from(l4_lock *lock);
 
 /* One more kind of step: a call was started. */
 #define L4_START UINT32_C(3)
+#define L4_TIMEOUT UINT32_C(4) /* l4_lock_timeout ended a wait of thread; the entry has seat 0 */
+#define L4_CANCEL UINT32_C(5)  /* l4_lock_cancel ended a wait of thread; the entry has seat 0 */
 
 /* An entry of the history: a step with its outcome, the threads whose calls ended in it, and the seat whose call this step starts or
- * follows. The kind is L4_START (of thread), L4_TRANSFER (from thread to receiver), L4_EXPIRE (of thread), or L4_NONE beyond the end of the
- * history. For a start, call and words have the call as it can be entered again; for other kinds both are 0. */
+ * follows. The kind is L4_START (of thread), L4_TRANSFER (from thread to receiver), L4_EXPIRE, L4_TIMEOUT or L4_CANCEL (of thread), or
+ * L4_NONE beyond the end of the history. For a start, call and words have the call as it can be entered again; for other kinds both are 0. */
 typedef struct l4_entry {
     uint32_t refusal;
     uint32_t seat;
