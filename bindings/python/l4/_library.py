@@ -121,6 +121,7 @@ L4_NO_WINDOW = 3
 L4_ENTANGLED = 4
 L4_WANTS_MEMORY = 5
 L4_EXPIRED = 6
+L4_WAIT_ENDED = 7
 
 L4_NONE = 0
 L4_TRANSFER = 1
@@ -145,6 +146,8 @@ L4_DIFFERS = 2
 L4_NOT_ENABLED = 3
 
 L4_START = 3
+L4_TIMEOUT = 4
+L4_CANCEL = 5
 
 L4_ALL_ORDERS = 1
 L4_MOST_STATES = 2
@@ -407,6 +410,8 @@ FUNCTIONS: Dict[str, Tuple[Any, List[Any]]] = {
     "l4_start": (l4_answer, [KERNEL, c_uint32, POINTER(l4_call), WORDS, c_size_t]),
     "l4_transfer": (l4_answer, [KERNEL, c_uint32, c_uint32]),
     "l4_expire": (l4_answer, [KERNEL, c_uint32]),
+    "l4_timeout": (l4_answer, [KERNEL, c_uint32]),
+    "l4_cancel": (l4_answer, [KERNEL, c_uint32]),
     "l4_enabled": (l4_step, [KERNEL]),
     "l4_next": (l4_step, [KERNEL]),
     "l4_enter": (l4_entered, [KERNEL, c_uint32, POINTER(l4_call), WORDS, c_size_t, POINTER(l4_step), c_size_t]),
@@ -449,6 +454,8 @@ FUNCTIONS: Dict[str, Tuple[Any, List[Any]]] = {
     "l4_lock_free": (None, [LOCK]),
     "l4_lock_give": (c_uint32, [LOCK, c_uint32]),
     "l4_lock_enter": (l4_seated, [LOCK, c_uint32, POINTER(l4_call), WORDS, c_size_t]),
+    "l4_lock_timeout": (c_uint32, [LOCK, c_uint32]),
+    "l4_lock_cancel": (c_uint32, [LOCK, c_uint32]),
     "l4_lock_take": (l4_reply, [LOCK, c_uint32]),
     "l4_lock_length": (l4_count, [LOCK]),
     "l4_lock_kept_from": (l4_count, [LOCK]),

@@ -33,6 +33,8 @@ class Outcome(enum.Enum):
     WANTS_MEMORY = _library.L4_WANTS_MEMORY
     #: A wait with a timeout of zero expired.
     EXPIRED = _library.L4_EXPIRED
+    #: `Kernel.timeout` or `Kernel.cancel` ended a wait.
+    WAIT_ENDED = _library.L4_WAIT_ENDED
 
 
 @dataclass(frozen=True)
@@ -297,6 +299,16 @@ class Kernel(Handle, Queries):
     def expire(self, thread: int) -> Answer:
         """Ends the thread's wait with a timeout of zero. Raises Refused with K1 if the thread has no such wait."""
         return _answer(self._told(self._ask(library.l4_expire, number(thread, "a thread number"))))
+
+    def timeout(self, thread: int) -> Answer:
+        """Ends the thread's wait, whatever its timeouts are: you call it when a timeout has passed by a clock of your own. The call ends with
+        ErrorCode 2 if the thread was sending, and 3 if it was receiving. Raises Refused with K1 if the thread does not wait."""
+        return _answer(self._told(self._ask(library.l4_timeout, number(thread, "a thread number"))))
+
+    def cancel(self, thread: int) -> Answer:
+        """Cancels the thread's wait, as ExchangeRegisters does. The call ends with ErrorCode 6 if the thread was sending, and 7 if it was
+        receiving. Raises Refused with K1 if the thread does not wait."""
+        return _answer(self._told(self._ask(library.l4_cancel, number(thread, "a thread number"))))
 
     def enabled(self) -> Optional[Step]:
         """Returns the step that is executed next if no call is started, or None if no step is enabled.

@@ -23,6 +23,7 @@ _OUTCOMES = {
     Outcome.ENTANGLED: "entangled",
     Outcome.WANTS_MEMORY: "no-memory",
     Outcome.EXPIRED: "expired",
+    Outcome.WAIT_ENDED: "canceled",
 }
 
 

@@ -166,6 +166,7 @@ constants! {
     L4_ENTANGLED = 4;
     L4_WANTS_MEMORY = 5;
     L4_EXPIRED = 6;
+    L4_WAIT_ENDED = 7;
     L4_NONE = 0;
     L4_TRANSFER = 1;
     L4_EXPIRE = 2;
@@ -185,6 +186,8 @@ constants! {
     L4_DIFFERS = 2;
     L4_NOT_ENABLED = 3;
     L4_START = 3;
+    L4_TIMEOUT = 4;
+    L4_CANCEL = 5;
     L4_ALL_ORDERS = 1;
     L4_MOST_STATES = 2;
     L4_LACKED_MEMORY = 3;
@@ -504,6 +507,8 @@ functions! {
     fn l4_start(kernel: *mut l4_kernel, thread: u32, call: *const l4_call, words: *const u32, count: usize) -> l4_answer;
     fn l4_transfer(kernel: *mut l4_kernel, sender: u32, receiver: u32) -> l4_answer;
     fn l4_expire(kernel: *mut l4_kernel, thread: u32) -> l4_answer;
+    fn l4_timeout(kernel: *mut l4_kernel, thread: u32) -> l4_answer;
+    fn l4_cancel(kernel: *mut l4_kernel, thread: u32) -> l4_answer;
     fn l4_enabled(kernel: *mut l4_kernel) -> l4_step;
     fn l4_next(kernel: *mut l4_kernel) -> l4_step;
     fn l4_enter(kernel: *mut l4_kernel, thread: u32, call: *const l4_call, words: *const u32, count: usize, steps: *mut l4_step, room: usize) -> l4_entered;
@@ -546,6 +551,8 @@ functions! {
     fn l4_lock_free(lock: *mut l4_lock) -> ();
     fn l4_lock_give(lock: *mut l4_lock, seat: u32) -> u32;
     fn l4_lock_enter(lock: *mut l4_lock, seat: u32, call: *const l4_call, words: *const u32, count: usize) -> l4_seated;
+    fn l4_lock_timeout(lock: *mut l4_lock, thread: u32) -> u32;
+    fn l4_lock_cancel(lock: *mut l4_lock, thread: u32) -> u32;
     fn l4_lock_take(lock: *mut l4_lock, seat: u32) -> l4_reply;
     fn l4_lock_length(lock: *mut l4_lock) -> l4_count;
     fn l4_lock_kept_from(lock: *mut l4_lock) -> l4_count;
@@ -801,6 +808,16 @@ impl Handle<l4_kernel> {
         unsafe { l4_expire(self.cell.get(), thread) }
     }
 
+    pub(crate) fn timeout(&mut self, thread: u32) -> l4_answer {
+        // SAFETY: the handle is live and borrowed alone.
+        unsafe { l4_timeout(self.cell.get(), thread) }
+    }
+
+    pub(crate) fn cancel(&mut self, thread: u32) -> l4_answer {
+        // SAFETY: the handle is live and borrowed alone.
+        unsafe { l4_cancel(self.cell.get(), thread) }
+    }
+
     pub(crate) fn enabled(&self) -> l4_step {
         // SAFETY: the handle is live, and no other call is in progress: only this thread has it, since it is not Sync, and calls do not
         // nest.
@@ -1024,6 +1041,16 @@ impl Handle<l4_lock> {
     pub(crate) fn enter(&mut self, seat: u32, call: &l4_call, words: &[u32]) -> l4_seated {
         // SAFETY: as in `start`.
         unsafe { l4_lock_enter(self.cell.get(), seat, call, words.as_ptr(), words.len()) }
+    }
+
+    pub(crate) fn timeout(&mut self, thread: u32) -> u32 {
+        // SAFETY: the handle is live and borrowed alone.
+        unsafe { l4_lock_timeout(self.cell.get(), thread) }
+    }
+
+    pub(crate) fn cancel(&mut self, thread: u32) -> u32 {
+        // SAFETY: the handle is live and borrowed alone.
+        unsafe { l4_lock_cancel(self.cell.get(), thread) }
     }
 
     pub(crate) fn take(&mut self, seat: u32) -> l4_reply {

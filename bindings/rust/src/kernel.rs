@@ -83,6 +83,8 @@ pub enum Outcome {
     WantsMemory,
     /// A wait with a timeout of zero expired.
     Expired,
+    /// [`Kernel::timeout`] or [`Kernel::cancel`] ended a wait.
+    WaitEnded,
 }
 
 impl Outcome {
@@ -94,6 +96,7 @@ impl Outcome {
             ffi::L4_ENTANGLED => Outcome::Entangled,
             ffi::L4_WANTS_MEMORY => Outcome::WantsMemory,
             ffi::L4_EXPIRED => Outcome::Expired,
+            ffi::L4_WAIT_ENDED => Outcome::WaitEnded,
             number => unknown("outcome", number),
         }
     }
@@ -107,6 +110,7 @@ impl Outcome {
             Outcome::Entangled => ffi::L4_ENTANGLED,
             Outcome::WantsMemory => ffi::L4_WANTS_MEMORY,
             Outcome::Expired => ffi::L4_EXPIRED,
+            Outcome::WaitEnded => ffi::L4_WAIT_ENDED,
         }
     }
 }
@@ -428,6 +432,28 @@ impl Kernel {
     /// K1 if the thread has no such wait.
     pub fn expire(&mut self, thread: u32) -> Result<Answer, Refusal> {
         Answer::of(&self.handle.expire(thread))
+    }
+
+    /// Ends the thread's wait, whatever its timeouts are: you call it when a timeout has passed by a clock of your own. The call ends with
+    /// [`ErrorCode::SEND_TIMEOUT`](crate::ErrorCode::SEND_TIMEOUT) if the thread was sending, and with
+    /// [`ErrorCode::RECEIVE_TIMEOUT`](crate::ErrorCode::RECEIVE_TIMEOUT) if it was receiving.
+    ///
+    /// # Errors
+    ///
+    /// K1 if the thread does not wait.
+    pub fn timeout(&mut self, thread: u32) -> Result<Answer, Refusal> {
+        Answer::of(&self.handle.timeout(thread))
+    }
+
+    /// Cancels the thread's wait, as ExchangeRegisters does. The call ends with
+    /// [`ErrorCode::SEND_CANCELED`](crate::ErrorCode::SEND_CANCELED) if the thread was sending, and with
+    /// [`ErrorCode::RECEIVE_CANCELED`](crate::ErrorCode::RECEIVE_CANCELED) if it was receiving.
+    ///
+    /// # Errors
+    ///
+    /// K1 if the thread does not wait.
+    pub fn cancel(&mut self, thread: u32) -> Result<Answer, Refusal> {
+        Answer::of(&self.handle.cancel(thread))
     }
 
     /// Returns the step that is executed next if no call is started, or `None` if no step is enabled.

@@ -156,7 +156,7 @@ pub const TOO_MANY: usize = ffi::L4_TOO_MANY as usize;
 #[cfg(doctest)]
 mod growth {
     grows!(Reply: Ipc Hit Answered Failed Unmapped Controlled Gone);
-    grows!(Outcome: Started Delivered NoWindow Entangled WantsMemory Expired);
+    grows!(Outcome: Started Delivered NoWindow Entangled WantsMemory Expired WaitEnded);
     grows!(Step: Transfer Expire);
     grows!(Recorded: Start Next);
     grows!(Verdict: Agrees Differs NotEnabled);

@@ -79,7 +79,7 @@ refusals! {
     NotAStep = L4_B5 "B5" "the line is not a step or query of a step list";
     NotACheckpoint = L4_B6 "B6" "the bytes cannot be read as a checkpoint";
     TooManyEntries = L4_B7 "B7" "a number of entries exceeds 2^63";
-    NotEnabled = L4_K1 "K1" "the step is not enabled: this transfer or expiry cannot happen now";
+    NotEnabled = L4_K1 "K1" "the step is not enabled: this transfer or expiry cannot happen now, or the thread does not wait";
     NoSuchThread = L4_K2 "K2" "there is no thread with this number";
     StillWaiting = L4_K3 "K3" "the thread's previous call has not ended yet";
     TimeoutValue = L4_K4 "K4" "a timeout is neither never (0) nor zero (0x400)";

@@ -11,10 +11,10 @@ use std::fmt;
 pub struct ErrorCode(u32);
 
 impl ErrorCode {
-    /// The zero timeout of the send phase expired.
+    /// The timeout of the send phase expired.
     pub const SEND_TIMEOUT: ErrorCode = ErrorCode(2);
 
-    /// The zero timeout of the receive phase expired.
+    /// The timeout of the receive phase expired.
     pub const RECEIVE_TIMEOUT: ErrorCode = ErrorCode(3);
 
     /// There is no thread to send to.
@@ -22,6 +22,12 @@ impl ErrorCode {
 
     /// There is no thread to receive from.
     pub const RECEIVE_PARTNER: ErrorCode = ErrorCode(5);
+
+    /// The send phase was canceled, by [`Kernel::cancel`](crate::Kernel::cancel).
+    pub const SEND_CANCELED: ErrorCode = ErrorCode(6);
+
+    /// The receive phase was canceled, by [`Kernel::cancel`](crate::Kernel::cancel).
+    pub const RECEIVE_CANCELED: ErrorCode = ErrorCode(7);
 
     /// The message that was sent could not be delivered: the receiver has no window for its items, the items conflict, or there was no
     /// memory.
@@ -38,10 +44,12 @@ impl ErrorCode {
     /// Returns a line of text that explains the error.
     pub fn text(self) -> &'static str {
         match self {
-            ErrorCode::SEND_TIMEOUT => "the zero timeout of the send phase expired",
-            ErrorCode::RECEIVE_TIMEOUT => "the zero timeout of the receive phase expired",
+            ErrorCode::SEND_TIMEOUT => "the timeout of the send phase expired",
+            ErrorCode::RECEIVE_TIMEOUT => "the timeout of the receive phase expired",
             ErrorCode::SEND_PARTNER => "there is no thread to send to",
             ErrorCode::RECEIVE_PARTNER => "there is no thread to receive from",
+            ErrorCode::SEND_CANCELED => "the send phase was canceled",
+            ErrorCode::RECEIVE_CANCELED => "the receive phase was canceled",
             ErrorCode::SEND_OVERFLOW => "the message that was sent could not be delivered",
             ErrorCode::RECEIVE_OVERFLOW => "the message to this thread could not be delivered",
             _ => "the Ipc failed",

@@ -25,6 +25,16 @@ pub enum Recorded {
     },
     /// A transfer or an expiry.
     Next(Step),
+    /// The wait of the thread ended, because its timeout had passed. The entry has seat 0.
+    Timeout {
+        /// The number of the thread.
+        thread: u32,
+    },
+    /// The wait of the thread was canceled. The entry has seat 0.
+    Cancel {
+        /// The number of the thread.
+        thread: u32,
+    },
 }
 
 /// An entry of a history. It prints as a line of a step list, as the program `l4_steps` reads it.
@@ -49,6 +59,8 @@ impl Entry {
                 thread: told.thread,
                 call: Call::told(&told.call, &told.words[..told.word_count as usize]),
             },
+            ffi::L4_TIMEOUT => Recorded::Timeout { thread: told.thread },
+            ffi::L4_CANCEL => Recorded::Cancel { thread: told.thread },
             kind => Recorded::Next(Step::named(kind, told.thread, told.receiver)?),
         };
         Some(Entry {
@@ -68,6 +80,8 @@ impl fmt::Display for Entry {
                 write!(out, "transfer {sender} {receiver}")
             }
             Recorded::Next(Step::Expire { thread }) => write!(out, "expire {thread}"),
+            Recorded::Timeout { thread } => write!(out, "timeout {thread}"),
+            Recorded::Cancel { thread } => write!(out, "cancel {thread}"),
         }
     }
 }
@@ -373,6 +387,39 @@ impl SharedKernel {
         if let Some(waker) = self.shared.wakers().get(&number) {
             waker.notify_one();
         }
+    }
+
+    /// Ends the wait of a thread, because its timeout has passed by a clock of the caller. The seat's [`Seat::call`] returns the reply, with
+    /// ErrorCode 2 or 3.
+    ///
+    /// # Errors
+    ///
+    /// In this order: L1, NoMemory, K1 if the thread does not wait.
+    pub fn timeout(&self, thread: u32) -> Result<(), Refusal> {
+        let mut lock = self.shared.lock();
+        let refusal = lock.timeout(thread);
+        self.ended_wait(&lock, refusal)
+    }
+
+    /// Cancels the wait of a thread. The seat's [`Seat::call`] returns the reply, with ErrorCode 6 or 7.
+    ///
+    /// # Errors
+    ///
+    /// In this order: L1, NoMemory, K1 if the thread does not wait.
+    pub fn cancel(&self, thread: u32) -> Result<(), Refusal> {
+        let mut lock = self.shared.lock();
+        let refusal = lock.cancel(thread);
+        self.ended_wait(&lock, refusal)
+    }
+
+    /// Publishes the number of steps and wakes the threads that wait, after a wait ended; or returns the refusal.
+    fn ended_wait(&self, lock: &Handle<ffi::l4_lock>, refusal: u32) -> Result<(), Refusal> {
+        if refusal != ffi::L4_OK {
+            return Err(Refusal::of(refusal, 0));
+        }
+        self.shared.steps.store(lock.length().count, Ordering::SeqCst);
+        self.shared.entered.notify_all();
+        Ok(())
     }
 
     /// Returns the number of steps since boot when the last call was entered. It never decreases, and the method never waits.
