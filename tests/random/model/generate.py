@@ -13,10 +13,10 @@ NEVER, SEND_AT_ONCE, RECEIVE_AT_ONCE = 0, 0x04000000, 0x0400
 LONGEST_MESSAGE = 31
 # how many tokens after a command's name stand for threads
 THREAD_PLACES = {"thread": 3, "setpager": 2, "delete": 1, "recv": 2, "send": 2, "ipc": 3, "delegate": 2, "part": 2, "unmap": 1, "show": 1, "parent": 1,
-                 "fault": 1, "region": 1, "serve": 1, "reply": 1}
+                 "fault": 1, "region": 1, "serve": 1, "reply": 1, "timeout": 1, "cancel": 1}
 COMMON_NAMES = ["pager", "a", "B", "worker-1", "Worker-1", "x" * 24]
 OTHER_NAMES = ["nil", "any", "new", "all", "none", "never", "zero", "tag", "map", "grant", "rwx", "r--", "-w-", "send", "name", "reply", "steps", "x" * 25, "4", "a_b",
-               "1a", "a:b", "-", "a-", "sends", "Nil", "r-w", "rwxr", "sigma0", "root"]
+               "1a", "a:b", "-", "a-", "sends", "Nil", "r-w", "rwxr", "sigma0", "root", "timeout", "cancel"]
 MOST_REFUSALS = 30
 
 
@@ -90,6 +90,12 @@ class Maker:
 
     def waiting(self):
         return [number for number, thread in self.machine.threads.items() if thread.phase is not None]
+
+    def any_cancel(self, _=None):
+        """Returns a line that cancels a wait, mostly one of a thread that waits."""
+        waiting = self.waiting()
+        number = self.random.choice(waiting) if waiting and self.random.random() < 0.9 else self.thread()
+        return f"{self.random.choice(['timeout', 'cancel'])} {number}"
 
     def blocked(self, waiting):
         """Returns a waiting thread, and a running one that could end its wait; or a thread that root is to delete, and None."""
@@ -320,6 +326,8 @@ class StepMaker(Maker):
     def any_line(self):
         random = self.random
         step = self.machine.enabled()
+        if random.random() < 0.05:
+            return self.any_cancel()
         if step is not None and random.random() < 0.75:
             return " ".join(map(str, step))
         if step is not None and random.random() < 0.6:
@@ -339,6 +347,8 @@ class StepMaker(Maker):
         waiting = self.waiting()
         if not waiting or (len(self.machine.threads) < self.most_threads and random.random() < 0.6):
             return self.any_create(ROOT)
+        if random.random() < 0.15:
+            return self.any_cancel()
         number, partner = self.blocked(waiting)
         if partner is None:
             return f"start 2 delete {ident(number):#x}"
@@ -525,8 +535,8 @@ class ScriptMaker(Maker):
         if random.random() < 0.01:
             return random.choice(["", "  ", "# a comment", "frob 1", "show 1 0", "send 1", "recv 1 any 0x20", "parent 1 4294967296", "thread 0 new nil"])
         number = self.running()
-        kinds = ["send", "recv", "ipc", "unmap", "fault", "thread", "setpager", "delete", "delegate", "part", "region", "serve", "show", "parent", "reply"]
-        kind = random.choices(kinds, [22, 14, 14, 8, 8, 6, 2, 3, 6, 3, 3, 3, 2, 2, 2])[0]
+        kinds = ["send", "recv", "ipc", "unmap", "fault", "thread", "setpager", "delete", "delegate", "part", "region", "serve", "show", "parent", "reply", "cancel"]
+        kind = random.choices(kinds, [22, 14, 14, 8, 8, 6, 2, 3, 6, 3, 3, 3, 2, 2, 2, 4])[0]
         return getattr(self, "any_" + kind)(number)
 
     def freeing_line(self):
@@ -535,6 +545,8 @@ class ScriptMaker(Maker):
         waiting = [number for number in self.waiting() if number not in self.model.served]
         if not waiting or (len(self.machine.threads) < self.most_threads and random.random() < 0.6):
             return self.any_thread(ROOT)
+        if random.random() < 0.15:
+            return self.any_cancel()
         number, partner = self.blocked(waiting)
         if partner is None:
             return f"delete {number}"

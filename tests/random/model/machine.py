@@ -264,6 +264,21 @@ class Machine:
         error = SEND_TIMEOUT if isinstance(phase, Sending) else RECEIVE_TIMEOUT
         return "expired", [self.end(number, failed_reply(phase, error))]
 
+    def timeout(self, number):
+        """The wait of a thread ends, as its timeout has passed by a clock outside the machine."""
+        return self.cancel_wait(number, 1)
+
+    def cancel(self, number):
+        return self.cancel_wait(number, 3)
+
+    def cancel_wait(self, number, error):
+        """Ends the wait of a thread, for this reason (e of the ErrorCode), whatever its timeouts and its partner are."""
+        thread = self.threads.get(number)
+        if thread is None or thread.phase is None:
+            raise Refused("K1")
+        code = 2 * error + (0 if isinstance(thread.phase, Sending) else 1)
+        return "canceled", [self.end(number, failed_reply(thread.phase, code))]
+
     # parts of steps
 
     def control(self, number):

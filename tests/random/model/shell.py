@@ -356,6 +356,12 @@ class Shell:
         else:
             self.out.append(f"{number} {reply_text(thread.reply)}")
 
+    def do_timeout(self, tokens):
+        self.end_wait("timeout", tokens)
+
+    def do_cancel(self, tokens):
+        self.end_wait("cancel", tokens)
+
     def do_unordered(self, tokens):
         tokens.end()
 
@@ -390,6 +396,23 @@ class Shell:
         if call[0] == "delete":
             self.forget_ended()
         self.go_on()
+        self.serve()
+        if self.waiting is not None:
+            self.out.append(f"{number} waits")
+
+    def end_wait(self, kind, tokens):
+        """Ends the wait of a thread by a step that no thread's call begins."""
+        number = tokens.thread()
+        tokens.end()
+        self.waiting = None
+        answer = getattr(self.machine, kind)(number)
+        self.steps += 1
+        self.out.append(f"{kind} {number}")
+        self.tell(answer)
+        self.serve()
+
+    def serve(self):
+        """The served threads act, one after another."""
         for _ in range(ACTS):
             running = [n for n in sorted(self.served) if self.machine.threads[n].phase is None]
             if not running:
@@ -402,8 +425,6 @@ class Shell:
             self.steps += 1
             self.tell(answer)
             self.go_on()
-        if self.waiting is not None:
-            self.out.append(f"{number} waits")
 
     def act(self, number):
         """The call that a served thread enters."""

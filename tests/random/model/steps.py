@@ -21,7 +21,7 @@ class StepLines:
 
     def answer(self, line):
         word, *rest = line.split()
-        if word in ("start", "transfer", "expire"):
+        if word in ("start", "transfer", "expire", "timeout", "cancel"):
             return self.step(word, rest)
         return getattr(self, "tell_" + word)(*map(number_of, rest))
 
