@@ -7,7 +7,7 @@ use Rattle.l4_answers.specs.Replies.{newline}
 use Rattle.l4_ipc.specs.declared.calls.Call.{Call}
 use Rattle.l4_ipc.specs.declared.calls.Call.TheVariants.{Ipc, Fault, Unmap, Control}
 use Rattle.l4_ipc.specs.declared.steps.Step.{Step}
-use Rattle.l4_ipc.specs.declared.steps.Step.TheVariants.{Start, Transfer, Expire}
+use Rattle.l4_ipc.specs.declared.steps.Step.TheVariants.{Start, Transfer, Expire, Cancel}
 use Rattle.l4_step_lines.specs.declared.requests.Request.{Request}
 use Rattle.l4_step_lines.specs.declared.requests.Request.TheVariants.{Do, Enabled, Reply, Space, Pages}
 use Rattle.l4_threads.specs.Threads.{number_of}
@@ -27,6 +27,7 @@ abbrev pub caller_of : Step → Option ℕ
 caller_of (Start thread call) = Some thread
 caller_of (Transfer sender receiver) = None
 caller_of (Expire thread) = None
+caller_of (Cancel thread cause) = None
 
 abbrev pub starts_call : Request → Option ℕ
 starts_call (Do step) = caller_of step
@@ -44,11 +45,13 @@ abbrev pub thread_of : Step → ℕ
 thread_of (Start thread call) = thread
 thread_of (Transfer sender receiver) = sender
 thread_of (Expire thread) = thread
+thread_of (Cancel thread cause) = thread
 
 abbrev pub receiver_of : Step → Option ℕ
 receiver_of (Start thread call) = partner_of call
 receiver_of (Transfer sender receiver) = Some receiver
 receiver_of (Expire thread) = None
+receiver_of (Cancel thread cause) = None
 
 -- the threads that a request names, two at most
 abbrev pub first_named : Request → Option ℕ

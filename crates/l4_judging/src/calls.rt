@@ -57,7 +57,7 @@ fn caller_of(step: &Step) -> Option<u32>
 {
     match step {
         Step::Start(thread, _) => Some(*thread),
-        Step::Transfer(_, _) | Step::Expire(_) => None,
+        Step::Transfer(_, _) | Step::Expire(_) | Step::Cancel(_, _) => None,
     }
 }
 
@@ -88,7 +88,7 @@ fn thread_of(step: &Step) -> u32
     match step {
         Step::Start(thread, _) => *thread,
         Step::Transfer(sender, _) => *sender,
-        Step::Expire(thread) => *thread,
+        Step::Expire(thread) | Step::Cancel(thread, _) => *thread,
     }
 }
 
@@ -99,7 +99,7 @@ fn receiver_of(step: &Step) -> Option<u32>
     match step {
         Step::Start(_, call) => partner_of(call),
         Step::Transfer(_, receiver) => Some(*receiver),
-        Step::Expire(_) => None,
+        Step::Expire(_) | Step::Cancel(_, _) => None,
     }
 }
 
