@@ -28,7 +28,7 @@ from . import draw
 from ._library import library_version
 from .calls import Call
 from .judge import UNKNOWN, Agreement, Difference, Judge
-from .kernel import Answer, Done, Entered, Expire, Kernel, Outcome, Step, Transfer
+from .kernel import Answer, Cancel, Done, Entered, Expire, Kernel, Outcome, Step, Transfer
 from .outcomes import Orders, PlanOutcome, SearchEnd, orders
 from .plans import Plan, Region
 from .protocols import FrameRequest, PageFault
@@ -71,6 +71,7 @@ __all__ = [
     "BadCheckpoint",
     "BadPlan",
     "Call",
+    "Cancel",
     "Change",
     "CheckpointFault",
     "Difference",

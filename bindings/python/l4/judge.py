@@ -7,15 +7,15 @@ from dataclasses import dataclass
 from typing import Deque, Dict, Iterable, List, Optional, Sequence, Tuple, Union
 
 from ._library import L4_AGREES, L4_NOT_ENABLED
-from .kernel import Expire, Kernel, Transfer
+from .kernel import Kernel
 from .lists import Unread, answers_to, enabled_line, threads_in, whole_line
 from .refusals import Refused
-from .shared import Start, step_line
+from .shared import AnyStep, step_line
 
 #: An answer that the other kernel did not report. It matches any one line.
 UNKNOWN = "?"
 
-_STEPS = (b"start", b"transfer", b"expire")
+_STEPS = (b"start", b"transfer", b"expire", b"timeout", b"cancel")
 _NO_FURTHER = "no further answer"
 _LIST_END = "the end of the list"
 
@@ -115,7 +115,7 @@ class Judge:
         self.kernel = Kernel() if kernel is None else kernel
         self.steps = self.answers = 0
 
-    def compare(self, step: Union[str, Start, Transfer, Expire], answer: Iterable[str] = ()) -> Optional[Difference]:
+    def compare(self, step: Union[str, AnyStep], answer: Iterable[str] = ()) -> Optional[Difference]:
         """Executes a step or query on the proved kernel, and compares the other kernel's answer with it. Returns None if they agree.
 
         `step` is a line of a step list, or a value that prints as one. `answer` has the lines that `l4_steps` would print. A line `UNKNOWN`

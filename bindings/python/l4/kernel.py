@@ -66,7 +66,25 @@ class Expire:
         return _library.step_text(_step_given(self, 0))
 
 
-#: A step that does not start a call.
+@dataclass(frozen=True)
+class Cancel:
+    """The step in which the program that embeds the kernel ends the thread's wait. `timed_out` is true if a timeout has passed by a clock of
+    that program, and false if it canceled the wait.
+
+    >>> Cancel(3).line, Cancel(3, timed_out=True).line
+    ('cancel 3', 'timeout 3')
+    """
+
+    thread: int
+    timed_out: bool = False
+
+    @property
+    def line(self) -> str:
+        """Returns the line of a step list that has this step, without its newline."""
+        return _library.step_text(_step_given(self, 0))
+
+
+#: A step that `Kernel.enabled` names.
 Step = Union[Transfer, Expire]
 
 
@@ -89,7 +107,7 @@ class Done:
     'transfer 1 3 done'
     """
 
-    step: Step
+    step: Union[Step, Cancel]
     outcome: Outcome
     ended: Tuple[int, ...]
 
@@ -114,10 +132,12 @@ def step_of(kind: int, thread: int, receiver: int) -> Optional[Step]:
     return Expire(thread) if kind == _library.L4_EXPIRE else None
 
 
-def _step_given(step: Step, outcome: int) -> _library.l4_step:
+def _step_given(step: Union[Step, Cancel], outcome: int) -> _library.l4_step:
     """Returns the step as the library has it, with the number of its outcome."""
     if isinstance(step, Transfer):
         return _library.l4_step(kind=_library.L4_TRANSFER, thread=step.sender, receiver=step.receiver, outcome=outcome)
+    if isinstance(step, Cancel):
+        return _library.l4_step(kind=_library.L4_TIMEOUT if step.timed_out else _library.L4_CANCEL, thread=step.thread, outcome=outcome)
     return _library.l4_step(kind=_library.L4_EXPIRE, thread=step.thread, outcome=outcome)
 
 

@@ -1,16 +1,16 @@
 """A run of a step list, for the lab: the history in files of segments, step by step."""
 from __future__ import annotations
 
-from typing import Dict, Iterable, Iterator, List, Set, Tuple, Union
+from typing import Dict, Iterable, Iterator, List, Set, Tuple
 
 from .calls import Call
-from .kernel import Done, Expire, Kernel, Transfer
+from .kernel import Done, Kernel, Transfer
 from .lists import execute, step_in
 from .refusals import Refused
 from .replies import Reply, ReplyKind
 from .scripts import Event
 from .segments import SavedSegment, check, join, read
-from .shared import Start
+from .shared import AnyStep, Start
 from .tables import Pager
 from .words import PAGE_BYTES, Message
 
@@ -74,7 +74,7 @@ class StepList:
             except Refused as refused:
                 yield Event(number, (f"line {number} refused {refused.code}",))
 
-    def _execute(self, number: int, step: Union[Start, Transfer, Expire]) -> Event:
+    def _execute(self, number: int, step: AnyStep) -> Event:
         """Executes a step of the line with this number."""
         answer = execute(self.kernel, step)
         ended = tuple((self.kernel.reply(thread) or Reply(ReplyKind.GONE)).line(thread) for thread in answer.ended)

@@ -2,13 +2,13 @@
 from __future__ import annotations
 
 import re
-from typing import Callable, Iterable, Iterator, List, Optional, Union
+from typing import Callable, Iterable, Iterator, List, Optional
 
 from .calls import Call
-from .kernel import Answer, Expire, Kernel, Outcome, Transfer
+from .kernel import Answer, Cancel, Expire, Kernel, Outcome, Transfer
 from .refusals import Refused
 from .replies import Reply, ReplyKind
-from .shared import Start
+from .shared import AnyStep, Start
 from .words import MAX_WORDS, Message, Rights, ThreadId
 
 #: The largest number of bytes of a line.
@@ -127,7 +127,7 @@ def _tokens(line: bytes) -> List[bytes]:
     return [] if line.startswith(b"#") else [token for token in line.split(b" ") if token]
 
 
-def _step(tokens: List[bytes]) -> Union[Start, Transfer, Expire, None]:
+def _step(tokens: List[bytes]) -> Optional[AnyStep]:
     """Returns the step that these tokens are, or None if they may be a query."""
     if tokens[0] == b"start":
         if len(tokens) < 3:
@@ -136,13 +136,19 @@ def _step(tokens: List[bytes]) -> Union[Start, Transfer, Expire, None]:
     numbers = [_number(token) for token in tokens[1:]]
     if tokens[0] == b"transfer" and len(numbers) == 2:
         return Transfer(*numbers)
-    return Expire(*numbers) if tokens[0] == b"expire" and len(numbers) == 1 else None
+    if len(numbers) != 1:
+        return None
+    if tokens[0] in (b"timeout", b"cancel"):
+        return Cancel(numbers[0], timed_out=tokens[0] == b"timeout")
+    return Expire(numbers[0]) if tokens[0] == b"expire" else None
 
 
-def execute(kernel: Kernel, step: Union[Start, Transfer, Expire]) -> Answer:
+def execute(kernel: Kernel, step: AnyStep) -> Answer:
     """Executes a step. Raises Refused as the kernel does."""
     if isinstance(step, Start):
         return kernel.start(step.thread, step.call)
+    if isinstance(step, Cancel):
+        return kernel.timeout(step.thread) if step.timed_out else kernel.cancel(step.thread)
     return kernel.transfer(step.sender, step.receiver) if isinstance(step, Transfer) else kernel.expire(step.thread)
 
 
@@ -157,7 +163,7 @@ def _line(kernel: Kernel, line: bytes) -> List[str]:
     return _question(kernel, tokens[0], [_number(token) for token in tokens[1:]])
 
 
-def step_in(line: bytes) -> Union[Start, Transfer, Expire, None]:
+def step_in(line: bytes) -> Optional[AnyStep]:
     """Returns the step in a line of a list, or None if the line is a query, a comment or empty. Raises ValueError if it is none of these."""
     try:
         tokens = _tokens(line)

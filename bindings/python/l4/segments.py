@@ -7,19 +7,27 @@ from __future__ import annotations
 import hashlib
 import struct
 from dataclasses import dataclass
-from typing import Iterable, List, Tuple, Union
+from typing import Iterable, List, Tuple
 
 from .calls import Call
-from .kernel import Expire, Kernel, Outcome, Transfer
+from .kernel import Cancel, Expire, Kernel, Outcome, Transfer
 from .lists import execute
 from .refusals import Refused
-from .shared import Entry, Start
+from .shared import AnyStep, Entry, Start
 from .words import MAX_FRAMES, PAGE_BYTES, SMALL_PAGE_BYTES, Message, Rights, ThreadId
 
 _HEADING = struct.Struct("<4sIIIQQ")
 _DIGEST = 32
 _MOST = 1 << 63
-_OUTCOMES = (Outcome.STARTED, Outcome.DELIVERED, Outcome.NO_WINDOW, Outcome.ENTANGLED, Outcome.WANTS_MEMORY, Outcome.EXPIRED)
+_OUTCOMES = (
+    Outcome.STARTED,
+    Outcome.DELIVERED,
+    Outcome.NO_WINDOW,
+    Outcome.ENTANGLED,
+    Outcome.WANTS_MEMORY,
+    Outcome.EXPIRED,
+    Outcome.WAIT_ENDED,
+)
 
 
 class BadSegments(Exception):
@@ -57,7 +65,7 @@ def _call(kind: int, fields: Tuple[int, ...]) -> Call:
     raise ValueError
 
 
-def _step(words: Tuple[int, ...]) -> Union[Start, Transfer, Expire]:
+def _step(words: Tuple[int, ...]) -> AnyStep:
     """Returns the step that these words are. Raises ValueError if they are none."""
     if len(words) >= 3 and words[0] == 0:
         return Start(words[1], _call(words[2], words[3:]))
@@ -65,6 +73,8 @@ def _step(words: Tuple[int, ...]) -> Union[Start, Transfer, Expire]:
         return Transfer(*words[1:])
     if len(words) == 2 and words[0] == 2:
         return Expire(words[1])
+    if len(words) == 2 and words[0] in (3, 4):
+        return Cancel(words[1], timed_out=words[0] == 3)
     raise ValueError
 
 

@@ -14,7 +14,7 @@ from . import _library
 from ._handles import Handle, Unique, all_items
 from ._library import Forks, library, number, of_type
 from .calls import Call
-from .kernel import Expire, Kernel, Outcome, Transfer, step_of
+from .kernel import Cancel, Expire, Kernel, Outcome, Transfer, step_of
 from .queries import Place, Queries
 from .refusals import Refused
 from .replies import Reply, reply_of
@@ -35,23 +35,25 @@ class Start:
     call: Call
 
 
-def step_line(step: Union[Start, Transfer, Expire]) -> str:
+#: Any step of a step list or of a history.
+AnyStep = Union[Start, Transfer, Expire, Cancel]
+
+
+def step_line(step: AnyStep) -> str:
     """Returns the step as a line of a step list."""
-    if isinstance(step, Start):
-        return f"start {step.thread} {step.call.line}"
-    return f"transfer {step.sender} {step.receiver}" if isinstance(step, Transfer) else f"expire {step.thread}"
+    return f"start {step.thread} {step.call.line}" if isinstance(step, Start) else step.line
 
 
 @dataclass(frozen=True)
 class Entry:
     """An entry of a history: a step, its outcome, and the numbers of the threads whose calls ended in it.
 
-    `seat` is the thread number whose call the step starts or follows. `str` returns a line of a step list, as the program `l4_steps` reads
-    it.
+    `seat` is the thread number whose call the step starts or follows; it is 0 if the step is a `Cancel`. `str` returns a line of a step
+    list, as the program `l4_steps` reads it.
     """
 
     seat: int
-    step: Union[Start, Transfer, Expire]
+    step: AnyStep
     outcome: Outcome
     ended: Tuple[int, ...]
 
@@ -107,8 +109,13 @@ def _call(told: Any) -> Call:
 
 
 def _entry(told: _library.l4_entry) -> Optional[Entry]:
-    step: Union[Start, Transfer, Expire, None]
-    step = Start(told.thread, _call(told)) if told.kind == _library.L4_START else step_of(told.kind, told.thread, told.receiver)
+    step: Optional[AnyStep]
+    if told.kind == _library.L4_START:
+        step = Start(told.thread, _call(told))
+    elif told.kind in (_library.L4_TIMEOUT, _library.L4_CANCEL):
+        step = Cancel(told.thread, told.kind == _library.L4_TIMEOUT)
+    else:
+        step = step_of(told.kind, told.thread, told.receiver)
     return None if step is None else Entry(told.seat, step, Outcome(told.outcome), tuple(told.ended[: told.ended_count]))
 
 
@@ -287,6 +294,41 @@ class SharedKernel(Unique, Queries):
             self._lock.ended.add(number(thread, "a thread number"))
             self._lock.wake(thread)
 
+    def timeout(self, thread: int) -> None:
+        """Ends the wait of a thread, because its timeout has passed by a clock of yours. The call ends with ErrorCode 2 if the thread was
+        sending, and 3 if it was receiving; a receive phase that would have followed does not begin. `Seat.call` then returns the reply.
+
+        Raises Refused, in this order, with L1, with NoMemory, and with K1 if the thread does not wait.
+        """
+        self._end_call(library.l4_lock_timeout, thread)
+
+    def cancel(self, thread: int) -> None:
+        """Cancels the wait of a thread, as `timeout` ends it, but with ErrorCode 6 if the thread was sending, and 7 if it was receiving.
+
+        After KeyboardInterrupt has ended the wait of `Seat.call`, or an asyncio task was cancelled in `Seat.call_async`, cancel the wait and
+        `Seat.take` the reply. The seat can then make its next call. Raises Refused as `timeout` does.
+
+        >>> from l4 import Call, SharedKernel
+        >>> kernel = SharedKernel(1)
+        >>> root = kernel.seat(2)
+        >>> root.call_for(Call.receive(), 0)
+        >>> kernel.cancel(2)
+        >>> root.take().error
+        7
+        """
+        self._end_call(library.l4_lock_cancel, thread)
+
+    def _end_call(self, function: Callable[..., Any], thread: int) -> None:
+        """Ends the wait of a thread by this function of the library, and wakes its seat."""
+        with self._lock.entered:
+            refusal = self._lock._ask(function, number(thread, "a thread number"))
+            if refusal == _library.L4_B1:
+                raise ValueError("the SharedKernel is closed")
+            if refusal:
+                raise Refused(refusal)
+            self._wake()
+            self._drop_steps()
+
     def steps(self) -> int:
         """Returns the number of steps since boot when the last call was entered. It never decreases, and the method never waits."""
         return self._steps
@@ -458,32 +500,51 @@ class Seat(Unique):
         """Returns the seat's thread number."""
         return self._number
 
-    def call(self, call: Call) -> Reply:
+    def call(self, call: Call, timeout: Optional[float] = None) -> Reply:
         """Makes a call, and waits until it has ended. Other seats can make calls meanwhile.
 
-        An exception that ends the wait, such as KeyboardInterrupt, does not end the call. Get its reply with `take`. Raises ValueError if
-        the kernel is closed meanwhile.
+        If the call has not ended after `timeout` seconds, `SharedKernel.timeout` ends it, and the reply has ErrorCode 2 or 3. To stop waiting
+        without ending the call, use `call_for`.
+
+        An exception that ends the wait, such as KeyboardInterrupt, does not end the call. Get its reply with `take`, or end it with
+        `SharedKernel.cancel` first. Raises ValueError if the kernel is closed meanwhile.
 
         Raises Refused, in this order, with L3 (an earlier call has ended, whose reply you must `take` first), L1, NoMemory, K2 if there is
         no such thread, and as `Kernel.start` does. Raises Refused with K3 if an earlier call still waits, or if `SharedKernel.end_wait` ended
-        the wait: in both cases, get the reply of the call that waits with `wait_for` or `take`.
+        the wait: in both cases, get the reply of the call that waits with `wait_for` or `take`. When the timeout has passed, it raises Refused
+        as `SharedKernel.timeout` does.
+
+        >>> from l4 import Call, SharedKernel
+        >>> root = SharedKernel(1).seat(2)
+        >>> root.call(Call.receive(), timeout=0.001).error
+        3
         """
-        lock = self._kernel._lock
+        lock, end = self._kernel._lock, _end_of(timeout)
         with lock.entered:
             reply = self._enter(call)
             lock.ended.discard(self._number)
             while reply is None:
                 if self._number in lock.ended:
                     raise Refused(_library.L4_K3)
-                lock.waker(self._number).wait()
+                if self._ends_late(end):
+                    reply = self.take()
+                    continue
+                lock.waker(self._number).wait(_left(end))
                 reply = self.take()
             return reply
 
-    async def call_async(self, call: Call) -> Reply:
+    def _ends_late(self, end: Optional[float]) -> bool:
+        """Ends the call that waits if this time has passed. Returns whether it did. The lock must be held."""
+        if end is None or time.monotonic() < end:
+            return False
+        self._kernel.timeout(self._number)
+        return True
+
+    async def call_async(self, call: Call, timeout: Optional[float] = None) -> Reply:
         """Makes a call as `call` does, and awaits its end in the running asyncio event loop. No thread waits for it, so that one thread can
         serve many seats. Raises what `call` raises.
 
-        If the task is cancelled, the call does not end. Get its reply with `take` or `wait_for`.
+        If the task is cancelled, the call does not end. Get its reply with `take` or `wait_for`, or end it with `SharedKernel.cancel` first.
 
         >>> import asyncio
         >>> from l4 import Call, Message, SharedKernel, ThreadId
@@ -496,7 +557,7 @@ class Seat(Unique):
         >>> asyncio.run(both())
         (7,)
         """
-        lock = self._kernel._lock
+        lock, end = self._kernel._lock, _end_of(timeout)
         with lock.entered:
             reply = self._enter(call)
             lock.ended.discard(self._number)
@@ -507,8 +568,10 @@ class Seat(Unique):
                     break
                 if self._number in lock.ended:
                     raise Refused(_library.L4_K3)
+                if self._ends_late(end):
+                    continue
                 woken = lock.notice(self._number)
-            await woken
+            await asyncio.wait([woken], timeout=_left(end))
         return reply
 
     def _enter(self, call: Call) -> Optional[Reply]:
@@ -578,6 +641,16 @@ class Seat(Unique):
         with self._kernel._lock.entered:
             first = ask(library.l4_lock_seat_of, self._number).kept_from
             return tuple(_until_none(_receipt(ask(library.l4_lock_receipt, self._number, place)) for place in count(first)))
+
+
+def _end_of(seconds: Optional[float]) -> Optional[float]:
+    """Returns the time at which this many seconds from now have passed, or None if there is no limit."""
+    return None if seconds is None else time.monotonic() + seconds
+
+
+def _left(end: Optional[float]) -> Optional[float]:
+    """Returns how many seconds are left until this time, at least 0, or None if there is no limit."""
+    return None if end is None else max(0.0, end - time.monotonic())
 
 
 def _until_none(values: Iterator[Any]) -> Iterator[Any]:

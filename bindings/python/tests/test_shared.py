@@ -10,6 +10,7 @@ import unittest
 from l4 import (
     PAGE_BYTES,
     Call,
+    Cancel,
     Fpage,
     Item,
     Message,
@@ -294,6 +295,77 @@ class Shared(unittest.TestCase):
         self.assertEqual((repr(kernel), repr(root)), ("<SharedKernel: 3 steps>", "<Seat of thread 2>"))
         self.assertEqual(len(kernel.close([sigma0, root])), 3)
         self.assertEqual(repr(kernel), "<SharedKernel: closed>")
+
+    def test_a_seat_calls_again_after_a_wait_that_ended(self):
+        kernel = SharedKernel(1)
+        sigma0, root = kernel.seat(1), kernel.seat(2)
+        # the timeout of a call passes
+        self.assertEqual(root.call(Call.receive(), timeout=0.001).error, 3)
+        # another thread cancels the wait of a call
+        parties = Parties()
+        parties.begin("canceled", lambda: root.call(Call.receive()).error)
+        wait_for(kernel, 3)
+        kernel.cancel(2)
+        self.assertEqual(parties.end(), {"canceled": 7})
+        # the same in a send phase, whose receive phase does not begin
+        self.assertIsNone(sigma0.call_for(Call.call(ThreadId.ROOT, Message.of(untyped=[5])), 0))
+        kernel.timeout(1)
+        self.assertEqual(sigma0.take().error, 2)
+        # a thread that runs has no wait, and a thread that does not exist has none either
+        for thread in (1, 2, 3):
+            with self.assertRaisesRegex(Refused, "^K1: "):
+                kernel.cancel(thread)
+        # both seats call again
+        self.assertIsNone(root.call_for(Call.receive(), 0))
+        sigma0.call(Call.send(ThreadId.ROOT, Message.of(untyped=[6])))
+        self.assertEqual(root.take().untyped, (6,))
+        ends = [(entry.seat, str(entry)) for entry in kernel.history() if isinstance(entry.step, Cancel)]
+        self.assertEqual(ends, [(0, "timeout 2"), (0, "cancel 2"), (0, "timeout 1")])
+        self.assertEqual([receipt.end for receipt in root.receipts], [1, 3, 8])
+        self.assertEqual([entry.step for entry in read(kernel.hand_out().to_bytes())[0].entries if entry.seat == 0][0], Cancel(2, timed_out=True))
+
+    def test_tasks_call_again_after_a_wait_that_ended(self):
+        kernel = SharedKernel(1)
+        root = kernel.seat(2)
+
+        async def run():
+            self.assertEqual((await root.call_async(Call.receive(), timeout=0.001)).error, 3)
+            waiting = asyncio.ensure_future(root.call_async(Call.receive()))
+            await asyncio.sleep(0)
+            kernel.cancel(2)
+            self.assertEqual((await waiting).error, 7)
+            # a task that is cancelled leaves its call open, until the call is canceled too
+            waiting = asyncio.ensure_future(root.call_async(Call.receive()))
+            await asyncio.sleep(0)
+            waiting.cancel()
+            with self.assertRaises(asyncio.CancelledError):
+                await waiting
+            kernel.cancel(2)
+            self.assertEqual(root.take().error, 7)
+            self.assertEqual((await root.call_async(Call.receive(), timeout=0)).error, 3)
+
+        asyncio.run(run())
+
+    def test_a_server_thread_shuts_down(self):
+        kernel = SharedKernel(1)
+        sigma0, root = kernel.seat(1), kernel.seat(2)
+
+        def serve():
+            """Answers each message with its first word plus 1, until the receive is canceled, and returns the number of answers."""
+            answers, reply = 0, root.call(Call.receive())
+            while reply.error != 7:
+                answers += 1
+                reply = root.call(Call.reply_and_wait(reply.sender, Message.of(untyped=[reply.untyped[0] + 1])))
+            return answers
+
+        parties = Parties()
+        parties.begin("server", serve)
+        for word in (5, 6):
+            self.assertEqual(sigma0.call(Call.call(ThreadId.ROOT, Message.of(untyped=[word]))).untyped, (word + 1,))
+        while not kernel.thread(2).waits:
+            time.sleep(0.001)
+        kernel.cancel(2)
+        self.assertEqual(parties.end(), {"server": 2})
 
     def test_a_copy_answers_as_the_kernel_does(self):
         kernel = SharedKernel()
