@@ -158,7 +158,7 @@ mod growth {
     grows!(Reply: Ipc Hit Answered Failed Unmapped Controlled Gone);
     grows!(Outcome: Started Delivered NoWindow Entangled WantsMemory Expired WaitEnded);
     grows!(Step: Transfer Expire);
-    grows!(Recorded: Start Next);
+    grows!(Recorded: Start Next Timeout Cancel);
     grows!(Verdict: Agrees Differs NotEnabled);
     grows!(NoPlan: Refused TooLong);
     grows!(ThreadState: New Running Sending Receiving);

@@ -59,8 +59,12 @@ impl Entry {
                 thread: told.thread,
                 call: Call::told(&told.call, &told.words[..told.word_count as usize]),
             },
-            ffi::L4_TIMEOUT => Recorded::Timeout { thread: told.thread },
-            ffi::L4_CANCEL => Recorded::Cancel { thread: told.thread },
+            ffi::L4_TIMEOUT => Recorded::Timeout {
+                thread: told.thread,
+            },
+            ffi::L4_CANCEL => Recorded::Cancel {
+                thread: told.thread,
+            },
             kind => Recorded::Next(Step::named(kind, told.thread, told.receiver)?),
         };
         Some(Entry {
@@ -260,6 +264,23 @@ impl Shared {
         self.wakers.lock().unwrap_or_else(PoisonError::into_inner)
     }
 
+    /// Ends the wait of a thread by this function of the library, and wakes its seat.
+    fn end_call(
+        &self,
+        lock: &mut Handle<ffi::l4_lock>,
+        end: impl FnOnce(&mut Handle<ffi::l4_lock>) -> u32,
+    ) -> Result<(), Refusal> {
+        let first = self.steps.load(Ordering::SeqCst);
+        match end(lock) {
+            ffi::L4_OK => {
+                // no seat has the number 0
+                self.wake(lock, first, 0);
+                Ok(())
+            }
+            refusal => Err(Refusal::of(refusal, 0)),
+        }
+    }
+
     /// Wakes the threads of other seats whose calls ended in the entries since `first`, and notes the history's length.
     fn wake(&self, lock: &Handle<ffi::l4_lock>, first: u64, own: u32) {
         self.steps.store(lock.length().count, Ordering::SeqCst);
@@ -389,37 +410,42 @@ impl SharedKernel {
         }
     }
 
-    /// Ends the wait of a thread, because its timeout has passed by a clock of the caller. The seat's [`Seat::call`] returns the reply, with
-    /// ErrorCode 2 or 3.
+    /// Ends the wait of a thread, because its timeout has passed by a clock of the caller. The call ends with
+    /// [`ErrorCode::SEND_TIMEOUT`](crate::ErrorCode::SEND_TIMEOUT) if the thread was sending, and with
+    /// [`ErrorCode::RECEIVE_TIMEOUT`](crate::ErrorCode::RECEIVE_TIMEOUT) if it was receiving; a receive phase that would have followed does
+    /// not begin. [`Seat::call`] then returns the reply.
     ///
     /// # Errors
     ///
     /// In this order: L1, NoMemory, K1 if the thread does not wait.
     pub fn timeout(&self, thread: u32) -> Result<(), Refusal> {
         let mut lock = self.shared.lock();
-        let refusal = lock.timeout(thread);
-        self.ended_wait(&lock, refusal)
+        self.shared.end_call(&mut lock, |lock| lock.timeout(thread))
     }
 
-    /// Cancels the wait of a thread. The seat's [`Seat::call`] returns the reply, with ErrorCode 6 or 7.
+    /// Cancels the wait of a thread, as [`timeout`](SharedKernel::timeout) ends it, but with
+    /// [`ErrorCode::SEND_CANCELED`](crate::ErrorCode::SEND_CANCELED) or
+    /// [`ErrorCode::RECEIVE_CANCELED`](crate::ErrorCode::RECEIVE_CANCELED).
     ///
     /// # Errors
     ///
     /// In this order: L1, NoMemory, K1 if the thread does not wait.
+    ///
+    /// ```
+    /// use l4::{Call, ErrorCode, Fpage, SharedKernel, ThreadId, Timeout};
+    /// use std::time::Duration;
+    /// let kernel = SharedKernel::new(1)?;
+    /// let mut root = kernel.seat(2)?;
+    /// let receive = Call::receive(ThreadId::ANY, Fpage::NIL, Timeout::Never);
+    /// assert_eq!(root.call_for(&receive, Duration::ZERO)?, None);
+    /// kernel.cancel(2)?;
+    /// let reply = root.take().expect("the call has ended");
+    /// assert_eq!(reply.received(), Some(Err(ErrorCode::RECEIVE_CANCELED)));
+    /// # Ok::<(), Box<dyn std::error::Error>>(())
+    /// ```
     pub fn cancel(&self, thread: u32) -> Result<(), Refusal> {
         let mut lock = self.shared.lock();
-        let refusal = lock.cancel(thread);
-        self.ended_wait(&lock, refusal)
-    }
-
-    /// Publishes the number of steps and wakes the threads that wait, after a wait ended; or returns the refusal.
-    fn ended_wait(&self, lock: &Handle<ffi::l4_lock>, refusal: u32) -> Result<(), Refusal> {
-        if refusal != ffi::L4_OK {
-            return Err(Refusal::of(refusal, 0));
-        }
-        self.shared.steps.store(lock.length().count, Ordering::SeqCst);
-        self.shared.entered.notify_all();
-        Ok(())
+        self.shared.end_call(&mut lock, |lock| lock.cancel(thread))
     }
 
     /// Returns the number of steps since boot when the last call was entered. It never decreases, and the method never waits.
@@ -721,6 +747,49 @@ impl Seat {
                 .woken
                 .wait(lock)
                 .unwrap_or_else(PoisonError::into_inner);
+            reply = Reply::of(&lock.take(self.number));
+        }
+    }
+
+    /// Makes a call as [`call`](Seat::call) does. If the call has not ended after this long, [`SharedKernel::timeout`] ends it, and the reply
+    /// has ErrorCode 2 or 3. To stop waiting without ending the call, use [`call_for`](Seat::call_for).
+    ///
+    /// # Errors
+    ///
+    /// Those of `call`, and L1 and NoMemory of `timeout`; then the call continues.
+    ///
+    /// ```
+    /// use l4::{Call, ErrorCode, Fpage, SharedKernel, ThreadId, Timeout};
+    /// use std::time::Duration;
+    /// let mut root = SharedKernel::new(1)?.seat(2)?;
+    /// let receive = Call::receive(ThreadId::ANY, Fpage::NIL, Timeout::Never);
+    /// let reply = root.call_within(&receive, Duration::from_millis(1))?;
+    /// assert_eq!(reply.received(), Some(Err(ErrorCode::RECEIVE_TIMEOUT)));
+    /// # Ok::<(), Box<dyn std::error::Error>>(())
+    /// ```
+    pub fn call_within(&mut self, call: &Call, limit: Duration) -> Result<Reply, Refusal> {
+        let begin = Instant::now();
+        let mut lock = self.shared.lock();
+        let mut reply = self.enter(&mut lock, call)?;
+        self.shared.ended().remove(&self.number);
+        loop {
+            if let Some(reply) = reply {
+                return Ok(reply);
+            }
+            if self.shared.ended().remove(&self.number) {
+                return Err(Refusal::StillWaiting);
+            }
+            let left = limit.saturating_sub(begin.elapsed());
+            if left.is_zero() {
+                self.shared
+                    .end_call(&mut lock, |lock| lock.timeout(self.number))?;
+            } else {
+                lock = self
+                    .woken
+                    .wait_timeout(lock, left)
+                    .unwrap_or_else(PoisonError::into_inner)
+                    .0;
+            }
             reply = Reply::of(&lock.take(self.number));
         }
     }

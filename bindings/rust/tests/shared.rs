@@ -1,7 +1,7 @@
 //! Threads share a kernel.
 use l4::{
-    Call, Entry, Fpage, Item, Message, PageSize, Place, Recorded, Refusal, Reply, Rights, Seat,
-    SharedKernel, ThreadId, ThreadState, Timeout, Wait,
+    Call, Entry, ErrorCode, Fpage, Item, Message, PageSize, Place, Recorded, Refusal, Reply,
+    Rights, Seat, SharedKernel, ThreadId, ThreadState, Timeout, Wait,
 };
 use std::thread;
 use std::time::Duration;
@@ -405,6 +405,79 @@ fn a_page_came_by_many_links() {
     assert_eq!(links.len(), 20);
     assert_eq!((links[0].entry, links[19].entry), (2, 59));
     assert_eq!(kernel.check_provenance(0, 0, &links), Ok(()));
+}
+
+#[test]
+fn a_seat_calls_again_after_a_wait_that_ended() {
+    let kernel = SharedKernel::new(1).unwrap();
+    let (mut sigma0, mut root) = (kernel.seat(1).unwrap(), kernel.seat(2).unwrap());
+    let waiting = receive(ThreadId::ANY);
+    // the timeout of a call passes
+    let late = root
+        .call_within(&waiting, Duration::from_millis(1))
+        .unwrap();
+    assert_eq!(late.received(), Some(Err(ErrorCode::RECEIVE_TIMEOUT)));
+    // another thread cancels the wait of a call
+    thread::scope(|threads| {
+        let canceled = threads.spawn(|| root.call(&waiting).unwrap());
+        wait_for(&kernel, 3);
+        kernel.cancel(2).unwrap();
+        let reply = canceled.join().unwrap();
+        assert_eq!(reply.received(), Some(Err(ErrorCode::RECEIVE_CANCELED)));
+    });
+    // the same in a send phase
+    let message = Message::new(0, &[5], &[]).unwrap();
+    assert_eq!(
+        sigma0.call_for(&send(2, &message), Duration::ZERO),
+        Ok(None)
+    );
+    kernel.timeout(1).unwrap();
+    let reply = sigma0.take().unwrap();
+    assert_eq!(reply.received(), Some(Err(ErrorCode::SEND_TIMEOUT)));
+    // threads that run, and a thread that does not exist
+    for number in [1, 2, 3] {
+        assert_eq!(kernel.cancel(number), Err(Refusal::NotEnabled));
+    }
+    // both seats call again
+    assert_eq!(root.call_for(&waiting, Duration::ZERO), Ok(None));
+    sigma0.call(&send(2, &message)).unwrap();
+    assert_eq!(
+        root.take().unwrap().received().unwrap().unwrap().untyped(),
+        [5]
+    );
+    let ends: Vec<(u32, String)> = kernel
+        .history()
+        .iter()
+        .filter(|entry| entry.seat == 0)
+        .map(|entry| (entry.seat, entry.to_string()))
+        .collect();
+    let expected = ["timeout 2", "cancel 2", "timeout 1"].map(|line| (0, line.to_string()));
+    assert_eq!(ends, expected);
+    assert_eq!(kernel.close(vec![root, sigma0]).unwrap().len(), 9);
+}
+
+#[test]
+fn a_server_thread_shuts_down() {
+    let kernel = SharedKernel::new(1).unwrap();
+    let (mut sigma0, mut root) = (kernel.seat(1).unwrap(), kernel.seat(2).unwrap());
+    thread::scope(|threads| {
+        let server = threads.spawn(|| {
+            // receives until its receive is canceled, and returns how many messages came
+            let mut messages = 0;
+            while let Some(Ok(_)) = root.call(&receive(ThreadId::ANY)).unwrap().received() {
+                messages += 1;
+            }
+            messages
+        });
+        let message = Message::new(0, &[5], &[]).unwrap();
+        for _ in 0..2 {
+            sigma0.call(&send(2, &message)).unwrap();
+        }
+        while kernel.cancel(2).is_err() {
+            thread::yield_now();
+        }
+        assert_eq!(server.join().unwrap(), 2);
+    });
 }
 
 #[test]

@@ -93,6 +93,7 @@ fn answer_text(kernel: &Kernel, answered: Result<Answer, Refusal>) -> String {
         Outcome::Entangled => "entangled",
         Outcome::WantsMemory => "no-memory",
         Outcome::Expired => "expired",
+        Outcome::WaitEnded => "canceled",
         other => panic!("no list has this outcome: {other:?}"),
     };
     let mut text = format!("{outcome}\n");
@@ -162,6 +163,14 @@ fn answer_line(kernel: &mut Kernel, line: &str) -> Answered {
         }
         ("expire", &[thread]) => {
             let answered = kernel.expire(thread);
+            answer_text(kernel, answered)
+        }
+        ("timeout", &[thread]) => {
+            let answered = kernel.timeout(thread);
+            answer_text(kernel, answered)
+        }
+        ("cancel", &[thread]) => {
+            let answered = kernel.cancel(thread);
             answer_text(kernel, answered)
         }
         ("enabled", &[]) => step_text(kernel.enabled()),
