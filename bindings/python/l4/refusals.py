@@ -123,10 +123,12 @@ class BadCheckpoint(Refused):
 
 
 _ERRORS = {
-    2: "the zero timeout of the send phase expired",
-    3: "the zero timeout of the receive phase expired",
+    2: "the timeout of the send phase expired",
+    3: "the timeout of the receive phase expired",
     4: "there is no thread to send to",
     5: "there is no thread to receive from",
+    6: "the send phase was canceled",
+    7: "the receive phase was canceled",
     8: "the message that was sent could not be delivered",
     9: "the message to this thread could not be delivered",
 }
@@ -135,8 +137,9 @@ _ERRORS = {
 class IpcFailed(Exception):
     """An Ipc that failed with this ErrorCode (L4 X.2 manual, IPC: ErrorCode).
 
-    - 2 and 3: the zero timeout of the send phase or of the receive phase expired.
+    - 2 and 3: the timeout of the send phase or of the receive phase expired.
     - 4 and 5: there is no thread to send to, or to receive from.
+    - 6 and 7: the send phase or the receive phase was canceled.
     - 8 and 9: the message of this thread, or to this thread, could not be delivered: the receiver has no window for its items, the items
       conflict, or there was no memory.
     """

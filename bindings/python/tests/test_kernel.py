@@ -200,7 +200,7 @@ class Kernels(unittest.TestCase):
         self.assertIs(kernel.expire(3).outcome, Outcome.EXPIRED)
         with self.assertRaises(IpcFailed) as caught:
             kernel.reply(3).check()
-        self.assertEqual(str(caught.exception), "ErrorCode 3: the zero timeout of the receive phase expired")
+        self.assertEqual(str(caught.exception), "ErrorCode 3: the timeout of the receive phase expired")
         self.refuses("H1", None, kernel.start, 3, Call.set_pager(THREAD, ThreadId.SIGMA0))
         kernel.start(2, Call.set_pager(THREAD, ThreadId.SIGMA0))
         self.assertIs(kernel.reply(2).kind, ReplyKind.CONTROLLED)
