@@ -10,12 +10,12 @@ use Rattle.l4_record.specs.Replays.{FailsAt}
 use Rattle.l4_saved.specs.declared.following.HistoryFault.{HistoryFault}
 use Rattle.l4_saved.specs.declared.following.HistoryFault.TheVariants.{Memory, Write, NotNext, OtherAnswer}
 
--- a step that the environment takes, which is never the next one
-abbrev pub IsStart : Step → Type 0
-IsStart (Start n call) = ⊤
-IsStart (Transfer s r) = ⊥
-IsStart (Expire n) = ⊥
-IsStart (Cancel n cause) = ⊤
+-- a step that the environment takes: it is never the next one
+abbrev pub IsNeverNext : Step → Type 0
+IsNeverNext (Start n call) = ⊤
+IsNeverNext (Transfer s r) = ⊥
+IsNeverNext (Expire n) = ⊥
+IsNeverNext (Cancel n cause) = ⊤
 
 -- no step is enabled, or the next step is another one
 abbrev pub IsNotNext : Machine → Step → Type 0

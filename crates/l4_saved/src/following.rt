@@ -2,7 +2,7 @@
 ghost use Rattle.std.specs.Prelude.{◌≡◌, ◌≢◌, ◌⊎◌, ◌↔◌, Some, IsTrue, IfOk, IfErr, true, false};
 ghost use Rattle.l4_ipc.specs.Steps.{IsNext};
 ghost use Rattle.l4_record.specs.History.{IsSeated};
-ghost use Rattle.l4_saved.specs.Stopping.{IsStart, IsNotNext, IsNotSeated, Fails};
+ghost use Rattle.l4_saved.specs.Stopping.{IsNeverNext, IsNotNext, IsNotSeated, Fails};
 ghost use Rattle.l4_saved.specs.Inside.Telling.{Continues, history_fault};
 
 use l4_ipc::{Kernel, Step};
@@ -26,7 +26,7 @@ pub enum HistoryFault {
 /// Returns whether two steps are the same transfer or expiry.
 fn is_same(step: &Step, other: &Step) -> bool
     ensures yes { result ≡ true → step.now ≡ other.now }
-    ensures no { result ≡ false → IsStart step.now ⊎ (step.now ≢ other.now) }
+    ensures no { result ≡ false → IsNeverNext step.now ⊎ (step.now ≢ other.now) }
 {
     match step {
         Step::Start(_, _) => false,

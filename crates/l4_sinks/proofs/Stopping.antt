@@ -344,11 +344,13 @@ reads size names name tokens =
     (choose size names name tokens (is_word (codes "serve") name) _ _ _ _ (one _ _ _ ((by_thread (agrees_end size names) _).agrees tokens 2))
     (choose size names name tokens (is_word (codes "name") name) _ _ _ _ (one _ _ _ ((by_name (by_thread (agrees_end size names)) _).agrees tokens 2))
     (choose size names name tokens (is_word (codes "reply") name) _ _ _ _ (one _ _ _ ((by_thread (agrees_end size names) _).agrees tokens 2))
+    (choose size names name tokens (is_word (codes "timeout") name) _ _ _ _ (one _ _ _ ((by_thread (agrees_end size names) _).agrees tokens 2))
+    (choose size names name tokens (is_word (codes "cancel") name) _ _ _ _ (one _ _ _ ((by_thread (agrees_end size names) _).agrees tokens 2))
     (choose size names name tokens (is_word (codes "steps") name) _ _ _ _ (one _ _ _ ((agrees_end size names _).agrees tokens 2))
     (choose size names name tokens (is_word (codes "unordered") name) _ _ _ _ (one _ _ _ ((agrees_end size names _).agrees tokens 2))
     (choose size names name tokens (is_word (codes "finally") name) _ _ _ _ (one _ _ _ ((agrees_end size names _).agrees tokens 2))
     (choose size names name tokens (is_word (codes "never") name) _ _ _ _ (one _ _ _ (answer_ends tokens 2))
-    (choose size names name tokens (is_word (codes "always") name) _ _ _ None (one _ _ _ (answer_ends tokens 2)) refl))))))))))))))))))))
+    (choose size names name tokens (is_word (codes "always") name) _ _ _ None (one _ _ _ (answer_ends tokens 2)) refl))))))))))))))))))))))
 
 -- a line is a command just where nothing stops
 command_ends : (size : PageSize) (names : Names) (tokens : List (List ℕ)) → is_ok (command_of size names tokens) ≡ ends (stop_of size names tokens)
@@ -612,11 +614,13 @@ pager_fit size names name =
     (fit_choose size names (is_word (codes "serve") name) _ _ (fit_thread size names, tt)
     (fit_choose size names (is_word (codes "name") name) _ _ (fit_name size names, (fit_thread size names, tt))
     (fit_choose size names (is_word (codes "reply") name) _ _ (fit_thread size names, tt)
+    (fit_choose size names (is_word (codes "timeout") name) _ _ (fit_thread size names, tt)
+    (fit_choose size names (is_word (codes "cancel") name) _ _ (fit_thread size names, tt)
     (fit_choose size names (is_word (codes "steps") name) _ _ tt
     (fit_choose size names (is_word (codes "unordered") name) _ _ tt
     (fit_choose size names (is_word (codes "finally") name) _ _ tt
     (fit_choose size names (is_word (codes "never") name) _ _ tt
-    (fit_choose size names (is_word (codes "always") name) _ None tt tt)))))))))
+    (fit_choose size names (is_word (codes "always") name) _ None tt tt)))))))))))
 
 all_fit : (size : PageSize) (names : Names) (name : List ℕ) → IsFit size names (shape_of name)
 all_fit size names name =

@@ -112,10 +112,12 @@ named_long name ns many =
     let short : nat_le (length ns) 0 ≡ false = grind (arith, nat_tests) in
     cond_none (bytes_eq name (codes "transfer")) _ _ (ap (option_map _) (transfer_long ns many))
     (cond_none (bytes_eq name (codes "expire")) _ _ (ap (option_map _) (only_long ns many))
+    (cond_none (bytes_eq name (codes "timeout")) _ _ (ap (option_map _) (only_long ns many))
+    (cond_none (bytes_eq name (codes "cancel")) _ _ (ap (option_map _) (only_long ns many))
     (cond_none (bytes_eq name (codes "reply")) _ _ (ap (option_map _) (only_long ns many))
     (cond_none (bytes_eq name (codes "space")) _ _ (ap (option_map _) (only_long ns many))
     (cond_none (bytes_eq name (codes "pages")) _ _ (ap (option_map _) (only_long ns many))
-    (cond_none (bytes_eq name (codes "enabled")) _ _ (ap (λ b. cond b (Some Enabled) None) short) refl)))))
+    (cond_none (bytes_eq name (codes "enabled")) _ _ (ap (λ b. cond b (Some Enabled) None) short) refl)))))))
 
 none_of : {A : Type 0} (f : List ℕ → Option A) (tokens : List (List ℕ)) → HaveNoFew tokens → ((ns : List ℕ) → 68 < length ns → f ns ≡ None) → option_and_then f (numbers_of tokens) ≡ None
 none_of f tokens few long =
