@@ -291,10 +291,11 @@ has:
 
 A line belongs to the thread that makes its call: root (2) for thread, setpager and
 delete, and P for region P and serve P. A thread runs its next line, with all steps
-and acts of served threads that follow, unless it waits or does not exist. Only
-show, parent, reply, never and always are allowed after 'finally', and none of them
-before it. 'l4 run' executes a litmus test in the order in which it is written, and
-checks no rule. Rules:
+and acts of served threads that follow, unless it waits or does not exist. A line
+timeout N or cancel N belongs to no thread: it can be run whenever N waits, and is
+left over if N does not wait any more. Only show, parent, reply, never and always
+are allowed after 'finally', and none of them before it. 'l4 run' executes a litmus
+test in the order in which it is written, and checks no rule. Rules:
 
   never ANSWER               no outcome has this line
   always ANSWER              every outcome has this line
