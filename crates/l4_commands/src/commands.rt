@@ -545,24 +545,24 @@ fn is_name(name: &[u8]) -> bool
     }
 }
 
-/// Returns whether the name is `timeout`. Compares its bytes at once.
+/// Returns whether the name is `timeout`. Compares its first byte before the others.
 #[inline(always)]
 fn is_timeout(name: &[u8]) -> bool
     ensures { result ≡ bytes_eq name.now (codes "timeout") }
 {
     match name {
-        [b't', b'i', b'm', b'e', b'o', b'u', b't'] => true,
+        [b't', ..] => name == TIMEOUT,
         _ => false,
     }
 }
 
-/// Returns whether the name is `cancel`. Compares its bytes at once.
+/// Returns whether the name is `cancel`. Compares its first byte before the others.
 #[inline(always)]
 fn is_cancel(name: &[u8]) -> bool
     ensures { result ≡ bytes_eq name.now (codes "cancel") }
 {
     match name {
-        [b'c', b'a', b'n', b'c', b'e', b'l'] => true,
+        [b'c', ..] => name == CANCEL,
         _ => false,
     }
 }
