@@ -1,3 +1,4 @@
 pub mod Tokens
 pub mod Forms
+pub mod Queries
 pub mod Rules
