@@ -9,5 +9,6 @@ mod refusals;
 mod testing;
 
 pub use copying::{Copied, copy_script};
+pub use marks::is_marked;
 pub use outcomes::{Difference, Failure, Fault, Passed, UnexpectedRefusal};
 pub use testing::{answered, test_script};

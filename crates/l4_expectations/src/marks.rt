@@ -6,7 +6,7 @@ ghost use Rattle.l4_expectations.specs.Expectations.{is_marked, answer_in, expec
 use l4_text::next_token;
 
 /// Whether a line begins with `#=`.
-pub(crate) fn is_marked(line: &[u8]) -> bool
+pub fn is_marked(line: &[u8]) -> bool
     ensures { result ≡ is_marked line.now }
 {
     let [first, second, ..] = line else {
