@@ -1,5 +1,5 @@
 -- A line that was added to the parts of a plan, or for which there was no memory.
-use Rattle.std.proofs.Common.{◌≡◌, ℕ, List, [], ◌∷◌, ◌++◌, Result, Ok, Err, OnOk, IfErr, refl, sym, ap, subst}
+use Rattle.std.proofs.Common.{◌≡◌, ℕ, Bool, List, [], ◌∷◌, ◌++◌, Result, Ok, Err, OnOk, IfErr, refl, sym, ap, subst}
 use Rattle.l4_text.specs.declared.faults.RunFault.TheVariants.{Memory}
 use Rattle.l4_orders.specs.declared.parts.Part.{Part}
 use Rattle.l4_orders.specs.declared.parts.Part.TheVariants.{First, Unordered as Free, Finally as Last}
@@ -20,16 +20,16 @@ takes_first : (result : Result (Unit {0}) PlanFault) (p : Parts) (line : Line) (
     → Takes (Ok (with_first p line)) (record p { first = first }) number result
 takes_first result p line first number ok err = takes_added result (with_first p line) (record p { first = first }) number (on_ok result (λ is. λ i. record p { first = sym is i }) ok) err
 
-pub call_first : (part : Part) (result : Result (Unit {0}) PlanFault) (p : Parts) (thread : ℕ) (line : Line) (first : List Line) (number : ℕ) → part ≡ First
-    → OnOk result (first ≡ p.first ++ line ∷ []) → IfErr result (λ e. e ≡ Stopped Memory) → Takes (add_call part p thread line) (record p { first = first }) number result
-call_first part result p thread line first number is ok err =
-    subst (λ (x : Part). Takes (add_call x p thread line) (record p { first = first }) number result) (sym is) (takes_first result p line first number ok err)
+pub call_first : (part : Part) (result : Result (Unit {0}) PlanFault) (p : Parts) (thread : ℕ) (cancels : Bool) (line : Line) (first : List Line) (number : ℕ) → part ≡ First
+    → OnOk result (first ≡ p.first ++ line ∷ []) → IfErr result (λ e. e ≡ Stopped Memory) → Takes (add_call part p thread cancels line) (record p { first = first }) number result
+call_first part result p thread cancels line first number is ok err =
+    subst (λ (x : Part). Takes (add_call x p thread cancels line) (record p { first = first }) number result) (sym is) (takes_first result p line first number ok err)
 
-pub call_free : (part : Part) (result : Result (Unit {0}) PlanFault) (p : Parts) (thread : ℕ) (line : Line) (groups : List Group) (number : ℕ) → part ≡ Free
-    → OnOk result (groups ≡ with_line p.groups thread line) → IfErr result (λ e. e ≡ Stopped Memory) → Takes (add_call part p thread line) (record p { groups = groups }) number result
-call_free part result p thread line groups number is ok err =
-    subst (λ (x : Part). Takes (add_call x p thread line) (record p { groups = groups }) number result) (sym is)
-    (takes_added result (record p { groups = with_line p.groups thread line }) (record p { groups = groups }) number (on_ok result (λ same. λ i. record p { groups = sym same i }) ok) err)
+pub call_free : (part : Part) (result : Result (Unit {0}) PlanFault) (p : Parts) (thread : ℕ) (cancels : Bool) (line : Line) (groups : List Group) (number : ℕ) → part ≡ Free
+    → OnOk result (groups ≡ with_line p.groups thread cancels line) → IfErr result (λ e. e ≡ Stopped Memory) → Takes (add_call part p thread cancels line) (record p { groups = groups }) number result
+call_free part result p thread cancels line groups number is ok err =
+    subst (λ (x : Part). Takes (add_call x p thread cancels line) (record p { groups = groups }) number result) (sym is)
+    (takes_added result (record p { groups = with_line p.groups thread cancels line }) (record p { groups = groups }) number (on_ok result (λ same. λ i. record p { groups = sym same i }) ok) err)
 
 pub naming_first : (part : Part) (result : Result (Unit {0}) PlanFault) (p : Parts) (line : Line) (first : List Line) (number : ℕ) → part ≡ First
     → OnOk result (first ≡ p.first ++ line ∷ []) → IfErr result (λ e. e ≡ Stopped Memory) → Takes (add_naming part p line) (record p { first = first }) number result

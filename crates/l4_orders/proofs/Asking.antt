@@ -13,7 +13,7 @@ use Rattle.l4_answers.specs.Reports.{Report, RefusedLine, Shown, report_text}
 use Rattle.l4_commands.specs.LineKinds.{kind_of}
 use Rattle.l4_commands.specs.Requests.{Unread, asked_at, names_after}
 use Rattle.l4_commands.specs.declared.line_kinds.LineKind.{LineKind}
-use Rattle.l4_commands.specs.declared.line_kinds.LineKind.TheVariants.{Silent, Unread as CannotRead, OfThread, Creates, Names as GivesName, Query, Steps, Unordered, Finally}
+use Rattle.l4_commands.specs.declared.line_kinds.LineKind.TheVariants.{Silent, Unread as CannotRead, OfThread, Cancels, Creates, Names as GivesName, Query, Steps, Unordered, Finally}
 use Rattle.l4_commands.specs.declared.requests.Request.{Request}
 use Rattle.l4_commands.specs.declared.requests.Request.TheVariants.{Enter, CreateThread, EndThread, SendPlan, ListPages, TellParent, AddRegion, ServeThread, GiveName, TellReply, CancelWait, TellSteps, BeginUnordered, BeginFinally, StateRule}
 use Rattle.l4_shell.specs.Sessions.{State, Session, ListsPages, Shows, place_reports, parent_answer, reply_answer, AnswersLine}
@@ -29,6 +29,7 @@ abbrev pub IsAsked : LineKind → Type 0
 IsAsked Silent = ⊥
 IsAsked CannotRead = ⊥
 IsAsked (OfThread thread) = ⊥
+IsAsked (Cancels thread) = ⊥
 IsAsked (Creates number) = ⊥
 IsAsked GivesName = ⊥
 IsAsked Query = Unit {0}

@@ -13,11 +13,11 @@ use Rattle.l4_commands.specs.Requests.{asked_at, Unread as AnUnread}
 use Rattle.l4_commands.specs.declared.commands.ScriptFault.{ScriptFault}
 use Rattle.l4_commands.specs.declared.commands.ScriptFault.TheVariants.{UnknownCommand, BadTokens, LineTooLong, CutLine}
 use Rattle.l4_commands.specs.declared.requests.Request.{Request}
-use Rattle.l4_commands.specs.declared.requests.Request.TheVariants.{Enter, CreateThread, EndThread, SendPlan, ListPages, TellParent, AddRegion, ServeThread, GiveName, TellReply, TellSteps, BeginUnordered, BeginFinally, StateRule}
+use Rattle.l4_commands.specs.declared.requests.Request.TheVariants.{Enter, CreateThread, EndThread, SendPlan, ListPages, TellParent, AddRegion, ServeThread, GiveName, TellReply, CancelWait, TellSteps, BeginUnordered, BeginFinally, StateRule}
 use Rattle.l4_expectations.specs.Expectations.{is_marked}
 use Rattle.l4_names.specs.Names.{Names, given}
 use Rattle.l4_commands.specs.declared.line_kinds.LineKind.{LineKind}
-use Rattle.l4_commands.specs.declared.line_kinds.LineKind.TheVariants.{Silent, Unread as CannotRead, OfThread, Creates, Names as GivesName, Query, Steps as AsksSteps, Unordered, Finally}
+use Rattle.l4_commands.specs.declared.line_kinds.LineKind.TheVariants.{Silent, Unread as CannotRead, OfThread, Cancels, Creates, Names as GivesName, Query, Steps as AsksSteps, Unordered, Finally}
 use Rattle.l4_orders.specs.declared.parts.LineFault.{LineFault}
 use Rattle.l4_orders.specs.declared.parts.LineFault.TheVariants.{Long, Cut, Unknown, Unread, NamesFull, Repeated, OfNoThread, NoQuery, Steps, NoThread, NoAnswer, Expectation}
 use Rattle.l4_orders.specs.declared.parts.Part.{Part}
@@ -47,10 +47,10 @@ IsOther (Err (NoThread thread)) = ⊥
 IsOther (Err NoAnswer) = ⊥
 IsOther (Err Expectation) = Unit {0}
 
-other_call : (part : Part) (p : Parts) (thread : ℕ) (line : Line) → IsOther (add_call part p thread line)
-other_call First p thread line = tt
-other_call Free p thread line = tt
-other_call Last p thread line = tt
+other_call : (part : Part) (p : Parts) (thread : ℕ) (cancels : Bool) (line : Line) → IsOther (add_call part p thread cancels line)
+other_call First p thread cancels line = tt
+other_call Free p thread cancels line = tt
+other_call Last p thread cancels line = tt
 
 other_naming : (part : Part) (p : Parts) (line : Line) → IsOther (add_naming part p line)
 other_naming First p line = tt
@@ -75,8 +75,9 @@ other_last Last p = tt
 other_line : (kind : LineKind) (p : Parts) (line : Line) → IsOther (add_line kind p line)
 other_line Silent p line = tt
 other_line CannotRead p line = tt
-other_line (OfThread thread) p line = other_call p.part p thread line
-other_line (Creates number) p line = other_call p.part _ root line
+other_line (OfThread thread) p line = other_call p.part p thread false line
+other_line (Cancels thread) p line = other_call p.part p thread true line
+other_line (Creates number) p line = other_call p.part _ root false line
 other_line GivesName p line = other_naming p.part p line
 other_line Query p line = other_query p.part p line
 other_line AsksSteps p line = tt
@@ -104,6 +105,7 @@ other_in names (AddRegion thread entry) = tt
 other_in names (ServeThread thread) = tt
 other_in names (GiveName name number) = other_name (is_some (given names name number))
 other_in names (TellReply thread) = tt
+other_in names (CancelWait thread cause) = tt
 other_in names TellSteps = tt
 other_in names BeginUnordered = tt
 other_in names BeginFinally = tt

@@ -14,37 +14,37 @@ use Rattle.l4_orders.specs.Files.{IsUnknown}
 use Rattle.l4_orders.specs.Reading.{Line, Group, with_line, is_known, AreKnown, first_number, lines_in, group_in, groups_in}
 use Rattle.l4_orders.specs.Inside.Parts.{is_of}
 
--- the block at this place is the first one of this thread
-abbrev IsFirst : List Block → ℕ → ℕ → Block → Type 0
-IsFirst blocks thread k d = (k < length blocks) × (is_of thread (get_or blocks k d) ≡ true) × ((j : ℕ) → j < k → is_of thread (get_or blocks j d) ≡ false)
+-- the block at this place is the first one of this thread, or of lines that end its waits
+abbrev IsFirst : List Block → ℕ → Bool → ℕ → Block → Type 0
+IsFirst blocks thread cancels k d = (k < length blocks) × (is_of thread cancels (get_or blocks k d) ≡ true) × ((j : ℕ) → j < k → is_of thread cancels (get_or blocks j d) ≡ false)
 
-behind : (b : Block) (blocks : List Block) (thread k : ℕ) (d : Block) → IsFirst (b ∷ blocks) thread (suc k) d → IsFirst blocks thread k d
-behind b blocks thread k d first = (omega (arith, first.0), first.1, λ j lt. first.2 (suc j) (omega (arith, lt)))
+behind : (b : Block) (blocks : List Block) (thread : ℕ) (cancels : Bool) (k : ℕ) (d : Block) → IsFirst (b ∷ blocks) thread cancels (suc k) d → IsFirst blocks thread cancels k d
+behind b blocks thread cancels k d first = (omega (arith, first.0), first.1, λ j lt. first.2 (suc j) (omega (arith, lt)))
 
 -- one block has one line more
-grown : (blocks : List Block) (thread k : ℕ) (d b : Block) (line : Line) → IsFirst blocks thread k d → b.thread ≡ (get_or blocks k d).thread
-    → lines_in b.lines.items ≡ lines_in (get_or blocks k d).lines.items ++ line ∷ [] → groups_in (set blocks k b) ≡ with_line (groups_in blocks) thread line
-grown [] thread k d b line first same more = absurd (omega (arith, first.0))
-grown (c ∷ blocks) thread zero d b line first same more =
-    (λ i. record { thread = same i; lines = more i } ∷ groups_in blocks)
-    ∙ sym (ap (λ t. cond t (record { thread = c.thread; lines = lines_in c.lines.items ++ line ∷ [] } ∷ groups_in blocks) (group_in c ∷ with_line (groups_in blocks) thread line)) first.1)
-grown (c ∷ blocks) thread (suc k) d b line first same more =
-    ap (λ (gs : List Group). group_in c ∷ gs) (grown blocks thread k d b line (behind c blocks thread k d first) same more)
-    ∙ sym (ap (λ t. cond t (record { thread = c.thread; lines = lines_in c.lines.items ++ line ∷ [] } ∷ groups_in blocks) (group_in c ∷ with_line (groups_in blocks) thread line)) (first.2 0 (omega arith)))
+grown : (blocks : List Block) (thread : ℕ) (cancels : Bool) (k : ℕ) (d b : Block) (line : Line) → IsFirst blocks thread cancels k d → b.thread ≡ (get_or blocks k d).thread
+    → b.cancels ≡ (get_or blocks k d).cancels → lines_in b.lines.items ≡ lines_in (get_or blocks k d).lines.items ++ line ∷ [] → groups_in (set blocks k b) ≡ with_line (groups_in blocks) thread cancels line
+grown [] thread cancels k d b line first same also more = absurd (omega (arith, first.0))
+grown (c ∷ blocks) thread cancels zero d b line first same also more =
+    (λ i. record { thread = same i; cancels = also i; lines = more i } ∷ groups_in blocks)
+    ∙ sym (ap (λ t. cond t (record { thread = c.thread; cancels = c.cancels; lines = lines_in c.lines.items ++ line ∷ [] } ∷ groups_in blocks) (group_in c ∷ with_line (groups_in blocks) thread cancels line)) first.1)
+grown (c ∷ blocks) thread cancels (suc k) d b line first same also more =
+    ap (λ (gs : List Group). group_in c ∷ gs) (grown blocks thread cancels k d b line (behind c blocks thread cancels k d first) same also more)
+    ∙ sym (ap (λ t. cond t (record { thread = c.thread; cancels = c.cancels; lines = lines_in c.lines.items ++ line ∷ [] } ∷ groups_in blocks) (group_in c ∷ with_line (groups_in blocks) thread cancels line)) (first.2 0 (omega arith)))
 
-pub grown_at : (blocks : List Block) (thread k : ℕ) (d b : Block) (line : Line) → Some k ≡ position (is_of thread) blocks → b.thread ≡ (get_or blocks k d).thread
-    → lines_in b.lines.items ≡ lines_in (get_or blocks k d).lines.items ++ line ∷ [] → groups_in (set blocks k b) ≡ with_line (groups_in blocks) thread line
-grown_at blocks thread k d b line is same more = grown blocks thread k d b line (position-Some (is_of thread) blocks k d (sym is)) same more
+pub grown_at : (blocks : List Block) (thread : ℕ) (cancels : Bool) (k : ℕ) (d b : Block) (line : Line) → Some k ≡ position (is_of thread cancels) blocks → b.thread ≡ (get_or blocks k d).thread
+    → b.cancels ≡ (get_or blocks k d).cancels → lines_in b.lines.items ≡ lines_in (get_or blocks k d).lines.items ++ line ∷ [] → groups_in (set blocks k b) ≡ with_line (groups_in blocks) thread cancels line
+grown_at blocks thread cancels k d b line is same also more = grown blocks thread cancels k d b line (position-Some (is_of thread cancels) blocks k d (sym is)) same also more
 
--- no block is of this thread
-abbrev IsNone : List Block → ℕ → Block → Type 0
-IsNone blocks thread d = (j : ℕ) → j < length blocks → is_of thread (get_or blocks j d) ≡ false
+-- there is no such block
+abbrev IsNone : List Block → ℕ → Bool → Block → Type 0
+IsNone blocks thread cancels d = (j : ℕ) → j < length blocks → is_of thread cancels (get_or blocks j d) ≡ false
 
-added : (blocks : List Block) (thread : ℕ) (line : Line) (d : Block) → IsNone blocks thread d → with_line (groups_in blocks) thread line ≡ groups_in blocks ++ record { thread = thread; lines = line ∷ [] } ∷ []
-added [] thread line d none = refl
-added (c ∷ blocks) thread line d none =
-    ap (λ t. cond t (record { thread = c.thread; lines = lines_in c.lines.items ++ line ∷ [] } ∷ groups_in blocks) (group_in c ∷ with_line (groups_in blocks) thread line)) (none 0 (omega arith))
-    ∙ ap (λ (gs : List Group). group_in c ∷ gs) (added blocks thread line d (λ j lt. none (suc j) (omega (arith, lt))))
+added : (blocks : List Block) (thread : ℕ) (cancels : Bool) (line : Line) (d : Block) → IsNone blocks thread cancels d → with_line (groups_in blocks) thread cancels line ≡ groups_in blocks ++ record { thread = thread; cancels = cancels; lines = line ∷ [] } ∷ []
+added [] thread cancels line d none = refl
+added (c ∷ blocks) thread cancels line d none =
+    ap (λ t. cond t (record { thread = c.thread; cancels = c.cancels; lines = lines_in c.lines.items ++ line ∷ [] } ∷ groups_in blocks) (group_in c ∷ with_line (groups_in blocks) thread cancels line)) (none 0 (omega arith))
+    ∙ ap (λ (gs : List Group). group_in c ∷ gs) (added blocks thread cancels line d (λ j lt. none (suc j) (omega (arith, lt))))
 
 far : (n m : ℕ) → cond (nat_lt n m) (Some n) None ≡ None → m ≤ n
 far n m h = elim (nat_lt n m) as (λ b. nat_lt n m ≡ b → cond b (Some n) None ≡ None → m ≤ n) [
@@ -52,15 +52,15 @@ far n m h = elim (nat_lt n m) as (λ b. nat_lt n m ≡ b → cond b (Some n) Non
   | false ↦ λ t z. grind (arith, nat_tests)
 ] refl h
 
-none_is : (blocks : List Block) (thread : ℕ) (d : Block) → None ≡ position (is_of thread) blocks → IsNone blocks thread d
-none_is blocks thread d is =
-    let past = far (position_or_len (is_of thread) blocks) (length blocks) (sym is) in
-    λ j lt. fails_before_first (is_of thread) blocks j d (omega (arith, lt, past))
+none_is : (blocks : List Block) (thread : ℕ) (cancels : Bool) (d : Block) → None ≡ position (is_of thread cancels) blocks → IsNone blocks thread cancels d
+none_is blocks thread cancels d is =
+    let past = far (position_or_len (is_of thread cancels) blocks) (length blocks) (sym is) in
+    λ j lt. fails_before_first (is_of thread cancels) blocks j d (omega (arith, lt, past))
 
-pub added_at_end : (blocks : List Block) (thread : ℕ) (line : Line) → None ≡ position (is_of thread) blocks
-    → groups_in blocks ++ record { thread = thread; lines = line ∷ [] } ∷ [] ≡ with_line (groups_in blocks) thread line
-added_at_end [] thread line is = refl
-added_at_end (c ∷ blocks) thread line is = sym (added (c ∷ blocks) thread line c (none_is (c ∷ blocks) thread c is))
+pub added_at_end : (blocks : List Block) (thread : ℕ) (cancels : Bool) (line : Line) → None ≡ position (is_of thread cancels) blocks
+    → groups_in blocks ++ record { thread = thread; cancels = cancels; lines = line ∷ [] } ∷ [] ≡ with_line (groups_in blocks) thread cancels line
+added_at_end [] thread cancels line is = refl
+added_at_end (c ∷ blocks) thread cancels line is = sym (added (c ∷ blocks) thread cancels line c (none_is (c ∷ blocks) thread cancels c is))
 
 -- KNOWN THREADS
 
@@ -118,8 +118,8 @@ unknown_by created thread b one two is =
 written : (blocks ws : List Block) (n : ℕ) → n ≡ length ws → take n (ws ++ drop (length ws) blocks) ≡ ws
 written blocks ws n is = ap (λ (m : ℕ). take m (ws ++ drop (length ws) blocks)) is ∙ take-append_seam ws (drop (length ws) blocks)
 
-pub grown_in : (blocks ws : List Block) (thread k n : ℕ) (d b : Block) (line : Line) → ws ≡ blocks → length ws ≡ n → Some k ≡ position (is_of thread) blocks → b.thread ≡ (get_or ws k d).thread
-    → lines_in b.lines.items ≡ lines_in (get_or ws k d).lines.items ++ line ∷ [] → groups_in (take n (set ws k b ++ drop (length (set ws k b)) blocks)) ≡ with_line (groups_in blocks) thread line
-grown_in blocks ws thread k n d b line same long is thread_is more =
+pub grown_in : (blocks ws : List Block) (thread : ℕ) (cancels : Bool) (k n : ℕ) (d b : Block) (line : Line) → ws ≡ blocks → length ws ≡ n → Some k ≡ position (is_of thread cancels) blocks → b.thread ≡ (get_or ws k d).thread
+    → b.cancels ≡ (get_or ws k d).cancels → lines_in b.lines.items ≡ lines_in (get_or ws k d).lines.items ++ line ∷ [] → groups_in (take n (set ws k b ++ drop (length (set ws k b)) blocks)) ≡ with_line (groups_in blocks) thread cancels line
+grown_in blocks ws thread cancels k n d b line same long is thread_is cancels_is more =
     ap groups_in (written blocks (set ws k b) n (sym (length-set ws k b ∙ long)) ∙ ap (λ (v : List Block). set v k b) same)
-    ∙ grown_at blocks thread k d b line is (thread_is ∙ ap (λ (v : List Block). (get_or v k d).thread) same) (more ∙ ap (λ (v : List Block). lines_in (get_or v k d).lines.items ++ line ∷ []) same)
+    ∙ grown_at blocks thread cancels k d b line is (thread_is ∙ ap (λ (v : List Block). (get_or v k d).thread) same) (cancels_is ∙ ap (λ (v : List Block). (get_or v k d).cancels) same) (more ∙ ap (λ (v : List Block). lines_in (get_or v k d).lines.items ++ line ∷ []) same)

@@ -1,5 +1,5 @@
 -- The lines of a plan that was read: those of threads give no names, and the last ones are queries and rules.
-use Rattle.std.proofs.Common.{◌≡◌, ℕ, ◌+◌, ◌==◌, Bool, true, false, if◌then◌else◌, List, [], ◌∷◌, ◌++◌, Option, Some, None, Result, Ok, Err, is_ok, refl, sym, ap, subst, ◌∙◌}
+use Rattle.std.proofs.Common.{◌≡◌, ℕ, ◌+◌, Bool, true, false, if◌then◌else◌, List, [], ◌∷◌, ◌++◌, Option, Some, None, Result, Ok, Err, is_ok, refl, sym, ap, subst, ◌∙◌}
 use Rattle.std.proofs.lemmas.Bool.{false≢true}
 use Rattle.std.specs.Option.{option_map_or}
 use Rattle.l4_fpage.specs.declared.sizes.PageSize.{PageSize}
@@ -12,12 +12,12 @@ use Rattle.l4_commands.specs.LineKinds.{kind_of, names_by}
 use Rattle.l4_commands.specs.Requests.{Unread, asked_at}
 use Rattle.l4_commands.specs.declared.line_kinds.LineKind.{LineKind}
 use Rattle.l4_commands.specs.declared.requests.Request.{Request}
-use Rattle.l4_commands.specs.declared.requests.Request.TheVariants.{Enter, CreateThread, EndThread, SendPlan, ListPages, TellParent, AddRegion, ServeThread, GiveName, TellReply, TellSteps, BeginUnordered, BeginFinally, StateRule}
+use Rattle.l4_commands.specs.declared.requests.Request.TheVariants.{Enter, CreateThread, EndThread, SendPlan, ListPages, TellParent, AddRegion, ServeThread, GiveName, TellReply, CancelWait, TellSteps, BeginUnordered, BeginFinally, StateRule}
 use Rattle.l4_orders.specs.declared.parts.LineFault.{LineFault}
 use Rattle.l4_orders.specs.declared.parts.LineFault.TheVariants.{Long, Cut, Unread as NotRead, Repeated, OfNoThread, NoQuery, Steps}
 use Rattle.l4_orders.specs.declared.parts.Part.{Part}
 use Rattle.l4_orders.specs.declared.parts.Part.TheVariants.{First, Unordered as Free, Finally as Last}
-use Rattle.l4_orders.specs.Reading.{Line, Group, Parts, no_parts, with_line, with_first, add_call, add_naming, add_query, begin_free, begin_last, add_line, early_fault, take_asked, take_line, AreRead}
+use Rattle.l4_orders.specs.Reading.{Line, Group, Parts, no_parts, is_group, with_line, with_first, add_call, add_naming, add_query, begin_free, begin_last, add_line, early_fault, take_asked, take_line, AreRead}
 use Rattle.l4_orders.proofs.Asking.{IsAsked}
 
 -- WHAT HOLDS OF EACH LINE
@@ -34,11 +34,11 @@ pub lines_push : (P : List ℕ → Type 0) (lines : List Line) (line : Line) →
 lines_push P [] line all one = (one, tt)
 lines_push P (l ∷ lines) line all one = (all.0, lines_push P lines line all.1 one)
 
-groups_push : (P : List ℕ → Type 0) (groups : List Group) (thread : ℕ) (line : Line) → AllGroups P groups → P line.bytes → AllGroups P (with_line groups thread line)
-groups_push P [] thread line all one = ((one, tt), tt)
-groups_push P (group ∷ groups) thread line all one = at (group.thread == thread) (groups_push P groups thread line all.1 one) where
-  at : (b : Bool) → AllGroups P (with_line groups thread line)
-      → AllGroups P (if b then (record { thread = group.thread; lines = group.lines ++ line ∷ [] } ∷ groups) else (group ∷ with_line groups thread line))
+groups_push : (P : List ℕ → Type 0) (groups : List Group) (thread : ℕ) (cancels : Bool) (line : Line) → AllGroups P groups → P line.bytes → AllGroups P (with_line groups thread cancels line)
+groups_push P [] thread cancels line all one = ((one, tt), tt)
+groups_push P (group ∷ groups) thread cancels line all one = at (is_group thread cancels group) (groups_push P groups thread cancels line all.1 one) where
+  at : (b : Bool) → AllGroups P (with_line groups thread cancels line)
+      → AllGroups P (if b then (record { thread = group.thread; cancels = group.cancels; lines = group.lines ++ line ∷ [] } ∷ groups) else (group ∷ with_line groups thread cancels line))
   at true later = (lines_push P group.lines line all.0 one, all.1)
   at false later = (all.0, later)
 
@@ -97,10 +97,10 @@ is_refused fault q e = false≢true (ap is_ok e)
 through : (size : PageSize) (p q : Parts) → IsSorted size p → ◌≡◌ {A = Result Parts LineFault} (Ok p) (Ok q) → IsSorted size q
 through size p q s e = subst (IsSorted size) (same_ok p q e) s
 
--- a line of a thread
-call_sorted : (part : Part) (size : PageSize) (p q : Parts) (thread : ℕ) (line : Line) → p.part ≡ part → IsSorted size p → GivesNone size p.names line.bytes
-    → add_call part p thread line ≡ Ok q → IsSorted size q
-call_sorted First size p q thread line at s gives e = through size (with_first p line) q (record {
+-- a line of a thread, or one that ends its wait
+call_sorted : (part : Part) (size : PageSize) (p q : Parts) (thread : ℕ) (cancels : Bool) (line : Line) → p.part ≡ part → IsSorted size p → GivesNone size p.names line.bytes
+    → add_call part p thread cancels line ≡ Ok q → IsSorted size q
+call_sorted First size p q thread cancels line at s gives e = through size (with_first p line) q (record {
   short = lines_push IsShort p.first line s.short gives.0;
   names = sym (through_push size [] p.first line ∙ ap (λ (n : Names). names_by n (asked_at size n Whole line.bytes)) (sym s.names) ∙ gives.1);
   groups = s.groups;
@@ -111,14 +111,14 @@ call_sorted First size p q thread line at s gives e = through size (with_first p
   kept First h = h
   kept Free h = tt
   kept Last h = tt
-call_sorted Free size p q thread line at s gives e = through size (record p { groups = with_line p.groups thread line }) q (record {
+call_sorted Free size p q thread cancels line at s gives e = through size (record p { groups = with_line p.groups thread cancels line }) q (record {
   short = s.short;
   names = s.names;
-  groups = groups_push (GivesNone size p.names) p.groups thread line s.groups gives;
+  groups = groups_push (GivesNone size p.names) p.groups thread cancels line s.groups gives;
   queries = s.queries;
-  early = subst (λ (part : Part). IsEarly part (record p { groups = with_line p.groups thread line })) (sym at) tt;
+  early = subst (λ (part : Part). IsEarly part (record p { groups = with_line p.groups thread cancels line })) (sym at) tt;
 }) e
-call_sorted Last size p q thread line at s gives e = absurd (is_refused NoQuery q e)
+call_sorted Last size p q thread cancels line at s gives e = absurd (is_refused NoQuery q e)
 
 -- a line that creates a thread
 created_sorted : (size : PageSize) (p : Parts) (created : List ℕ) → IsSorted size p → IsSorted size (record p { created = created })
@@ -170,17 +170,18 @@ asked_sorted : (asked : Result (Option Request) Unread) (size : PageSize) (p q :
     → add_line (kind_of asked) (record p { names = names_by p.names asked }) line ≡ Ok q → IsSorted size q
 asked_sorted (Ok None) size p q line is s short e = through size p q s e
 asked_sorted (Err unread) size p q line is s short e = absurd (is_refused NotRead q e)
-asked_sorted (Ok (Some (Enter thread call))) size p q line is s short e = call_sorted p.part size p q thread line refl s (short, ap (names_by p.names) is) e
+asked_sorted (Ok (Some (Enter thread call))) size p q line is s short e = call_sorted p.part size p q thread false line refl s (short, ap (names_by p.names) is) e
 asked_sorted (Ok (Some (CreateThread number call))) size p q line is s short e =
-    call_sorted p.part size (record p { created = p.created ++ number ∷ [] }) q root line refl (created_sorted size p (p.created ++ number ∷ []) s) (short, ap (names_by p.names) is) e
-asked_sorted (Ok (Some (EndThread thread))) size p q line is s short e = call_sorted p.part size p q root line refl s (short, ap (names_by p.names) is) e
-asked_sorted (Ok (Some (SendPlan thread to which region))) size p q line is s short e = call_sorted p.part size p q thread line refl s (short, ap (names_by p.names) is) e
+    call_sorted p.part size (record p { created = p.created ++ number ∷ [] }) q root false line refl (created_sorted size p (p.created ++ number ∷ []) s) (short, ap (names_by p.names) is) e
+asked_sorted (Ok (Some (EndThread thread))) size p q line is s short e = call_sorted p.part size p q root false line refl s (short, ap (names_by p.names) is) e
+asked_sorted (Ok (Some (SendPlan thread to which region))) size p q line is s short e = call_sorted p.part size p q thread false line refl s (short, ap (names_by p.names) is) e
 asked_sorted (Ok (Some (ListPages thread first count))) size p q line is s short e = query_sorted p.part size p q line refl s (subst (λ (a : Result (Option Request) Unread). IsAsked (kind_of a)) (sym is) tt) e
 asked_sorted (Ok (Some (TellParent thread page))) size p q line is s short e = query_sorted p.part size p q line refl s (subst (λ (a : Result (Option Request) Unread). IsAsked (kind_of a)) (sym is) tt) e
-asked_sorted (Ok (Some (AddRegion thread entry))) size p q line is s short e = call_sorted p.part size p q thread line refl s (short, ap (names_by p.names) is) e
-asked_sorted (Ok (Some (ServeThread thread))) size p q line is s short e = call_sorted p.part size p q thread line refl s (short, ap (names_by p.names) is) e
+asked_sorted (Ok (Some (AddRegion thread entry))) size p q line is s short e = call_sorted p.part size p q thread false line refl s (short, ap (names_by p.names) is) e
+asked_sorted (Ok (Some (ServeThread thread))) size p q line is s short e = call_sorted p.part size p q thread false line refl s (short, ap (names_by p.names) is) e
 asked_sorted (Ok (Some (GiveName name thread))) size p q line is s short e = naming_sorted p.part size p q (after_giving p.names name thread) line refl s short (ap (names_by p.names) is) e
 asked_sorted (Ok (Some (TellReply thread))) size p q line is s short e = query_sorted p.part size p q line refl s (subst (λ (a : Result (Option Request) Unread). IsAsked (kind_of a)) (sym is) tt) e
+asked_sorted (Ok (Some (CancelWait thread cause))) size p q line is s short e = call_sorted p.part size p q thread true line refl s (short, ap (names_by p.names) is) e
 asked_sorted (Ok (Some TellSteps)) size p q line is s short e = absurd (is_refused Steps q e)
 asked_sorted (Ok (Some BeginUnordered)) size p q line is s short e = free_sorted p.part size p q s e
 asked_sorted (Ok (Some BeginFinally)) size p q line is s short e = last_sorted p.part size p q s e

@@ -9,9 +9,10 @@ use Rattle.l4_text.specs.declared.lines.Ending.TheVariants.{Whole}
 use Rattle.l4_commands.specs.LineKinds.{kind_of}
 use Rattle.l4_commands.specs.Requests.{Unread, asked_at}
 use Rattle.l4_commands.specs.declared.requests.Request.{Request}
-use Rattle.l4_commands.specs.declared.requests.Request.TheVariants.{Enter, CreateThread, EndThread, SendPlan, ListPages, TellParent, AddRegion, ServeThread, GiveName, TellReply, TellSteps, BeginUnordered, BeginFinally, StateRule}
+use Rattle.l4_commands.specs.declared.requests.Request.TheVariants.{Enter, CreateThread, EndThread, SendPlan, ListPages, TellParent, AddRegion, ServeThread, GiveName, TellReply, CancelWait, TellSteps, BeginUnordered, BeginFinally, StateRule}
 use Rattle.l4_rules.specs.declared.forms.Query.{Query}
-use Rattle.l4_orders.specs.Possible.{query_of, is_reply_of, is_asked, reply_line, ask, ask_all, is_over_threads, all_queries}
+use Rattle.l4_rules.specs.Queries.{query_of, is_reply_of}
+use Rattle.l4_orders.specs.Possible.{is_asked, reply_line, ask, ask_all, is_over_threads, all_queries}
 use Rattle.l4_orders.specs.Reading.{Line}
 use Rattle.l4_orders.proofs.Asking.{IsAsked}
 use Rattle.l4_orders.proofs.Naming.{AllLines, Asks, lines_push}
@@ -29,6 +30,7 @@ is_query (Ok (Some (AddRegion thread entry))) e = absurd (false≢true e)
 is_query (Ok (Some (ServeThread thread))) e = absurd (false≢true e)
 is_query (Ok (Some (GiveName name thread))) e = absurd (false≢true e)
 is_query (Ok (Some (TellReply thread))) e = tt
+is_query (Ok (Some (CancelWait thread cause))) e = absurd (false≢true e)
 is_query (Ok (Some TellSteps)) e = absurd (false≢true e)
 is_query (Ok (Some BeginUnordered)) e = absurd (false≢true e)
 is_query (Ok (Some BeginFinally)) e = absurd (false≢true e)

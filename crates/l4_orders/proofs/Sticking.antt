@@ -1,5 +1,5 @@
 -- The text of threads that are stuck, one more each.
-use Rattle.std.proofs.Common.{◌≡◌, ℕ, ◌+◌, ◌<◌, ◌≤◌, List, [], ◌∷◌, ◌++◌, length, take, get_or, slice_get, Option, Some, None, Result, Ok, Err, OnOk, sym, ap, ◌∙◌, arith, append_assoc, append-nil}
+use Rattle.std.proofs.Common.{◌≡◌, ℕ, ◌+◌, ◌<◌, ◌≤◌, Bool, true, false, if◌then◌else◌, List, [], ◌∷◌, ◌++◌, length, take, get_or, slice_get, Option, Some, None, Result, Ok, Err, OnOk, sym, ap, ◌∙◌, arith, append_assoc, append-nil}
 use Rattle.std.specs.Option.{option_map_or}
 use Rattle.std.proofs.lemmas.List.{take_all, take_more, length-take-le}
 use Rattle.l4_orders.specs.declared.plans.Block.{Block}
@@ -10,13 +10,17 @@ on_ok : {E : Type 0} {A B : Type 0} (r : Result (Unit {0}) E) → (A → B) → 
 on_ok (Ok u) f h = f h
 on_ok (Err e) f h = tt
 
-pub stuck_before : {E : Type 0} (r : Result (Unit {0}) E) (out new : List ℕ) (block : Block) (gone : ℕ) (line : PlanLine) → Some line ≡ slice_get block.lines.items gone
+pub stuck_before : {E : Type 0} (r : Result (Unit {0}) E) (out new : List ℕ) (block : Block) (gone : ℕ) (line : PlanLine) → false ≡ block.cancels → Some line ≡ slice_get block.lines.items gone
     → OnOk r (new ≡ out ++ stuck_text block.thread line.number) → OnOk r (new ≡ out ++ stuck_line block gone)
-stuck_before r out new block gone line is ok =
-    on_ok r (λ e. e ∙ ap (λ (o : Option PlanLine). out ++ option_map_or (λ one. stuck_text block.thread one.number) o []) is) ok
+stuck_before r out new block gone line of is ok =
+    on_ok r (λ e. e ∙ (λ i. out ++ (if of i then [] else option_map_or (λ one. stuck_text block.thread one.number) (is i) []))) ok
 
-pub not_stuck : (out : List ℕ) (block : Block) (gone : ℕ) → None ≡ slice_get block.lines.items gone → out ≡ out ++ stuck_line block gone
-not_stuck out block gone is = sym (append-nil out) ∙ ap (λ (o : Option PlanLine). out ++ option_map_or (λ one. stuck_text block.thread one.number) o []) is
+pub not_stuck : (out : List ℕ) (block : Block) (gone : ℕ) → false ≡ block.cancels → None ≡ slice_get block.lines.items gone → out ≡ out ++ stuck_line block gone
+not_stuck out block gone of is = sym (append-nil out) ∙ (λ i. out ++ (if of i then [] else option_map_or (λ one. stuck_text block.thread one.number) (is i) []))
+
+pub never_stuck : (out : List ℕ) (block : Block) (gone : ℕ) → true ≡ block.cancels → out ≡ out ++ stuck_line block gone
+never_stuck out block gone of =
+    sym (append-nil out) ∙ ap (λ (b : Bool). out ++ (if b then [] else option_map_or (λ (one : PlanLine). stuck_text block.thread one.number) (slice_get block.lines.items gone) [])) of
 
 one_more : (blocks : List Block) (gone : List ℕ) (b : Block) (g : ℕ) → length blocks ≡ length gone → stuck_lines (blocks ++ b ∷ []) (gone ++ g ∷ []) ≡ stuck_lines blocks gone ++ stuck_line b g
 one_more [] [] b g same = append-nil (stuck_line b g)

@@ -1,6 +1,6 @@
 -- The lines of a plan (this profile's own).
+use Rattle.std.specs.Prelude.{ℕ, ◌+◌, Bool, false, List, [], ◌∷◌, Option, Some, option_and_then, length, replicate, slice_get, slice_index, slice_set}
 use Rattle.std.specs.Option.{option_map_or}
-use Rattle.std.specs.Prelude.{ℕ, Bool, false, ◌+◌, List, [], ◌∷◌, Option, Some, option_and_then, length, replicate, slice_get, slice_index, slice_set}
 use Rattle.l4_orders.specs.declared.plans.Block.{Block}
 use Rattle.l4_orders.specs.declared.plans.Plan.{Plan}
 use Rattle.l4_orders.specs.declared.plans.PlanLine.{PlanLine}
@@ -32,6 +32,6 @@ gone_after gone (place ∷ order) = gone_after (gone_with gone place) order
 abbrev pub none_gone : Plan → List ℕ
 none_gone plan = replicate (length plan.blocks.items) 0
 
--- the lines at this place cancel waits
+-- the lines at this place end waits
 abbrev pub cancels_at : List Block → ℕ → Bool
 cancels_at blocks place = option_map_or (λ block. block.cancels) (slice_get blocks place) false

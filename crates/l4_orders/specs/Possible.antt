@@ -1,17 +1,14 @@
 -- What the rules of a test can name, and the replies for which rules ask (this profile's own).
-use Rattle.std.specs.Prelude.{◌≡◌, ℕ, ◌==◌, ◌&&◌, ◌||◌, Bool, true, false, not, is_some, if◌then◌else◌, Option, Some, None, Result, Ok, Err, List, [], ◌∷◌, ◌++◌, codes, decimal}
-use Rattle.std.specs.List.{list_all, list_any, flat_map}
+use Rattle.std.specs.Prelude.{ℕ, ◌&&◌, ◌||◌, Bool, true, false, not, is_some, if◌then◌else◌, Option, Some, None, List, [], ◌∷◌, ◌++◌, codes, decimal}
+use Rattle.std.specs.List.{filter, list_all, list_any, flat_map}
 use Rattle.std.specs.Option.{option_map_or}
 use Rattle.l4_fpage.specs.declared.sizes.PageSize.{PageSize}
 use Rattle.l4_names.specs.Names.{Names}
 use Rattle.l4_text.specs.Tokens.{tokens_of}
 use Rattle.l4_text.specs.declared.lines.Ending.TheVariants.{Whole}
-use Rattle.l4_commands.specs.Requests.{Unread, asked_at}
-use Rattle.l4_commands.specs.declared.requests.Request.{Request}
-use Rattle.l4_commands.specs.declared.requests.Request.TheVariants.{ListPages, TellParent, TellReply}
-use Rattle.l4_rules.specs.declared.forms.Query.{Query}
-use Rattle.l4_rules.specs.declared.forms.Query.TheVariants.{Pages, Parent, Reply}
+use Rattle.l4_commands.specs.Requests.{asked_at}
 use Rattle.l4_rules.specs.Forms.{can_answer, is_stuck}
+use Rattle.l4_rules.specs.Queries.{query_of, is_reply_of}
 use Rattle.l4_rules.specs.Rules.{rule_answer, over_threads, is_allowance}
 use Rattle.l4_orders.specs.declared.plans.Block.{Block}
 use Rattle.l4_orders.specs.declared.plans.Plan.{Plan}
@@ -19,22 +16,6 @@ use Rattle.l4_orders.specs.declared.plans.PlanLine.{PlanLine}
 use Rattle.l4_orders.specs.Reading.{Line, line_in}
 
 -- QUERIES
-
-abbrev pub query_in : Request → Option Query
-query_in (ListPages thread first count) = Some Pages
-query_in (TellParent thread page) = Some Parent
-query_in (TellReply thread) = Some (Reply thread)
-query_in request = None
-
-abbrev pub query_of : Result (Option Request) Unread → Option Query
-query_of (Ok None) = None
-query_of (Ok (Some request)) = query_in request
-query_of (Err unread) = None
-
-abbrev pub is_reply_of : ℕ → Query → Bool
-is_reply_of thread Pages = false
-is_reply_of thread Parent = false
-is_reply_of thread (Reply number) = number == thread
 
 -- the line queries the reply of the thread
 abbrev pub is_asked : PageSize → Names → ℕ → Line → Bool
@@ -45,8 +26,13 @@ is_asked size names thread line = option_map_or (λ query. is_reply_of thread qu
 abbrev pub is_answered : PageSize → Names → List (List ℕ) → PlanLine → Bool
 is_answered size names answer line = option_map_or (λ query. can_answer names query answer) (query_of (asked_at size names Whole line.bytes.items)) false
 
+-- the thread is stuck before one of these lines
+abbrev pub is_stuck_at : Names → List (List ℕ) → ℕ → List PlanLine → Bool
+is_stuck_at names answer thread lines = list_any (λ line. is_stuck names thread line.number answer) lines
+
+-- it is stuck before one of its lines; it never is before those that end its waits
 abbrev pub is_stuck_in : Names → List (List ℕ) → Block → Bool
-is_stuck_in names answer block = list_any (λ line. is_stuck names block.thread line.number answer) block.lines.items
+is_stuck_in names answer block = if block.cancels then false else is_stuck_at names answer block.thread block.lines.items
 
 abbrev pub is_told : PageSize → Plan → List (List ℕ) → Bool
 is_told size plan answer = list_any (λ line. is_answered size plan.names answer line) plan.queries.items
@@ -77,9 +63,9 @@ first_impossible size plan threads (line ∷ lines) =
 
 -- REPLIES
 
--- the threads that lines create, and those with lines behind `unordered`
+-- the threads that lines create, and those with lines of their own behind `unordered`
 abbrev pub threads_of : List ℕ → List Block → List ℕ
-threads_of created blocks = created ++ flat_map (λ block. block.thread ∷ []) blocks
+threads_of created blocks = created ++ flat_map (λ block. block.thread ∷ []) (filter (λ block. not block.cancels) blocks)
 
 -- one more query, unless the reply of the thread is queried already; it is no line of the file
 abbrev pub reply_line : ℕ → Line

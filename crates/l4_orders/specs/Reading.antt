@@ -1,5 +1,6 @@
 -- What a file says as a plan (this profile's own).
-use Rattle.std.specs.Prelude.{◌≡◌, ℕ, ◌+◌, ◌==◌, ◌||◌, Bool, true, if◌then◌else◌, is_some, Option, Some, None, List, [], ◌∷◌, ◌++◌, map, Result, Ok, Err, ◌&&◌, false, not}
+use Rattle.std.specs.Prelude.{◌≡◌, ℕ, ◌+◌, ◌==◌, ◌&&◌, ◌||◌, Bool, true, false, if◌then◌else◌, is_some, Option, Some, None, List, [], ◌∷◌, ◌++◌, map, Result, Ok, Err}
+use Rattle.std.specs.Bool.{beq}
 use Rattle.std.specs.List.{list_any}
 use Rattle.std.specs.Option.{option_map_or}
 use Rattle.l4_fpage.specs.declared.sizes.PageSize.{PageSize}
@@ -25,12 +26,12 @@ use Rattle.l4_orders.specs.declared.parts.LineFault.TheVariants.{Long as TooLong
 use Rattle.l4_orders.specs.declared.parts.Part.{Part}
 use Rattle.l4_orders.specs.declared.parts.Part.TheVariants.{First, Unordered as Free, Finally as Last}
 
--- a line with its number in the file, and the lines of a thread
+-- a line with its number in the file
 pub record Line : Type 0 where
   pub number : ℕ
   pub bytes : List ℕ
 
--- `cancels` says that the lines cancel waits of the thread
+-- the lines of a thread, or with `cancels` those that end its waits (`timeout` and `cancel`)
 pub record Group : Type 0 where
   pub thread : ℕ
   pub cancels : Bool
@@ -50,22 +51,23 @@ no_parts = record { first = []; groups = []; queries = []; part = First; created
 
 -- ONE LINE
 
-abbrev pub is_same : Bool → Bool → Bool
-is_same true b = b
-is_same false b = not b
+-- these are the lines of the thread, or with `cancels` those that end its waits
+abbrev pub is_group : ℕ → Bool → Group → Bool
+is_group thread cancels group = (group.thread == thread) && beq group.cancels cancels
 
--- the line is the last one of its thread, or of those that cancel waits of the thread
+-- the line is the last one of its thread, or of those that end waits of the thread
 abbrev pub with_line : List Group → ℕ → Bool → Line → List Group
 with_line [] thread cancels line = record { thread = thread; cancels = cancels; lines = line ∷ [] } ∷ []
 with_line (group ∷ groups) thread cancels line =
-    if (group.thread == thread) && is_same group.cancels cancels then (record { thread = group.thread; cancels = group.cancels; lines = group.lines ++ line ∷ [] } ∷ groups)
+    if is_group thread cancels group then (record { thread = group.thread; cancels = group.cancels; lines = group.lines ++ line ∷ [] } ∷ groups)
     else (group ∷ with_line groups thread cancels line)
 
 -- the line is the last one of the beginning
 abbrev pub with_first : Parts → Line → Parts
 with_first p line = record p { first = p.first ++ line ∷ [] }
 
--- a line of a thread: before `unordered` it keeps its place, and from there on its place among the lines of its thread
+-- a line of a thread, or one that ends a wait of the thread: before `unordered` it keeps its place, and from there on its place among the
+-- lines of its thread, or among those that end waits of the thread
 abbrev pub add_call : Part → Parts → ℕ → Bool → Line → Result Parts LineFault
 add_call First p thread cancels line = Ok (with_first p line)
 add_call Free p thread cancels line = Ok (record p { groups = with_line p.groups thread cancels line })

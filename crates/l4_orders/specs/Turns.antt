@@ -1,4 +1,4 @@
--- Turns of threads, whose lines a script answers (this profile's own).
+-- Turns of threads and of the environment, whose lines a script answers (this profile's own).
 use Rattle.std.specs.Prelude.{◌≡◌, ℕ, ◌+◌, ◌-◌, Bool, true, false, not, if◌then◌else◌, List, [], ◌∷◌, ◌++◌, length, slice_get, Some, None, codes, decimal, refl}
 use Rattle.std.specs.Coded.{Coded, code_by, coded×, coded_ℕ, coded_list}
 use Rattle.std.specs.Option.{option_map_or}
@@ -74,22 +74,22 @@ AnswersInTurn old number (line ∷ lines) told new =
 
 -- TURNS
 
--- a line of this thread can be executed: the thread runs, or it waits, if the line cancels its wait
+-- A line of this thread can be executed when the thread runs, and with `cancels`, a line that ends its wait when the thread waits.
 abbrev pub is_ready : Threads → Bool → ℕ → Bool
 is_ready t true n = option_map_or (λ state. not (is_running state)) (state_of t n) false
 is_ready t false n = runs t n
 
--- the thread at this place has a line left that can be executed
+-- a line is left at this place, and the next one can be executed
 abbrev pub may_turn : PlanPoint → ℕ → Bool
 may_turn p place =
     option_map_or (λ next. is_ready p.machine.threads (cancels_at p.plan.blocks.items place) next.0) (next_of p.plan.blocks.items p.gone place) false
 
--- the number of the next line of the thread at this place
+-- the number of the next line at this place
 abbrev pub next_line : PlanPoint → ℕ → ℕ
 next_line p place = option_map_or (λ line. line.number) (line_at p.plan.blocks.items p.gone place) 0
 
--- The thread at this place executes its next line: the line's call, all steps that come next, and the acts of served threads, as a script
--- answers the line.
+-- The next line at this place is executed: the line's call, or the step that ends a wait, then all steps that come next, and the acts of served
+-- threads, as a script answers the line.
 pub record Turns (old : PlanPoint) (place : ℕ) (new : PlanPoint) : Type 0 where
   pub next : ℕ × List ℕ
   pub next_is : next_of old.plan.blocks.items old.gone place ≡ Some next
@@ -114,7 +114,7 @@ turns_left p = left_in p.plan.blocks.items p.gone
 abbrev pub stuck_text : ℕ → ℕ → List ℕ
 stuck_text thread line = codes "stuck " ++ decimal thread ++ codes " " ++ decimal line ++ codes "\n"
 
--- If the thread of this block has lines left, it is stuck before the first of them. A line that cancels a wait is left if the thread does not
+-- If the thread of this block has lines left, it is stuck before the first of them. Lines that end its waits may be left too, as it does not
 -- wait, and nothing is stuck.
 abbrev pub stuck_line : Block → ℕ → List ℕ
 stuck_line block count = if block.cancels then [] else option_map_or (λ line. stuck_text block.thread line.number) (slice_get block.lines.items count) []

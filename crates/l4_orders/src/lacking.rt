@@ -12,14 +12,11 @@ use l4_names::Names;
 use l4_text::{LineReader, RunFault};
 use l4_threads::Reply;
 
-/// What an answer lacked.
+/// What an answer lacked, if anything: memory, or room in the history.
 #[derive(Clone, Copy, Debug, PartialEq, Eq)]
 pub(crate) enum Lack {
-    /// Nothing.
     Nothing,
-    /// Memory.
     Memory,
-    /// Room in the history.
     History,
 }
 

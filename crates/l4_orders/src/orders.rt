@@ -30,8 +30,9 @@ pub fn all_orders(
 /// Searches all orders of a plan on a new kernel with this many frames, 1 to 4,096, of this size, and visits at most `most` states.
 ///
 /// The lines before `unordered` are executed in their order. Then a thread executes its next line whenever it runs: the line's call, the
-/// steps that come next, and the acts of served threads, as in a script. An order ends when no thread with a line left runs. Its outcome is
-/// the text of the answers to the queries, and a line `stuck N L` for each thread N that is left before its line L.
+/// steps that come next, and the acts of served threads, as in a script. The next of the lines that end the waits of a thread (`timeout` and
+/// `cancel`) is executed whenever the thread waits. An order ends when no line can be executed. Its outcome is the text of the answers to the
+/// queries, and a line `stuck N L` for each thread N that is left before its line L.
 ///
 /// Returns each outcome once, with an order that produces it, and whether every order was followed. The script of each of these orders is
 /// executed once more, from boot, and has this outcome. If every order was followed, returns the graph of the states too. `watch` gets a report

@@ -40,7 +40,7 @@ pub enum LineFault {
     NoQuery,
     /// O4: the query `steps`. Its answer depends on all lines before it.
     Steps,
-    /// O5: a line of a thread that no `thread` line creates.
+    /// O5: a line of a thread, or one that ends its wait, and no `thread` line creates the thread.
     NoThread(u32),
     /// O7: a rule that names an answer that no outcome can have.
     NoAnswer,
@@ -89,13 +89,11 @@ pub(crate) fn add(lines: &mut Vec<PlanLine>, line: PlanLine) -> Result<(), PlanF
     Ok(())
 }
 
-/// Returns the place of a thread's block, or of the block that cancels its waits.
+/// Returns the place of a thread's block, or with `cancels` of the block that ends its waits.
 fn place_of(blocks: &[Block], thread: u32, cancels: bool) -> Option<usize>
     ensures { result ≡ position (is_of thread cancels) blocks.now }
 {
-    blocks
-        .iter()
-        .position(|block| block.thread == thread && block.cancels == cancels)
+    blocks.iter().position(|block| block.is_of(thread, cancels))
 }
 
 /// Adds a block with one line.
@@ -127,7 +125,7 @@ fn add_block(
     Ok(())
 }
 
-/// Adds a line to its thread's block.
+/// Adds a line to its block.
 fn add_to_block(
     alloc: Global,
     blocks: &mut Vec<Block>,
@@ -203,7 +201,7 @@ impl Reading {
         }
     }
 
-    /// Adds a line of a thread, or one that cancels a wait of the thread.
+    /// Adds a line of a thread, or with `cancels` one that ends a wait of the thread.
     fn add_call(&mut self, thread: u32, cancels: bool, line: PlanLine) -> Result<(), PlanFault>
         ensures { Takes
             (add_call self.old.part (parts_of self.old) thread cancels (line_in line))

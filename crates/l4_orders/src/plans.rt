@@ -1,6 +1,7 @@
 //! Litmus tests: the parts of a file.
 ghost use Rattle.std.specs.Prelude.{◌≡◌, IfOk, OnOk, option_map, slice_get};
 ghost use Rattle.std.specs.Option.{option_copied};
+ghost use Rattle.l4_orders.specs.Inside.Parts.{is_of};
 ghost use Rattle.l4_orders.specs.Plans.{line_at, next_of, cancels_at, gone_with, none_gone};
 
 use l4_names::Names;
@@ -13,12 +14,11 @@ pub struct PlanLine {
     pub bytes: Vec<u8>,
 }
 
-/// The lines of a thread, in their order, or the lines that cancel its waits.
+/// The lines of a thread in their order, or the lines that end its waits (`timeout` and `cancel`).
 #[derive(Drop)]
 pub struct Block {
     pub thread: u32,
-    /// Whether the lines cancel waits of the thread. Each can be executed when the thread waits. Otherwise the thread executes them, each
-    /// when it runs.
+    /// Whether the lines end waits of the thread. Then each can be executed when the thread waits, and otherwise when it runs.
     pub cancels: bool,
     pub lines: Vec<PlanLine>,
 }
@@ -48,6 +48,13 @@ pub(crate) fn advance(gone: &mut Vec<usize>, place: usize) -> Result<(), AllocEr
 }
 
 impl Block {
+    /// Returns whether the block has the lines of this thread, or with `cancels` those that end its waits.
+    pub(crate) fn is_of(&self, thread: u32, cancels: bool) -> bool
+        ensures { result ≡ is_of thread cancels self.now }
+    {
+        self.thread == thread && self.cancels == cancels
+    }
+
     /// Returns the line at a place.
     pub(crate) fn line(&self, place: usize) -> Option<&PlanLine>
         ensures { option_copied result ≡ slice_get self.now.lines.items place }
@@ -73,7 +80,7 @@ impl Plan {
         block.lines.get(*count)
     }
 
-    /// Returns whether the lines at a place cancel waits.
+    /// Returns whether the lines at a place end waits.
     pub(crate) fn cancels(&self, place: usize) -> bool
         ensures { result ≡ cancels_at self.now.blocks.items place }
     {

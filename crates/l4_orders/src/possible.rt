@@ -1,65 +1,23 @@
 //! What the rules of a litmus test can name, and the replies for which rules ask.
-ghost use Rattle.std.specs.Prelude.{◌≡◌, ◌++◌, IfErr, IfOk, OnOk, is_some, option_map};
+ghost use Rattle.std.specs.Prelude.{◌≡◌, ◌++◌, IfErr, IfOk, OnOk};
 ghost use Rattle.std.specs.List.{flat_map, list_any};
 ghost use Rattle.l4_text.specs.Tokens.{tokens_of};
-ghost use Rattle.l4_text.specs.declared.lines.Ending.TheVariants.{Whole};
 ghost use Rattle.l4_text.specs.declared.faults.RunFault.TheVariants.{Memory};
-ghost use Rattle.l4_commands.specs.Requests.{asked_at};
 ghost use Rattle.l4_orders.specs.declared.parts.PlanFault.TheVariants.{Stopped};
 ghost use Rattle.l4_orders.specs.Reading.{line_in, lines_in};
 ghost use Rattle.l4_orders.specs.Inside.Parts.{ChecksRules, Completes};
-ghost use Rattle.l4_orders.specs.Possible.{query_in, query_of, is_answered, is_stuck_in, is_told, is_left, can_have, are_asked, is_possible, first_impossible, threads_of, is_reply_of, is_asked, reply_line, ask, ask_all, is_over_threads, all_queries};
+ghost use Rattle.l4_orders.specs.Possible.{is_answered, is_stuck_at, is_stuck_in, is_told, is_left, can_have, are_asked, is_possible, first_impossible, threads_of, is_asked, reply_line, ask, ask_all, is_over_threads, all_queries};
 
 use crate::numbers::put_number;
 use crate::parts::{LineFault, PlanFault, add};
 use crate::plans::{Block, Plan, PlanLine};
-use l4_commands::{Request, command_name, is_comment, request};
 use l4_fpage::PageSize;
 use l4_names::Names;
-use l4_pager::wait;
-use l4_rules::{Query, can_answer, is_allowance, is_stuck, over_threads, rule_answer};
+use l4_rules::{
+    can_answer, is_allowance, is_reply_of, is_stuck, over_threads, query_of, rule_answer,
+};
 use l4_text::RunFault;
 use std::alloc::{AllocError, Global};
-
-/// Returns the query that a request is, if it is one.
-fn query_in(request: Request<'_>) -> Option<Query>
-    ensures { result ≡ query_in request.entry }
-{
-    match request {
-        Request::ListPages(_, _, _) => Some(Query::Pages),
-        Request::TellParent(_, _) => Some(Query::Parent),
-        Request::TellReply(thread) => Some(Query::Reply(thread)),
-        _ => None,
-    }
-}
-
-/// Returns the query in a line, if it has one.
-fn query_of(size: PageSize, names: &Names, bytes: &[u8]) -> Option<Query>
-    ensures { result ≡ query_of (asked_at size names.now Whole bytes.now) }
-{
-    if is_comment(bytes) {
-        return None;
-    }
-    let Some((name, rest)) = command_name(bytes) else {
-        return None;
-    };
-    let mut call = wait();
-    match request(name, rest, size, names, &mut call) {
-        Ok(request) => query_in(request),
-        Err(_) => None,
-    }
-}
-
-/// Returns whether a query asks for the reply of this thread.
-fn is_reply_of(thread: u32, query: Query) -> bool
-    ensures { result ≡ is_reply_of thread query }
-{
-    match query {
-        Query::Pages => false,
-        Query::Parent => false,
-        Query::Reply(number) => number == thread,
-    }
-}
 
 /// Returns whether a line queries the reply of this thread.
 fn is_asked(size: PageSize, names: &Names, thread: u32, line: &PlanLine) -> bool
@@ -89,14 +47,23 @@ fn is_answered(size: PageSize, names: &Names, answer: &[u8], line: &PlanLine) ->
     }
 }
 
+/// Returns whether the answer says that a thread is stuck before one of these lines.
+fn is_stuck_at(names: &Names, answer: &[u8], thread: u32, lines: &[PlanLine]) -> bool
+    ensures { result ≡ is_stuck_at names.now (tokens_of answer.now) thread lines.now }
+{
+    lines
+        .iter()
+        .any(|line| is_stuck(names, thread, line.number, answer))
+}
+
 /// Returns whether the answer says that a thread is stuck before one of its lines.
 fn is_stuck_in(names: &Names, answer: &[u8], block: &Block) -> bool
     ensures { result ≡ is_stuck_in names.now (tokens_of answer.now) block.now }
 {
-    block
-        .lines
-        .iter()
-        .any(|line| is_stuck(names, block.thread, line.number, answer))
+    if block.cancels {
+        return false;
+    }
+    is_stuck_at(names, answer, block.thread, block.lines.as_slice())
 }
 
 /// Returns whether a query of the test can have the answer.
@@ -157,12 +124,14 @@ fn first_impossible(size: PageSize, plan: &Plan, threads: &[u32], lines: &[PlanL
     None
 }
 
-/// Adds the threads that have these blocks.
+/// Adds the threads that have lines in these blocks.
 fn add_threads(threads: &mut Vec<u32>, blocks: &[Block]) -> Result<(), AllocError>
     ensures { OnOk result (threads.new.items ≡ threads_of threads.old.items blocks.now) }
 {
     for block in blocks {
-        threads.extend_from_slice(&[block.thread])?;
+        if !block.cancels {
+            threads.extend_from_slice(&[block.thread])?;
+        }
     }
     Ok(())
 }

@@ -40,8 +40,8 @@ fn read_lines<R: Read>(
 /// Reads a litmus test for pages of this size: lines of a script, with a line `unordered` and, if there are queries, a line `finally`.
 ///
 /// Before `finally`, only lines of threads are allowed, and before `unordered` also lines that give names. After `finally`, only `show`,
-/// `parent`, `reply`, `never` and `always` are allowed. A line belongs to the thread that starts its call: root for `thread`, `setpager` and `delete`, and P for
-/// `region P` and `serve P`.
+/// `parent`, `reply`, `never` and `always` are allowed. A line belongs to the thread that starts its call: root for `thread`, `setpager` and
+/// `delete`, and P for `region P` and `serve P`. Lines `timeout N` and `cancel N` are kept in a block of their own for each thread N.
 ///
 /// Returns `Malformed` with the first line that cannot be part of a litmus test; `NoUnordered` if there is no line `unordered`; then
 /// `Malformed` with the first line of a thread that neither is there at boot nor is created; then with the first rule that names an answer

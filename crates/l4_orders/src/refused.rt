@@ -2,24 +2,14 @@
 ghost use Rattle.std.specs.Prelude.{◌≡◌};
 ghost use Rattle.l4_text.specs.declared.lines.Ending.TheVariants.{Whole};
 ghost use Rattle.l4_commands.specs.Requests.{asked_at};
-ghost use Rattle.l4_expectations.specs.Expectations.{is_marked};
 ghost use Rattle.l4_orders.specs.Reading.{fault_in, asked_fault, early_fault};
 
 use crate::parts::LineFault;
 use l4_commands::{Request, ScriptFault, command_name, is_comment, request};
+use l4_expectations::is_marked;
 use l4_fpage::PageSize;
 use l4_names::Names;
 use l4_pager::wait;
-
-/// Returns whether a line begins with `#=`.
-fn is_expectation(line: &[u8]) -> bool
-    ensures { result ≡ is_marked line.now }
-{
-    let [first, second, ..] = line else {
-        return false;
-    };
-    *first == b'#' && *second == b'='
-}
 
 /// Returns S5 if a request gives a name and there are too many.
 fn fault_in(request: Request<'_>, names: &Names) -> Option<LineFault>
@@ -59,7 +49,7 @@ fn asked_fault(size: PageSize, names: &Names, bytes: &[u8]) -> Option<LineFault>
 pub(crate) fn early_fault(size: PageSize, names: &Names, bytes: &[u8]) -> Option<LineFault>
     ensures { result ≡ early_fault size names.now bytes.now }
 {
-    if is_expectation(bytes) {
+    if is_marked(bytes) {
         return Some(LineFault::Expectation);
     }
     asked_fault(size, names, bytes)

@@ -108,14 +108,8 @@ pub fn rules_text(
     ensures { IfOk result (λ text. text.items ≡ rules_text plan.now explain found.now) }
 {
     let mut out = Vec::new(alloc);
-    put_all(
-        alloc,
-        plan,
-        explain,
-        plan.queries.as_slice(),
-        found,
-        &mut out,
-    )?;
+    let lines = plan.queries.as_slice();
+    put_all(alloc, plan, explain, lines, found, &mut out)?;
     Ok(out)
 }
 

@@ -1,7 +1,6 @@
 //! A script between two lines, with the lines that each thread has left.
-ghost use Rattle.std.specs.Prelude.{◌≡◌, true, IfOk};
-ghost use Rattle.l4_orders.specs.Plans.{cancels_at};
-ghost use Rattle.l4_orders.specs.Turns.{is_ready, may_turn};
+ghost use Rattle.std.specs.Prelude.{◌≡◌, IfOk};
+ghost use Rattle.l4_orders.specs.Turns.{is_ready};
 ghost use Rattle.l4_shell.specs.ByLines.{state_of, unread};
 ghost use Rattle.l4_orders.specs.Words.{HasWords};
 
@@ -58,27 +57,18 @@ fn copied(alloc: Global, script: &ScriptRun) -> Result<Box<ScriptRun>, Failure>
     }
 }
 
-/// Returns whether there is a thread with this number that waits.
-fn waits(kernel: &Kernel, number: u32) -> bool
-    ensures { result ≡ is_ready kernel.now.threads true number }
+/// Returns whether a line of a thread can be executed: when the thread runs, and with `cancels` when it waits.
+fn is_ready(kernel: &Kernel, cancels: bool, number: u32) -> bool
+    ensures { result ≡ is_ready kernel.now.threads cancels number }
 {
+    let runs = kernel.runs(number);
     match kernel.thread(number) {
-        Some(_) => !kernel.runs(number),
+        Some(_) => runs != cancels,
         None => false,
     }
 }
 
 impl<'a> PlanState<'a> {
-    /// Returns whether the next of the lines that cancel a thread's waits is left, and the thread waits.
-    fn may_cancel(&self, place: usize) -> bool
-        ensures { cancels_at self.now.plan.blocks.items place ≡ true → result ≡ may_turn self.now place }
-    {
-        match self.plan.next_of(self.gone.as_slice(), place) {
-            Some((number, _)) => waits(self.script.kernel(), number),
-            None => false,
-        }
-    }
-
     /// Returns the words of the state.
     fn words(&self) -> Result<Vec<u32>, AllocError>
         ensures { IfOk result (λ key. HasWords self.now key.items) }
@@ -121,11 +111,8 @@ impl<'a> Machine for PlanState<'a> {
     }
 
     fn enabled(&self, thread: usize) -> bool {
-        if self.plan.cancels(thread) {
-            return self.may_cancel(thread);
-        }
         match self.plan.next_of(self.gone.as_slice(), thread) {
-            Some((number, _)) => self.script.kernel().runs(number),
+            Some((number, _)) => is_ready(self.script.kernel(), self.plan.cancels(thread), number),
             None => false,
         }
     }

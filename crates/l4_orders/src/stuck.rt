@@ -17,8 +17,7 @@ fn put_text(alloc: Global, out: &mut Vec<u8>, thread: u32, number: u64) -> Resul
     out.extend_from_slice(b"\n")
 }
 
-/// Appends that a thread is stuck before its next line, if it has one. A line that cancels a wait is left if its thread does not wait, and
-/// is not stuck.
+/// Appends that a thread is stuck before its next line, if it has one. It never is before lines that end its waits.
 fn put_stuck(alloc: Global, out: &mut Vec<u8>, block: &Block, gone: usize) -> Result<(), AllocError>
     ensures { OnOk result (out.new.items ≡ out.old.items ++ stuck_line block.now gone) }
 {

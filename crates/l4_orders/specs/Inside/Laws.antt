@@ -5,11 +5,10 @@ use Rattle.std.specs.Option.{option_map_or}
 use Rattle.l4_orders.specs.declared.plans.PlanLine.{PlanLine}
 use Rattle.std.proofs.lemmas.Bool.{false≢true}
 use Rattle.std.proofs.lemmas.Option.{slice_get_within, none-some}
-use Rattle.l4_threads.specs.Threads.{runs}
 use Rattle.l4_orders.specs.declared.plans.Block.{Block}
-use Rattle.l4_orders.specs.Plans.{line_in, next_of, gone_with}
+use Rattle.l4_orders.specs.Plans.{line_in, next_of, cancels_at, gone_with}
 use Rattle.l4_orders.specs.declared.plans.Plan.{Plan}
-use Rattle.l4_orders.specs.Turns.{sum, PlanPoint, may_turn, Turns, turns_left, left_in}
+use Rattle.l4_orders.specs.Turns.{sum, PlanPoint, is_ready, may_turn, Turns, turns_left, left_in}
 
 -- a place that has a line is one of a block
 in_block : (blocks : List Block) (place count : ℕ) (next : ℕ × List ℕ) → line_in blocks place count ≡ Some next → place < length blocks
@@ -26,7 +25,7 @@ block_within blocks gone place next is = at (slice_get gone place) is where
 
 pub turn_within : (s : PlanPoint) (place : ℕ) → may_turn s place ≡ true → place < length s.plan.blocks.items
 turn_within s place may = at (next_of s.plan.blocks.items s.gone place) refl may where
-  at : (o : Option (ℕ × List ℕ)) → next_of s.plan.blocks.items s.gone place ≡ o → option_map_or (λ next. runs s.machine.threads next.0) o false ≡ true → place < length s.plan.blocks.items
+  at : (o : Option (ℕ × List ℕ)) → next_of s.plan.blocks.items s.gone place ≡ o → option_map_or (λ next. is_ready s.machine.threads (cancels_at s.plan.blocks.items place) next.0) o false ≡ true → place < length s.plan.blocks.items
   at None e h = absurd (false≢true h)
   at (Some next) e h = block_within s.plan.blocks.items s.gone place next e
 

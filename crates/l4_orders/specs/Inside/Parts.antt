@@ -1,5 +1,5 @@
 -- The parts of a plan that is read, as the code keeps them.
-use Rattle.std.specs.Prelude.{◌≡◌, ℕ, ◌==◌, Bool, List, Option, Some, None, Result, Ok, Err, ◌&&◌}
+use Rattle.std.specs.Prelude.{◌≡◌, ℕ, Bool, List, Option, Some, None, Result, Ok, Err}
 use Rattle.l4_text.specs.declared.faults.RunFault.TheVariants.{Memory}
 use Rattle.l4_orders.specs.declared.parts.LineFault.{LineFault}
 use Rattle.l4_orders.specs.declared.parts.LineFault.TheVariants.{NoThread, NoAnswer}
@@ -12,11 +12,11 @@ use Rattle.l4_orders.specs.declared.plans.Plan.{Plan}
 use Rattle.l4_orders.specs.Files.{IsUnknown}
 use Rattle.l4_orders.specs.Possible.{first_impossible, threads_of, all_queries}
 use Rattle.l4_fpage.specs.declared.sizes.PageSize.{PageSize}
-use Rattle.l4_orders.specs.Reading.{Group, Parts, no_parts, AreKnown, HasBegun, lines_in, groups_in, is_same}
+use Rattle.l4_orders.specs.Reading.{Group, Parts, no_parts, AreKnown, HasBegun, lines_in, is_group, group_in, groups_in}
 use Rattle.l4_orders.specs.Whole.{HasParts, ArePossible, IsImpossible}
 
 abbrev pub is_of : ℕ → Bool → Block → Bool
-is_of thread cancels block = (block.thread == thread) && is_same block.cancels cancels
+is_of thread cancels block = is_group thread cancels (group_in block)
 
 abbrev pub parts_of : Reading → Parts
 parts_of r = record {
