@@ -113,7 +113,7 @@ def _step(event: Event) -> Dict[str, Any]:
         return {"text": f"start {event.thread} {event.call.line}", "answers": ["started", *event.texts], "line": event.line}
     first, *ended = event.texts
     if event.transfer is None:
-        return {"text": first, "answers": ["expired", *ended], "line": event.line}
+        return {"text": first, "answers": ["expired" if event.cancel is None else "canceled", *ended], "line": event.line}
     words, _, outcome = first.rpartition(" ")
     return {"text": words, "answers": [outcome, *ended], "line": event.line, "says": cut(str(event.message))}
 
@@ -258,6 +258,8 @@ def _recorded(events: Run, at: int) -> SharedKernel:
         steps += event.is_step
         if steps > at:
             break
+        if event.cancel is not None:
+            kernel._end_call(library.l4_lock_timeout if event.cancel.timed_out else library.l4_lock_cancel, event.cancel.thread)
         if event.call is None or event.thread is None:
             continue
         if event.thread not in given:

@@ -4,7 +4,7 @@ from __future__ import annotations
 from typing import Dict, Iterable, Iterator, List, Set, Tuple
 
 from .calls import Call
-from .kernel import Done, Kernel, Transfer
+from .kernel import Cancel, Done, Kernel, Transfer
 from .lists import execute, step_in
 from .refusals import Refused
 from .replies import Reply, ReplyKind
@@ -81,6 +81,8 @@ class StepList:
         if isinstance(step, Start):
             self._calls[step.thread] = step.call
             return Event(number, ended, step.thread, step.call, is_step=True)
+        if isinstance(step, Cancel):
+            return Event(number, (step.line, *ended), step.thread, cancel=step, is_step=True)
         texts = (Done(step, answer.outcome, answer.ended).line, *ended)
         if isinstance(step, Transfer):
             return Event(number, texts, transfer=step, message=self._sent(step), is_step=True)

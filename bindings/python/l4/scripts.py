@@ -11,7 +11,7 @@ from typing import Callable, Dict, Iterable, Iterator, List, Optional, Set, Tupl
 from . import _symbols
 from ._library import L4_DELETE
 from .calls import Call
-from .kernel import Kernel, Transfer
+from .kernel import Cancel, Kernel, Transfer
 from .plans import Plan, Region
 from .refusals import Refused
 from .replies import Reply, ReplyKind
@@ -36,7 +36,7 @@ _Read = TypeVar("_Read")
 
 @dataclass(frozen=True)
 class Event:
-    """An event on a line: a call that a thread started, a step that followed, or only an answer.
+    """An event on a line: a call that a thread started, a step that followed, the end of a wait, or only an answer.
 
     `texts` has the lines of its answer. A transfer also has the message that was sent.
     """
@@ -47,6 +47,7 @@ class Event:
     call: Optional[Call] = None
     transfer: Optional[Transfer] = None
     message: Optional[Message] = None
+    cancel: Optional[Cancel] = None
     is_step: bool = False
 
 
@@ -317,6 +318,12 @@ class Script:
         else:
             yield self._told(f"{number} waits" if number in self.calls else f"{number} none")
 
+    def _timeout(self, tokens: _Tokens) -> Iterator[Event]:
+        return self._end_wait(tokens, timed_out=True)
+
+    def _cancel(self, tokens: _Tokens) -> Iterator[Event]:
+        return self._end_wait(tokens, timed_out=False)
+
     def _begin_part(self, tokens: _Tokens) -> Iterator[Event]:
         tokens.end()
         return iter(())
@@ -355,6 +362,25 @@ class Script:
         if call.given().kind == L4_DELETE:
             self._forget_ended()
         yield from self._go_on()
+        yield from self._act_all()
+        if self._waiting is not None:
+            yield self._told(f"{number} waits")
+
+    def _end_wait(self, tokens: _Tokens, timed_out: bool) -> Iterator[Event]:
+        """Ends the wait of a thread, which is a step that no thread's call starts."""
+        number = tokens.thread()
+        tokens.end()
+        if self.steps > MOST_STEPS:
+            raise _Bad("L1")
+        self._waiting = None
+        step = Cancel(number, timed_out)
+        answer = self.kernel.timeout(number) if timed_out else self.kernel.cancel(number)
+        self.steps += 1
+        yield Event(self.line_count, (step.line, *self._ended(answer.ended)), number, cancel=step, is_step=True)
+        yield from self._act_all()
+
+    def _act_all(self) -> Iterator[Event]:
+        """Lets the served threads act, one after another."""
         for _ in range(_MOST_ACTS):
             running = [thread for thread in sorted(self.served) if self.kernel.reply(thread) is not None]
             if not running or self.steps > MOST_STEPS:
@@ -365,8 +391,6 @@ class Script:
                 yield self._told(f"{running[0]} refused {_text(refused)}")
                 break
             yield from self._go_on()
-        if self._waiting is not None:
-            yield self._told(f"{number} waits")
 
     def _start(self, number: int, call: Call) -> Event:
         """Starts a call, which is a step."""
@@ -435,6 +459,8 @@ _COMMANDS: Dict[str, Callable[[Script, _Tokens], Iterator[Event]]] = {
     "parent": Script._parent,
     "name": Script._name,
     "reply": Script._reply,
+    "timeout": Script._timeout,
+    "cancel": Script._cancel,
     "steps": Script._steps,
     "unordered": Script._begin_part,
     "finally": Script._begin_part,

@@ -48,7 +48,7 @@ class Lists(unittest.TestCase):
         self.assertGreaterEqual(len(files), 40)
         for file in files:
             text = file.read_text()
-            steps = sum(line.startswith(("start ", "transfer ", "expire ")) for line in text.splitlines())
+            steps = sum(line.startswith(("start ", "transfer ", "expire ", "timeout ", "cancel ")) for line in text.splitlines())
             with self.subTest(file.name):
                 self.assertEqual(self.of(text), Agreement(steps, sum(line.startswith("# ") for line in text.splitlines())))
 

@@ -208,6 +208,31 @@ class Kernels(unittest.TestCase):
         self.assertEqual(kernel.start(2, Call.delete(THREAD)).ended, (2, 3))
         self.assertIsNone(kernel.reply(3))
 
+    def test_waits_that_end_without_their_partners(self):
+        kernel = Kernel(256)
+        kernel.start(2, Call.create(THREAD, THREAD, ThreadId.ROOT))
+        for end in (kernel.timeout, kernel.cancel):
+            for thread in (2, 3, 4):
+                self.refuses("K1", None, end, thread)
+        # the phase of each call, and with the transfer of a send enabled; its receive phase does not begin
+        sends, fault = Call.call(THREAD, Message.of(untyped=[5])), Call.fault(0x5000, 0x44, Rights.READ)
+        for thread, call, errors in ((3, Call.receive(), (3, 7)), (1, sends, (2, 6)), (3, fault, (2, 6))):
+            for end, error in zip((kernel.timeout, kernel.cancel), errors):
+                kernel.start(thread, call)
+                answer = end(thread)
+                self.assertEqual((answer.outcome, answer.ended), (Outcome.WAIT_ENDED, (thread,)))
+                self.assertEqual((kernel.reply(thread).error, kernel.thread(thread).waits), (error, False))
+        self.assertIs(kernel.reply(3).kind, ReplyKind.FAILED)
+        kernel.start(3, Call.receive())
+        kernel.start(1, sends)
+        self.assertEqual(kernel.enabled(), Transfer(1, 3))
+        kernel.cancel(1)
+        self.assertIsNone(kernel.enabled())
+        kernel.cancel(3)
+        with self.assertRaises(IpcFailed) as caught:
+            kernel.reply(3).check()
+        self.assertEqual(str(caught.exception), "ErrorCode 7: the receive phase was canceled")
+
     def test_a_call_is_entered_with_its_steps(self):
         kernel = Kernel(1)
         entered = kernel.enter(2, Call.receive())
@@ -275,6 +300,8 @@ class Kernels(unittest.TestCase):
             (kernel.transfer, (1, 1 << 32)),
             (kernel.transfer, (-1, 1)),
             (kernel.expire, (1 << 32,)),
+            (kernel.timeout, (1 << 32,)),
+            (kernel.cancel, (-1,)),
             (kernel.reply, (1 << 32,)),
             (kernel.space_of, (1 << 32 | 1,)),
             (kernel.thread, (1 << 32 | 1,)),
@@ -318,6 +345,8 @@ class Kernels(unittest.TestCase):
             (kernel.enter, 1, Call.receive()),
             (kernel.transfer, 1, 2),
             (kernel.expire, 1),
+            (kernel.timeout, 1),
+            (kernel.cancel, 1),
             (kernel.enabled,),
             (kernel.next,),
             (kernel.reply, 1),

@@ -68,6 +68,15 @@ class Labs(unittest.TestCase):
         self.assertEqual((run["refusals"], run["notes"]), ({"count": 0, "first": []}, []))
         expired = self.run_of("ipc 2 nil any 0x400 0\n")["steps"][1]
         self.assertEqual((expired["text"], expired["answers"]), ("expire 2", ["expired", "2 ipc 00008000 3 nil"]))
+        # a served thread whose wait ends receives again, in a step of the same line
+        ended = self.run_of("serve 2\ntimeout 2\ncancel 2\n")["steps"]
+        waits = "start 2 ipc 0x00000000 0xffffffff 0x00000000 0x00000000"
+        self.assertEqual(
+            [(step["text"], step["answers"], step["line"]) for step in ended],
+            [(waits, ["started"], 1), ("timeout 2", ["canceled", "2 ipc 00008000 3 nil"], 2), (waits, ["started"], 2),
+             ("cancel 2", ["canceled", "2 ipc 00008000 7 nil"], 3), (waits, ["started"], 3)])
+        listed = self.run_of("start 2 ipc 0 0xffffffff 0 0\ntimeout 2\nstart 2 ipc 0 0xffffffff 0 0\ncancel 2\n")["steps"]
+        self.assertEqual([step["text"] for step in listed], [waits, "timeout 2", waits, "cancel 2"])
 
     def test_the_outcomes_of_a_plan(self):
         turns = "ipc 2 3 nil 0x4000000 0 0x10000\n", "recv 3 any 0\n"
@@ -101,6 +110,8 @@ class Labs(unittest.TestCase):
         self.assertEqual(self.ask("/why", script=script, at=2, space=2, page=32)["lines"], ["absent"])
         self.assertEqual(self.ask("/why", script=script, at=3, space=2, page=32)["steps"], [4])
         served = "thread 4 new 1\nserve 1\nfault 4 0x5000 0 r--\nfault 4 0x6000 0 r--\n"
+        ended = "recv 2 any 0x10\ncancel 2\nrecv 2 any 0x10\nsend 1 2 0x80 0x20008 0x100c7\n"
+        self.assertEqual(self.ask("/why", script=ended, at=5, space=1, page=32)["lines"], ["sigma0 page 16", "entry 4 transfer 1 2 map 16 32 rwx rwx", "page 32"])
         self.assertEqual(self.ask("/why", script=served, at=1 << 20, space=2, page=6)["lines"][1][:5], "entry")
 
     def test_refused_lines_have_their_meaning(self):

@@ -40,8 +40,8 @@ class Scripts(unittest.TestCase):
     def test_a_long_history_refuses_calls(self):
         script = Script(1)
         script.steps = MOST_STEPS + 1
-        texts = [text for line in ("recv 2 any 0", "recv 3 any 0", "steps") for event in script.line(line) for text in event.texts]
-        self.assertEqual(texts, ["line 1 refused L1", "line 2 refused K2", f"steps {MOST_STEPS + 1}"])
+        texts = [text for line in ("recv 2 any 0", "recv 3 any 0", "cancel 2", "steps") for event in script.line(line) for text in event.texts]
+        self.assertEqual(texts, ["line 1 refused L1", "line 2 refused K2", "line 3 refused L1", f"steps {MOST_STEPS + 1}"])
 
 
 if __name__ == "__main__":

@@ -41,7 +41,7 @@ class Lists(unittest.TestCase):
         words = " ".join("1" for _ in range(65))
         lines = f"""spaces 1;Space 1;space;space 1 2;space x;space -1;space +1;space 1_0;space 0x;space 0X1;space 0x123456789;space 4294967296
 space 00000000001;space\t1; # no comment;start;start 1;start 1 call;start 1 ipc 0 0 0;start x ipc 0 0 0 0;start 1 fault 0 0 8;start 1 fault 0 0
-start 1 unmap;start 1 create 1 2;start 1 setpager 1;start 1 delete;start 1 delete 1 2;transfer 1;transfer 1 2 3;expire;enabled 1;reply;pages 0 0
+start 1 unmap;start 1 create 1 2;start 1 setpager 1;start 1 delete;start 1 delete 1 2;transfer 1;transfer 1 2 3;expire;timeout;cancel 1 2;enabled 1;reply;pages 0 0
 pages all;start 1 ipc 0 0 0 0 {words};start 1 unmap 0 {words}"""
         for line in lines.replace("\n", ";").split(";"):
             with self.subTest(line):

@@ -6,7 +6,7 @@ const COMMANDS = {
   thread: "thread new|thread pager", setpager: "thread pager", delete: "thread", recv: "thread partner window", send: "thread partner message",
   ipc: "thread partner partner timeouts window message", delegate: "thread partner number number number rights", part: "thread partner number number number number rights",
   unmap: "thread control fpages", fault: "thread number number rights", region: "thread number number number rights", serve: "thread",
-  show: "thread number number", parent: "thread number", name: "name thread", reply: "thread", steps: "", unordered: "", finally: "",
+  show: "thread number number", parent: "thread number", name: "name thread", reply: "thread", timeout: "thread", cancel: "thread", steps: "", unordered: "", finally: "",
   never: "answer", always: "answer",
 };
 
@@ -29,6 +29,8 @@ export const FORMS = [
   ["show N FIRST COUNT", "lists the present pages among these"],
   ["parent N PAGE", "prints the page from which a page was mapped"],
   ["reply N", "prints how the last call of thread N ended"],
+  ["timeout N", "ends the wait of thread N, because its timeout has passed by a clock outside the kernel"],
+  ["cancel N", "cancels the wait of thread N"],
   ["steps", "prints the number of kernel steps so far"],
   ["unordered", "begins the calls of a litmus test, which may come in any order"],
   ["finally", "begins the queries of a litmus test, which are its outcome"],

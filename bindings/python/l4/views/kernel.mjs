@@ -124,6 +124,8 @@ export function stepText({ text, answers }, pageBytes) {
   if (kind === "start") return `thread ${first} calls: ${callText(second, rest.map(Number), pageBytes)}`;
   const ends = answers.slice(1).map((answer) => answer.split(" ")[0]);
   const more = ends.length === 1 ? `; the call of thread ${ends[0]} ends` : ends.length ? `; the calls of ${ends.map((it) => `thread ${it}`).join(" and ")} end` : "";
+  if (kind === "timeout") return `a clock ends the wait of thread ${first}${more}`;
+  if (kind === "cancel") return `the wait of thread ${first} is canceled${more}`;
   if (kind === "expire") return `the zero timeout of thread ${first} expires${more}`;
   return `thread ${first} sends to thread ${second}: ${answers[0]}${more}`;
 }

@@ -4,12 +4,13 @@ import { Threads } from "./kernel.mjs";
 // the threads are kept after each so many steps, so that a place in a long run is reached from a near one
 const EVERY = 1024;
 
-/** Marks the steps of served threads: in one line, the first call that starts is the line's own, and served threads start the others. */
+/** Marks the steps of served threads: in one line, the first call that starts, or the wait that ends, is the line's own, and served threads start
+ * the other calls. */
 function markServed(steps) {
   let line = 0, calls = 0;
   for (const step of steps) {
     if (step.line !== line) [line, calls] = [step.line, 0];
-    if (step.text.startsWith("start ")) calls += 1;
+    if (/^(start|timeout|cancel) /.test(step.text)) calls += 1;
     step.isServed = calls > 1;
   }
 }
