@@ -305,8 +305,8 @@ class SharedKernel(Unique, Queries):
     def cancel(self, thread: int) -> None:
         """Cancels the wait of a thread, as `timeout` ends it, but with ErrorCode 6 if the thread was sending, and 7 if it was receiving.
 
-        After KeyboardInterrupt has ended the wait of `Seat.call`, or an asyncio task was cancelled in `Seat.call_async`, cancel the wait and
-        `Seat.take` the reply. The seat can then make its next call. Raises Refused as `timeout` does.
+        If the thread's call was made by `Seat.call` or `Seat.call_async`, that method returns the reply. Else get it with `Seat.take`. Raises Refused
+        as `timeout` does.
 
         >>> from l4 import Call, SharedKernel
         >>> kernel = SharedKernel(1)
@@ -506,8 +506,8 @@ class Seat(Unique):
         If the call has not ended after `timeout` seconds, `SharedKernel.timeout` ends it, and the reply has ErrorCode 2 or 3. To stop waiting
         without ending the call, use `call_for`.
 
-        An exception that ends the wait, such as KeyboardInterrupt, does not end the call. Get its reply with `take`, or end it with
-        `SharedKernel.cancel` first. Raises ValueError if the kernel is closed meanwhile.
+        An exception that ends the wait, such as KeyboardInterrupt, cancels the call too, as `SharedKernel.cancel` does: the seat can make its next
+        call. If the call has ended just before, `take` returns its reply. Raises ValueError if the kernel is closed meanwhile.
 
         Raises Refused, in this order, with L3 (an earlier call has ended, whose reply you must `take` first), L1, NoMemory, K2 if there is
         no such thread, and as `Kernel.start` does. Raises Refused with K3 if an earlier call still waits, or if `SharedKernel.end_wait` ended
@@ -529,9 +529,19 @@ class Seat(Unique):
                 if self._ends_late(end):
                     reply = self.take()
                     continue
-                lock.waker(self._number).wait(_left(end))
+                try:
+                    lock.waker(self._number).wait(_left(end))
+                except BaseException:
+                    self._cancel()
+                    raise
                 reply = self.take()
             return reply
+
+    def _cancel(self) -> None:
+        """Cancels the call that waits, and drops its reply. Has no effect on a call that has ended. The lock must be held."""
+        with contextlib.suppress(Refused, ValueError):
+            self._kernel.cancel(self._number)
+            self.take()
 
     def _ends_late(self, end: Optional[float]) -> bool:
         """Ends the call that waits if this time has passed. Returns whether it did. The lock must be held."""
@@ -544,7 +554,8 @@ class Seat(Unique):
         """Makes a call as `call` does, and awaits its end in the running asyncio event loop. No thread waits for it, so that one thread can
         serve many seats. Raises what `call` raises.
 
-        If the task is cancelled, the call does not end. Get its reply with `take` or `wait_for`, or end it with `SharedKernel.cancel` first.
+        If the task is cancelled, its call is canceled too, as `SharedKernel.cancel` does: the seat can make its next call. If the call has ended
+        just before, `take` returns its reply.
 
         >>> import asyncio
         >>> from l4 import Call, Message, SharedKernel, ThreadId
@@ -571,7 +582,12 @@ class Seat(Unique):
                 if self._ends_late(end):
                     continue
                 woken = lock.notice(self._number)
-            await asyncio.wait([woken], timeout=_left(end))
+            try:
+                await asyncio.wait([woken], timeout=_left(end))
+            except asyncio.CancelledError:
+                with lock.entered:
+                    self._cancel()
+                raise
         return reply
 
     def _enter(self, call: Call) -> Optional[Reply]:
@@ -621,8 +637,7 @@ class Seat(Unique):
             return told.starts > told.receipts and not (thread and thread.waits)
 
     def take(self) -> Optional[Reply]:
-        """Takes the reply of a call whose wait has ended before the call: after `call_for` or `wait_for`, or by an exception, such as
-        KeyboardInterrupt.
+        """Takes the reply of a call whose wait has ended before the call, by `call_for`, `wait_for` or `SharedKernel.end_wait`.
 
         Returns None if the call still waits, or if there is no such reply. Each reply can be taken once; `receipts` keeps it. This method
         never waits for the end of a call.

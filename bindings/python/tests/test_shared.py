@@ -250,14 +250,6 @@ class Shared(unittest.TestCase):
                 await waiting
             await send(6)
             self.assertEqual(root.take().untyped, (6,))
-            # so does the call of a task that is cancelled
-            waiting = asyncio.ensure_future(root.call_async(Call.receive()))
-            await asyncio.sleep(0)
-            waiting.cancel()
-            with self.assertRaises(asyncio.CancelledError):
-                await waiting
-            await send(7)
-            self.assertEqual(root.take().untyped, (7,))
             # a task and a thread wait for each other
             waiting = asyncio.ensure_future(root.call_async(Call.receive()))
             await asyncio.sleep(0)
@@ -326,7 +318,7 @@ class Shared(unittest.TestCase):
 
     def test_tasks_call_again_after_a_wait_that_ended(self):
         kernel = SharedKernel(1)
-        root = kernel.seat(2)
+        sigma0, root = kernel.seat(1), kernel.seat(2)
 
         async def run():
             self.assertEqual((await root.call_async(Call.receive(), timeout=0.001)).error, 3)
@@ -334,17 +326,26 @@ class Shared(unittest.TestCase):
             await asyncio.sleep(0)
             kernel.cancel(2)
             self.assertEqual((await waiting).error, 7)
-            # a task that is cancelled leaves its call open, until the call is canceled too
+            # the call of a task that is cancelled is canceled too
             waiting = asyncio.ensure_future(root.call_async(Call.receive()))
             await asyncio.sleep(0)
             waiting.cancel()
             with self.assertRaises(asyncio.CancelledError):
                 await waiting
-            kernel.cancel(2)
-            self.assertEqual(root.take().error, 7)
+            self.assertIsNone(root.take())
             self.assertEqual((await root.call_async(Call.receive(), timeout=0)).error, 3)
+            # but a call that has ended keeps its reply
+            waiting = asyncio.ensure_future(root.call_async(Call.receive()))
+            await asyncio.sleep(0)
+            sigma0.call(Call.send(ThreadId.ROOT, Message.of(untyped=[7])))
+            waiting.cancel()
+            with self.assertRaises(asyncio.CancelledError):
+                await waiting
+            self.assertEqual(root.take().untyped, (7,))
 
         asyncio.run(run())
+        ends = [str(entry) for entry in kernel.history() if entry.seat == 0]
+        self.assertEqual(ends, ["timeout 2", "cancel 2", "cancel 2", "timeout 2"])
 
     def test_a_server_thread_shuts_down(self):
         kernel = SharedKernel(1)
@@ -442,7 +443,7 @@ class Shared(unittest.TestCase):
             kernel.close([root, third, third])
         self.assertEqual(kernel.close([third, root]), ())
 
-    def test_a_call_continues_after_its_wait_was_interrupted(self):
+    def test_a_call_is_canceled_if_its_wait_is_interrupted(self):
         handler = signal.signal(signal.SIGINT, signal.default_int_handler)
         self.addCleanup(signal.signal, signal.SIGINT, handler)
         kernel = SharedKernel(1)
@@ -452,6 +453,9 @@ class Shared(unittest.TestCase):
         with self.assertRaises(KeyboardInterrupt):
             root.call(Call.receive())
         self.assertIsNone(root.take())
+        self.assertEqual(str(kernel.history()[-1]), "cancel 2")
+        # the seat calls again, and leaves this call open
+        self.assertIsNone(root.call_for(Call.receive(), 0))
         with self.assertRaisesRegex(Refused, "^K3: "):
             root.call(Call.receive())
         sigma0.call(Call.send(ThreadId.ROOT, Message.of(untyped=[5])))
@@ -460,8 +464,8 @@ class Shared(unittest.TestCase):
         self.assertEqual(root.take().untyped, (5,))
         self.assertIsNone(root.take())
         self.assertEqual(root.call(create(3)).kind, ReplyKind.CONTROLLED)
-        self.assertEqual([receipt.reply.kind for receipt in root.receipts], [ReplyKind.IPC, ReplyKind.CONTROLLED])
-        self.assertEqual(len(kernel.close([root, sigma0])), 4)
+        self.assertEqual([(receipt.end, receipt.reply.kind) for receipt in root.receipts], [(1, ReplyKind.IPC), (4, ReplyKind.IPC), (5, ReplyKind.CONTROLLED)])
+        self.assertEqual(len(kernel.close([root, sigma0])), 6)
 
     def wakes_waiting_threads(self, close):
         """Two threads wait for calls while this one closes the kernel."""
