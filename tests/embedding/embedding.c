@@ -755,6 +755,101 @@ static void locks(void) {
     EXPECT(l4_lock_take(&lock, 1).refusal == L4_B1);
 }
 
+/* The answer ends the wait of this one thread, whose call fails with this ErrorCode. */
+static int ends_wait(l4_kernel *kernel, l4_answer answer, uint32_t thread, uint32_t error) {
+    l4_reply reply = l4_reply_of(kernel, thread);
+    return answer.refusal == L4_OK && answer.outcome == L4_WAIT_ENDED && answer.ended_count == 1 && answer.ended[0] == thread
+        && reply.kind == L4_REPLY_IPC && reply.tag == 0x8000 && reply.error == error && reply.from == L4_NILTHREAD && reply.word_count == 0
+        && is_in(l4_state_of(kernel, thread), L4_STATE_RUNNING, 0, 0, 0);
+}
+
+/* The fault of a thread whose pager is root ends with this ErrorCode, whether or not root has received it. */
+static void fault_ends(l4_kernel *kernel, uint32_t error) {
+    l4_call fault = kind(L4_FAULT);
+    l4_answer answer;
+    fault.address = 0x5000;
+    fault.access = L4_READ;
+    EXPECT(plainly(kernel, 3, fault).ended_count == 0);
+    if (error % 2 == 1) {
+        EXPECT(plainly(kernel, 2, receive(0)).ended_count == 0 && l4_next(kernel).outcome == L4_DELIVERED);
+    }
+    answer = error < 4 ? l4_timeout(kernel, 3) : l4_cancel(kernel, 3);
+    EXPECT(answer.outcome == L4_WAIT_ENDED && answer.ended_count == 1 && answer.ended[0] == 3);
+    EXPECT(l4_reply_of(kernel, 3).kind == L4_REPLY_FAILED && l4_reply_of(kernel, 3).error == error);
+}
+
+/* The environment ends waits: of threads that receive, that send, that could go on at once, and that wait in faults. */
+static void ended_waits(void) {
+    static const uint32_t words[3] = {0x80, 0x20008, 0x100c7};
+    l4_kernel kernel = L4_EMPTY;
+    l4_call call = send(3);
+    uint32_t error;
+    EXPECT(l4_timeout(&kernel, 2).refusal == L4_B1 && l4_cancel(&kernel, 2).refusal == L4_B1);
+    EXPECT(l4_boot(&kernel, 256) == L4_OK && plainly(&kernel, 2, create(3, 2)).refusal == L4_OK);
+    /* a thread that runs, one that has made no call, and one that does not exist */
+    EXPECT(l4_timeout(&kernel, 2).refusal == L4_K1 && l4_cancel(&kernel, 3).refusal == L4_K1 && l4_cancel(&kernel, 4).refusal == L4_K1);
+    EXPECT(is_in(l4_state_of(&kernel, 3), L4_STATE_NEW, 0, 0, 0));
+    EXPECT(plainly(&kernel, 3, receive(0x10)).ended_count == 0 && ends_wait(&kernel, l4_timeout(&kernel, 3), 3, 3));
+    EXPECT(plainly(&kernel, 3, receive(0x10)).ended_count == 0 && ends_wait(&kernel, l4_cancel(&kernel, 3), 3, 7));
+    EXPECT(l4_cancel(&kernel, 3).refusal == L4_K1);
+    /* a call of sigma0 to thread 3 ends while it sends; its receive phase does not begin, so that thread 3 has no receiver */
+    call.from = id(3);
+    EXPECT(l4_start(&kernel, 1, &call, words, 3).ended_count == 0 && ends_wait(&kernel, l4_timeout(&kernel, 1), 1, 2));
+    EXPECT(plainly(&kernel, 3, receive(0x10)).ended_count == 0 && l4_enabled(&kernel).kind == L4_NONE);
+    /* the transfer of the call is enabled, and the wait of its sender ends first: no page is mapped */
+    EXPECT(l4_start(&kernel, 1, &call, words, 3).ended_count == 0 && l4_enabled(&kernel).kind == L4_TRANSFER);
+    EXPECT(ends_wait(&kernel, l4_cancel(&kernel, 1), 1, 6) && l4_enabled(&kernel).kind == L4_NONE && l4_transfer(&kernel, 1, 3).refusal == L4_K1);
+    EXPECT(l4_mapping_of(&kernel, 2, 32).there == 0);
+    /* the same call again: its message is delivered, and its wait for the answer ends */
+    EXPECT(l4_start(&kernel, 1, &call, words, 3).ended_count == 0 && l4_next(&kernel).outcome == L4_DELIVERED);
+    EXPECT(is_in(l4_state_of(&kernel, 1), L4_STATE_RECEIVING, id(3), 0, 0) && ends_wait(&kernel, l4_cancel(&kernel, 1), 1, 7));
+    EXPECT(l4_mapping_of(&kernel, 2, 32).frame == 16);
+    for (error = 2; error <= 7; error += error == 3 ? 3 : 1) {
+        fault_ends(&kernel, error);
+    }
+    l4_free(&kernel);
+}
+
+/* The seat takes a reply with this ErrorCode, and then the entry that ended its call is a step of this kind. */
+static void takes_error(l4_lock *lock, uint32_t seat, uint32_t error, uint32_t step) {
+    const uint64_t last = l4_lock_length(lock).count - 1;
+    const l4_entry entry = l4_lock_entry(lock, last);
+    l4_reply reply;
+    uint32_t ended[1] = {0};
+    EXPECT(l4_lock_ended(lock, last, ended, 1).count == 1 && ended[0] == seat && l4_lock_poll(lock, seat) == 1);
+    EXPECT(entry.kind == step && entry.thread == seat && entry.seat == 0 && entry.outcome == L4_WAIT_ENDED && entry.ended_count == 1);
+    EXPECT(entry.ended[0] == seat && entry.receiver == 0 && entry.call.kind == 0 && entry.word_count == 0);
+    reply = l4_lock_take(lock, seat);
+    EXPECT(reply.kind == L4_REPLY_IPC && reply.tag == 0x8000 && reply.error == error && reply.word_count == 0);
+    EXPECT(l4_lock_take(lock, seat).kind == L4_NONE && l4_lock_poll(lock, seat) == 0);
+}
+
+/* The waits of seats end, and the seats make their next calls. */
+static void ended_waits_of_seats(void) {
+    static const uint32_t words[2] = {1, 5}, seats[2] = {1, 2};
+    l4_lock lock = L4_EMPTY;
+    l4_receipt receipt;
+    EXPECT(l4_lock_timeout(&lock, 2) == L4_B1 && l4_lock_cancel(&lock, 2) == L4_B1);
+    EXPECT(l4_lock_new(&lock, 16) == L4_OK && l4_lock_give(&lock, 1) == L4_OK && l4_lock_give(&lock, 2) == L4_OK);
+    EXPECT(l4_lock_timeout(&lock, 2) == L4_K1 && l4_lock_cancel(&lock, 3) == L4_K1 && l4_lock_length(&lock).count == 0);
+    EXPECT(by_seat(&lock, 2, receive(0), no_words, 0).reply.kind == L4_NONE && l4_lock_timeout(&lock, 2) == L4_OK);
+    /* the reply was not taken yet */
+    EXPECT(by_seat(&lock, 2, receive(0), no_words, 0).refusal == L4_L3);
+    takes_error(&lock, 2, 3, L4_TIMEOUT);
+    EXPECT(by_seat(&lock, 2, receive(0), no_words, 0).reply.kind == L4_NONE && l4_lock_cancel(&lock, 2) == L4_OK);
+    takes_error(&lock, 2, 7, L4_CANCEL);
+    EXPECT(by_seat(&lock, 1, send(2), words, 2).reply.kind == L4_NONE && l4_lock_cancel(&lock, 1) == L4_OK && l4_lock_cancel(&lock, 1) == L4_K1);
+    takes_error(&lock, 1, 6, L4_CANCEL);
+    EXPECT(by_seat(&lock, 2, receive(0), no_words, 0).reply.kind == L4_NONE);
+    EXPECT(by_seat(&lock, 1, send(2), words, 2).reply.error == 0 && l4_lock_take(&lock, 2).words[0] == 5);
+    receipt = l4_lock_receipt(&lock, 2, 0);
+    EXPECT(receipt.there == 1 && receipt.start == 0 && receipt.end == 1 && receipt.reply.error == 3 && receipt.call.from == L4_ANYTHREAD);
+    receipt = l4_lock_receipt(&lock, 1, 0);
+    EXPECT(receipt.there == 1 && receipt.start == 4 && receipt.end == 5 && receipt.reply.error == 6 && receipt.word_count == 2);
+    EXPECT(l4_lock_seat_of(&lock, 2).starts == 3 && l4_lock_seat_of(&lock, 2).receipts == 3 && l4_lock_length(&lock).count == 9);
+    EXPECT(l4_lock_close(&lock, seats, 2).refusal == L4_OK);
+}
+
 /* Kernels by pages of 1,024 bytes, and of other numbers of bytes. */
 static void small_kernels(void) {
     static const uint32_t words[3] = {0x80, 0x20008, 0x100c7};
@@ -1100,6 +1195,10 @@ static void lines_of_text(void) {
     call.timeouts = L4_ZERO_TIMEOUT << 16;
     EXPECT(l4_enter(&kernel, 1, &call, words, 3, steps, 1).step_count == 1);
     EXPECT(l4_step_text(steps, text, sizeof text) == 8 && strcmp(text, "expire 1") == 0);
+    steps[0].kind = L4_TIMEOUT;
+    EXPECT(l4_step_text(steps, text, sizeof text) == 9 && strcmp(text, "timeout 1") == 0);
+    steps[0].kind = L4_CANCEL;
+    EXPECT(l4_step_text(steps, text, sizeof text) == 8 && strcmp(text, "cancel 1") == 0);
     steps[0] = l4_enabled(&kernel);
     EXPECT(l4_step_text(steps, text, sizeof text) == 0 && text[0] == 0);
     EXPECT(prints(L4_NONE, 0, "") && prints(L4_REPLY_HIT, 0, "3 fault hit") && prints(L4_REPLY_ANSWERED, 0, "3 fault answered"));
@@ -1229,6 +1328,8 @@ int main(int count, char **words) {
     empty_lock_queries();
     locked_queries();
     locks();
+    ended_waits();
+    ended_waits_of_seats();
     provenance();
     segments();
     orders_of_plans();

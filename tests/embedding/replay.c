@@ -98,7 +98,7 @@ static void print_refusal(uint32_t refusal, uint32_t detail) {
 }
 
 static void print_answer(l4_kernel *kernel, l4_answer answer) {
-    static const char *const outcomes[7] = {"", "started", "done", "no-window", "entangled", "no-memory", "expired"};
+    static const char *const outcomes[8] = {"", "started", "done", "no-window", "entangled", "no-memory", "expired", "canceled"};
     uint32_t i;
     if (answer.refusal != L4_OK) {
         print_refusal(answer.refusal, answer.detail);
@@ -216,6 +216,10 @@ static int answer_named(l4_kernel *kernel, const char *name, const uint32_t *num
         print_answer(kernel, l4_transfer(kernel, numbers[0], numbers[1]));
     } else if (is(name, "expire") && count == 1) {
         print_answer(kernel, l4_expire(kernel, numbers[0]));
+    } else if (is(name, "timeout") && count == 1) {
+        print_answer(kernel, l4_timeout(kernel, numbers[0]));
+    } else if (is(name, "cancel") && count == 1) {
+        print_answer(kernel, l4_cancel(kernel, numbers[0]));
     } else if (is(name, "enabled") && count == 0) {
         print_enabled(l4_enabled(kernel));
     } else if (is(name, "reply") && count == 1) {
