@@ -1,6 +1,6 @@
 //! After each of many random calls: each page has the frame of its parent and no more rights, what descends from it are the pages below it, a
-//! refused call has changed nothing, and a copy of the kernel and one that was read from a checkpoint have done the same. Threads of the
-//! program make such calls of one shared kernel too.
+//! refused call has changed nothing, and a copy of the kernel and one that was read from a checkpoint have done the same. Between calls, waits
+//! of threads end by a timeout or a cancel. Threads of the program make such calls of one shared kernel too, while one thread ends waits.
 use l4::*;
 use std::collections::BTreeMap;
 use std::thread;
@@ -176,13 +176,57 @@ fn check_call(kernel: &mut Kernel, thread: u32, call: &Call) -> Option<usize> {
     Some(entered.steps.iter().filter(is_delivered).count())
 }
 
+/// Ends the wait of a thread, and checks that only its call has ended. Returns whether it waited.
+fn check_end(kernel: &mut Kernel, number: u32, is_late: bool) -> bool {
+    let (before, thread) = (state(kernel), kernel.thread(number));
+    let ended = match is_late {
+        true => kernel.timeout(number),
+        false => kernel.cancel(number),
+    };
+    let after = state(kernel);
+    assert_eq!(before.mappings, after.mappings);
+    assert_eq!(kernel.enabled(), None);
+    let Some(thread) = thread.filter(Thread::waits) else {
+        assert_eq!(ended, Err(Refusal::NotEnabled), "{number}");
+        assert_eq!(before, after);
+        return false;
+    };
+    let (outcome, ends) = (Outcome::WaitEnded, vec![number]);
+    assert_eq!(ended.map(|it| (it.outcome, it.ended)), Ok((outcome, ends)));
+    let (wait, code) = match (thread.state, is_late) {
+        (ThreadState::Sending(wait), true) => (wait, ErrorCode::SEND_TIMEOUT),
+        (ThreadState::Sending(wait), false) => (wait, ErrorCode::SEND_CANCELED),
+        (ThreadState::Receiving(wait), true) => (wait, ErrorCode::RECEIVE_TIMEOUT),
+        (ThreadState::Receiving(wait), false) => (wait, ErrorCode::RECEIVE_CANCELED),
+        other => panic!("{other:?}"),
+    };
+    let wanted = Some(match wait.fault {
+        true => Reply::Failed(code),
+        false => Reply::Ipc(Received {
+            tag: 0x8000,
+            error: Some(code),
+            from: ThreadId::NIL,
+            words: vec![],
+        }),
+    });
+    for (old, new) in before.threads.iter().zip(&after.threads) {
+        let reply = if old.0 == number { &wanted } else { &old.2 };
+        assert_eq!((old.0, old.1, reply), (new.0, new.1, &new.2));
+    }
+    true
+}
+
 #[test]
 fn random_calls_keep_what_must_hold() {
     let mut random = Random(0x1234_5678_9abc_def1);
-    let (mut refused, mut delivered) = (0, 0);
+    let (mut refused, mut delivered, mut ended) = (0, 0, 0);
     for _ in 0..100 {
         let mut kernel = boot();
         for _ in 0..30 {
+            if random.below(4) == 0 {
+                let (thread, is_late) = (random.thread(), random.below(2) == 0);
+                ended += usize::from(check_end(&mut kernel, thread, is_late));
+            }
             let calls = match random.below(2) {
                 0 => vec![(random.thread(), random.call())],
                 _ => random.handover(),
@@ -196,7 +240,10 @@ fn random_calls_keep_what_must_hold() {
         }
     }
     // the calls are of all kinds
-    assert!(refused > 1000 && delivered > 500, "{refused} {delivered}");
+    assert!(
+        refused > 500 && delivered > 500 && ended > 100,
+        "{refused} {delivered} {ended}"
+    );
 }
 
 /// Makes random calls under a seat, and waits for none of them. Returns the number of replies.
@@ -224,6 +271,8 @@ fn replay(history: &[Entry]) -> Kernel {
                 kernel.transfer(*sender, *receiver)
             }
             Recorded::Next(Step::Expire { thread }) => kernel.expire(*thread),
+            Recorded::Timeout { thread } => kernel.timeout(*thread),
+            Recorded::Cancel { thread } => kernel.cancel(*thread),
             other => panic!("{other:?}"),
         };
         let answer = answer.unwrap();
@@ -235,15 +284,33 @@ fn replay(history: &[Entry]) -> Kernel {
     kernel
 }
 
-/// Threads of the program make random calls of one kernel at the same time. Returns their seats and the numbers of their replies.
-fn storm(kernel: &SharedKernel, round: u64) -> (Vec<Seat>, Vec<usize>) {
+/// Ends waits of random threads. Returns how many.
+fn end_waits(kernel: &SharedKernel, mut random: Random) -> usize {
+    let mut ended = 0;
+    for _ in 0..200 {
+        let thread = random.thread();
+        let end = match random.below(2) {
+            0 => kernel.timeout(thread),
+            _ => kernel.cancel(thread),
+        };
+        assert!(matches!(end, Ok(()) | Err(Refusal::NotEnabled)), "{end:?}");
+        ended += usize::from(end.is_ok());
+        thread::yield_now();
+    }
+    ended
+}
+
+/// Threads of the program make random calls of one kernel at the same time, and one ends waits. Returns the seats, the numbers of their replies, and
+/// the number of waits that were ended.
+fn storm(kernel: &SharedKernel, round: u64) -> (Vec<Seat>, Vec<usize>, usize) {
     let mut seats: Vec<Seat> = (1..=THREADS)
         .map(|number| kernel.seat(number).unwrap())
         .collect();
     for create in creates() {
         seats[1].call(&create).unwrap();
     }
-    let mut replies = thread::scope(|threads| {
+    let (mut replies, ended) = thread::scope(|threads| {
+        let ending = threads.spawn(|| end_waits(kernel, Random(0x1234_5678_9abc_def1 ^ round)));
         let running: Vec<_> = seats
             .iter_mut()
             .map(|seat| {
@@ -252,10 +319,10 @@ fn storm(kernel: &SharedKernel, round: u64) -> (Vec<Seat>, Vec<usize>) {
             })
             .collect();
         let joined = running.into_iter().map(|thread| thread.join().unwrap());
-        joined.collect::<Vec<usize>>()
+        (joined.collect::<Vec<usize>>(), ending.join().unwrap())
     });
     replies[1] += creates().count();
-    (seats, replies)
+    (seats, replies, ended)
 }
 
 /// Some pages have a provenance from sigma0's page of their frame, and a shorter list is refused.
@@ -277,7 +344,7 @@ fn check_provenance(kernel: &SharedKernel, mappings: &[Mapping]) {
 fn threads_make_random_calls_of_one_kernel() {
     for round in 1..=10 {
         let kernel = SharedKernel::new(FRAMES).unwrap();
-        let (seats, replies) = storm(&kernel, round);
+        let (seats, replies, ended) = storm(&kernel, round);
         let copy = kernel.copy().unwrap();
         let mappings = state(&copy).mappings;
         check_parents(&copy, &mappings);
@@ -285,7 +352,12 @@ fn threads_make_random_calls_of_one_kernel() {
         check_provenance(&kernel, &mappings);
         let receipts = seats.iter().map(|seat| seat.receipts().len());
         assert_eq!(receipts.collect::<Vec<_>>(), replies);
-        let replayed = replay(&kernel.close(seats).unwrap());
+        let history = kernel.close(seats).unwrap();
+        assert_eq!(
+            history.iter().filter(|entry| entry.seat == 0).count(),
+            ended
+        );
+        let replayed = replay(&history);
         assert_eq!(replayed.changes_since(&copy), []);
         assert_eq!(replayed.checkpoint(0).unwrap(), copy.checkpoint(0).unwrap());
     }
