@@ -1,5 +1,6 @@
 -- A wait that was canceled: the call that ended is noted in its book.
-use Rattle.std.proofs.Common.{◌≡◌, ℕ, List, [], ◌∷◌, ◌++◌, length, map, refl, sym, ap, ◌∙◌, subst}
+use Rattle.std.proofs.Common.{◌≡◌, ℕ, List, [], ◌∷◌, ◌++◌, Result, Ok, Err, length, map, refl, sym, ap, ◌∙◌, subst}
+use Rattle.std.specs.Prelude.{IfErr, IsErrAnd}
 use Rattle.std.specs.Option.{option_map}
 use Rattle.l4_ipc.specs.declared.steps.CancelCause.{CancelCause}
 use Rattle.l4_record.specs.declared.entries.Entry.{Entry}
@@ -14,6 +15,7 @@ use Rattle.l4_lock.specs.Books.{Book, plain, book_at}
 use Rattle.l4_lock.specs.Locked.{Lock, lock, refusal_of, recording_of, IsKept, Cancels, RefusesCancel}
 use Rattle.l4_lock.specs.Inside.Entering.{CancelsNoted, IsRefusalOf}
 use Rattle.l4_lock.specs.Inside.Noting.{noted}
+use Rattle.l4_lock.specs.Shared.{DeclinesCancel}
 use Rattle.l4_lock.proofs.Right.{plain_noted}
 use Rattle.l4_lock.proofs.Started.{AreBooks, books_of, with_books, quiet_books, plain_at}
 use Rattle.l4_lock.proofs.Taking.{lock_of, kept_of}
@@ -59,3 +61,16 @@ cancel_refused l n cause e why = subst (RefusesCancel l n cause) (sym why.1) (sa
   same IsFull h = h
   same LacksMemory h = h
   same (FromKernel x) h = h
+
+-- a refusal that is passed on: nothing has changed
+pub refused_on : {T : Type 0} (old new : Recording) (books later : List Book) (l : Lock) (n : ℕ) (cause : CancelCause) (r : Result T LockRefusal) (e : LockRefusal) → lock_of old books ≡ l → IsErrAnd r (λ y. y ≡ e) → (new ≡ old) × (later ≡ books)
+    → IsRefusalOf old n cause e → IfErr r (λ x. RefusesCancel l n cause x × (lock_of new later ≡ l))
+refused_on old new books later l n cause (Ok x) e view h same why = absurd h
+refused_on old new books later l n cause (Err y) e view h same why = (
+  subst (λ (x : Lock). RefusesCancel x n cause y) view (cancel_refused (lock_of old books) n cause y (subst (IsRefusalOf old n cause) (sym h) why)),
+  (λ i. lock_of (same.0 i) (same.1 i)) ∙ view,
+)
+
+pub declined_on : {T : Type 0} (l : Lock) (n : ℕ) (cause : CancelCause) (r : Result T LockRefusal) (e : LockRefusal) → IsErrAnd r (λ y. y ≡ e) → IsKept l → RefusesCancel l n cause e → IfErr r (DeclinesCancel n cause)
+declined_on l n cause (Ok x) e h kept why = absurd h
+declined_on l n cause (Err y) e h kept why = (l, kept, subst (RefusesCancel l n cause) (sym h) why)

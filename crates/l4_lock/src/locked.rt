@@ -6,7 +6,7 @@ ghost use Rattle.l4_ipc.specs.Machine.{IsBoot};
 ghost use Rattle.l4_lock.specs.Books.{seat_state, book, book_at, pending_at, reply_waits};
 ghost use Rattle.l4_lock.specs.Closing.{Closes, Mismatches, by_history};
 ghost use Rattle.l4_record.specs.Laws.{IsWholeRun};
-ghost use Rattle.l4_lock.specs.Locked.{IsKept, RefusesBoot, Enters, Tells, Refuses, Takes, HandsOut};
+ghost use Rattle.l4_lock.specs.Locked.{IsKept, RefusesBoot, Enters, Cancels, Tells, Refuses, RefusesCancel, Takes, HandsOut};
 ghost use Rattle.l4_lock.specs.declared.refusals.LockRefusal.TheVariants.{SeatTaken, NoMemory as WantOfMemory};
 ghost use Rattle.l4_lock.specs.Inside.Accounts.{Awaits};
 ghost use Rattle.l4_lock.specs.Inside.Entering.{IsAdmitted};
