@@ -5,6 +5,7 @@ use Rattle.l4_fpage.specs.declared.sizes.PageSize.{PageSize}
 use Rattle.l4_threads.specs.declared.Reply.{Reply}
 use Rattle.l4_ipc.specs.Machine.{IsBoot}
 use Rattle.l4_ipc.specs.declared.calls.Call.{Call}
+use Rattle.l4_ipc.specs.declared.steps.CancelCause.{CancelCause}
 use Rattle.l4_lock.specs.Books.{book, book_at, reply_waits}
 use Rattle.l4_lock.specs.Closing.{Closes, Mismatches, by_history}
 use Rattle.l4_lock.specs.Locked.{Lock, Refuses, Cancels, RefusesCancel}
@@ -25,7 +26,6 @@ use Rattle.l4_c_values.specs.declared.results.ReplyResult.{ReplyResult}
 use Rattle.l4_c_queries.specs.Recalled.{ListsEnded}
 use Rattle.l4_c_queries.specs.declared.descending.CountResult.{CountResult}
 use Rattle.l4_c_queries.specs.declared.tracing.Verdict.{Verdict}
-use Rattle.l4_ipc.specs.declared.steps.CancelCause.{CancelCause}
 
 -- An empty handle then holds a locked kernel in its boot state with pages of this size and without seats, unless the number of frames is
 -- not 1 to 4,096 (K6) or an allocation failed. A handle that is not empty is refused (B2) and unchanged.
@@ -60,6 +60,16 @@ EntersCall old n g words r new =
 abbrev pub EntersSeat : Option Lock → ℕ → CallGiven → List ℕ → SeatedResult → Option Lock → Type 0
 EntersSeat None n g words r new = (r ≡ unseated_result (spelled (codes "B1")) 0) × (new ≡ None)
 EntersSeat (Some old) n g words r new = (after : Lock) × EntersCall old n g words r after × (new ≡ Some after)
+
+-- the wait of the thread is canceled, unless the lock refuses it
+abbrev pub CancelsWait : Lock → ℕ → CancelCause → ℕ → Lock → Type 0
+CancelsWait old n cause number new =
+    (Cancels old new n cause × (number ≡ 0)) ⊎ ((e : LockRefusal) × RefusesCancel old n cause e × (number ≡ lock_code e) × (new ≡ old))
+
+-- the wait of the thread is canceled, or the refusal has this number; an empty handle is refused (B1)
+abbrev pub CancelsThread : Option Lock → ℕ → CancelCause → ℕ → Option Lock → Type 0
+CancelsThread None n cause number new = (number ≡ spelled (codes "B1")) × (new ≡ None)
+CancelsThread (Some old) n cause number new = (after : Lock) × CancelsWait old n cause number after × (new ≡ Some after)
 
 -- the reply of a call that was left waiting is taken, if the seat has one
 abbrev pub TakesReply : Lock → ℕ → ReplyResult → Lock → Type 0
@@ -116,12 +126,3 @@ ClosesLock (Some old) numbers r new =
     (Closes old (seats_back old.books numbers) × (r ≡ record { refusal = 0; detail = 0 }) × (new ≡ None))
     ⊎ ((m : Mismatch) × Mismatches (by_history old.history) old.books (seats_back old.books numbers) m
     × (r ≡ record { refusal = mismatch_code m; detail = mismatch_seat m }) × (new ≡ Some old))
-
--- The wait of the thread is canceled, or the refusal has this number.
-abbrev pub CancelsIn : Lock → ℕ → CancelCause → ℕ → Lock → Type 0
-CancelsIn old n cause number new =
-    (Cancels old new n cause × (number ≡ 0)) ⊎ ((e : LockRefusal) × RefusesCancel old n cause e × (number ≡ lock_code e) × (new ≡ old))
-
-abbrev pub CancelsThread : Option Lock → ℕ → CancelCause → ℕ → Option Lock → Type 0
-CancelsThread None n cause number new = (number ≡ spelled (codes "B1")) × (new ≡ None)
-CancelsThread (Some old) n cause number new = (after : Lock) × CancelsIn old n cause number after × (new ≡ Some after)

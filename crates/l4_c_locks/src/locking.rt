@@ -4,7 +4,7 @@ ghost use Rattle.l4_fpage.specs.declared.sizes.PageSize.TheVariants.{Kib4};
 ghost use Rattle.l4_refusals.specs.Texts.{spelled};
 ghost use Rattle.l4_c_values.specs.InBytes.{InBytes};
 ghost use Rattle.l4_ipc.specs.declared.steps.CancelCause.TheVariants.{Timeout, Canceled};
-ghost use Rattle.l4_c_locks.specs.Locking.{MakesLock, Gives, GivesSeat, EntersCall, EntersSeat, CancelsThread, TakesReply, TakesSeat, TellsLength, TellsKeptFrom, TellsEntry, TellsEnded, TellsFrames, TellsSeat, TellsReceipt, ClosesLock};
+ghost use Rattle.l4_c_locks.specs.Locking.{MakesLock, Gives, GivesSeat, EntersCall, EntersSeat, CancelsWait, CancelsThread, TakesReply, TakesSeat, TellsLength, TellsKeptFrom, TellsEntry, TellsEnded, TellsFrames, TellsSeat, TellsReceipt, ClosesLock};
 
 use l4_c_queries::{
     CountResult, Verdict, counted, ended_from, entry_of, receipt_of, refused_call, verdict_of,
@@ -135,19 +135,26 @@ pub extern "C" fn l4_lock_enter(
     entered
 }
 
-/// Cancels the wait of a thread of the handle's lock, and returns the refusal, or 0.
-fn cancel(alloc: Global, handle: &mut LockHandle, thread: u32, cause: CancelCause) -> u32
+/// Cancels the wait of a thread. Returns 0, or the number of the refusal.
+fn cancel(lock: &mut SeatedLock, thread: u32, cause: CancelCause) -> u32
+    ensures { CancelsWait lock.old thread cause result lock.new }
+{
+    match lock.cancel(thread, cause) {
+        Ok(()) => 0,
+        Err(refusal) => lock_number(refusal),
+    }
+}
+
+/// Cancels the wait of a thread of the handle's locked kernel. Refuses an empty handle (B1).
+fn cancel_thread(alloc: Global, handle: &mut LockHandle, thread: u32, cause: CancelCause) -> u32
     ensures { CancelsThread handle.old.value thread cause result handle.new.value }
 {
     let Some(mut lock) = handle.take(alloc) else {
         return EMPTY;
     };
-    let canceled = lock.cancel(thread, cause);
+    let canceled = cancel(&mut lock, thread, cause);
     handle.put(lock);
-    match canceled {
-        Ok(()) => 0,
-        Err(refusal) => lock_number(refusal),
-    }
+    canceled
 }
 
 /// Ends the thread's wait, because its timeout has passed by the caller's clock. The refusals are B1, L1, NoMemory and K1, in this order.
@@ -155,7 +162,7 @@ fn cancel(alloc: Global, handle: &mut LockHandle, thread: u32, cause: CancelCaus
 pub extern "C" fn l4_lock_timeout(alloc: Global, handle: &mut LockHandle, thread: u32) -> u32
     ensures { CancelsThread handle.old.value thread Timeout result handle.new.value }
 {
-    cancel(alloc, handle, thread, CancelCause::Timeout)
+    cancel_thread(alloc, handle, thread, CancelCause::Timeout)
 }
 
 /// Cancels the thread's wait. The refusals are B1, L1, NoMemory and K1, in this order.
@@ -163,7 +170,7 @@ pub extern "C" fn l4_lock_timeout(alloc: Global, handle: &mut LockHandle, thread
 pub extern "C" fn l4_lock_cancel(alloc: Global, handle: &mut LockHandle, thread: u32) -> u32
     ensures { CancelsThread handle.old.value thread Canceled result handle.new.value }
 {
-    cancel(alloc, handle, thread, CancelCause::Canceled)
+    cancel_thread(alloc, handle, thread, CancelCause::Canceled)
 }
 
 /// Takes the reply of the seat's call that was left waiting and has since ended.

@@ -42,7 +42,7 @@ struct Signs {
 type Shared<T> = Arc<T, Global>;
 
 /// Looks for a sign once a millisecond. Returns whether it came.
-fn comes(rt: &impl Clock, sign: &AtomicBool) -> bool {
+pub fn comes(rt: &impl Clock, sign: &AtomicBool) -> bool {
     for _ in 0..LOOKS {
         if sign.load(Ordering::SeqCst) {
             return true;
