@@ -42,4 +42,6 @@ abbrev pub step_line : NextResult → List ℕ
 step_line r =
     if r.kind == 1 then codes "transfer " ++ decimal r.thread ++ space ++ decimal r.receiver ++ outcome_text r.outcome
     else if r.kind == 2 then codes "expire " ++ decimal r.thread
+    else if r.kind == 4 then codes "timeout " ++ decimal r.thread
+    else if r.kind == 5 then codes "cancel " ++ decimal r.thread
     else []
