@@ -15,7 +15,7 @@ use Rattle.l4_lock.specs.declared.refusals.LockRefusal.{LockRefusal}
 use Rattle.l4_seated_lock.specs.Seated.{seat_at, seats_back, EntersBySeat, TakesBySeat}
 use Rattle.l4_refusals.specs.Texts.{spelled}
 use Rattle.l4_c_values.specs.Called.{IsCall, IsNoCall}
-use Rattle.l4_c_values.specs.Recorded.{mismatch_code, mismatch_seat, unseated_result, entered_result, no_entry_result, kept_entry_result, no_receipt_result, kept_receipt_result, no_seat_result, seat_result, refused_call}
+use Rattle.l4_c_values.specs.Recorded.{lock_code, mismatch_code, mismatch_seat, unseated_result, entered_result, no_entry_result, kept_entry_result, no_receipt_result, kept_receipt_result, no_seat_result, seat_result, refused_call}
 use Rattle.l4_c_values.specs.Replied.{plain_result, reply_result}
 use Rattle.l4_c_values.specs.declared.calls.CallGiven.{CallGiven}
 use Rattle.l4_c_values.specs.declared.recorded.EntryResult.{EntryResult}
