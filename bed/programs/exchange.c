@@ -59,7 +59,22 @@ static void fault(void) {
 
 static void go_on(void) {
     print("waiter: continues behind its page fault\n");
-    L4_KDB_Enter("done");
+    L4_Start(L4_GlobalId(2, 1));
+    print_error("waiter: cancels the wait of root");
+    for (;;)
+        L4_Sleep(L4_Never);
+}
+
+static void raise(void) {
+    L4_Set_ExceptionHandler(L4_GlobalId(2, 1));
+    __asm__ volatile("hlt");
+    print("spinner: this is not reached\n");
+}
+
+static void go_on_too(void) {
+    print("spinner: continues behind its exception\n");
+    for (;;)
+        L4_Sleep(L4_Never);
 }
 
 /* The thread's pager need not map its stack. */
@@ -103,21 +118,42 @@ static void use_waiter(void) {
     L4_Start(WAITER);
     L4_Yield();
     L4_Start(SPINNER);
-    print_error("exchange: another thread waits for the spinner");
+    print_error("exchange: ends a wait of the spinner, for which the waiter waits");
+    print_state("waiter", L4_Stop(WAITER));
     L4_Stop(child_id(0));
     print_error("exchange: the child is in another space");
 }
 
-/* The waiter raises a page fault. Root, its pager, lets it go on elsewhere. */
+/* Receives the message of a page fault or of an exception, whose first word is the address of the page, or that of the instruction. */
+static L4_Word_t receive_first(L4_ThreadId_t from, L4_Word_t label) {
+    L4_Word_t first;
+    demand(L4_Label(L4_Receive(from)) == label, "another message was received");
+    L4_StoreMR(1, &first);
+    return first;
+}
+
+/* The waiter raises a page fault. Root, its pager, cancels its Ipc: once it goes on, it raises the fault again, unless it goes on elsewhere. */
 static void use_fault(void) {
-    L4_Word_t address;
     L4_Set_PagerOf(WAITER, L4_Myself());
     L4_Start_SpIp(WAITER, (L4_Word_t)stack_of(1), (L4_Word_t)fault);
-    L4_Receive(WAITER);
-    L4_StoreMR(1, &address);
-    print_word("exchange: a page fault at ", address, "\n");
+    print_word("exchange: a page fault at ", receive_first(WAITER, 0xffe2), "\n");
     print_state("waiter", L4_AbortIpc_and_stop(WAITER));
+    L4_Start(WAITER);
+    print_word("exchange: the same page fault at ", receive_first(WAITER, 0xffe2), "\n");
     L4_Start_SpIp(WAITER, (L4_Word_t)stack_of(1), (L4_Word_t)go_on);
+}
+
+/* The same for an exception, of which root is the handler. */
+static void use_exception(void) {
+    L4_Word_t first, second;
+    L4_Start_SpIp(SPINNER, (L4_Word_t)stack_of(0), (L4_Word_t)raise);
+    first = receive_first(SPINNER, 0xffb0);
+    print_state("spinner", L4_AbortIpc_and_stop(SPINNER));
+    L4_Start(SPINNER);
+    second = receive_first(SPINNER, 0xffb0);
+    print_number("exchange: the same exception: ", second == first, "\n");
+    L4_Start_SpIp(SPINNER, (L4_Word_t)stack_of(0), (L4_Word_t)go_on_too);
+    L4_Yield();
 }
 
 /* The first program has two threads: the second one is in the space of the first, and waits for its start. */
@@ -143,7 +179,10 @@ int main(void) {
     use_waiter();
     L4_ExchangeRegisters(WAITER, 1 << 10, 0, 0, 0, 0, L4_nilthread, &ignored, &ignored, &ignored, &ignored, &ignored, &pager);
     print_error("exchange: an unknown bit");
+    use_exception();
     use_fault();
-    for (;;)
-        L4_Sleep(L4_Never);
+    L4_Sleep(L4_Never);
+    print_error("exchange: root sleeps no more");
+    L4_KDB_Enter("done");
+    return 0;
 }

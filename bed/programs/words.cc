@@ -9,7 +9,7 @@ extern "C" int main(void) {
     L4_Clock_t before = L4_SystemClock(), after = before + 1000;
     L4_Msg_t message;
     L4_MsgTag_t tag;
-    L4_Time_t odd;
+    L4_Time_t time = L4_TimePeriod(3000) + 200;
     print(me == L4_nilthread || me != L4_Myself() ? "words: ids differ\n" : "words: ids are equal\n");
     L4_Clear(&message);
     L4_Set_Label(&message, 7);
@@ -30,11 +30,12 @@ extern "C" int main(void) {
     print(L4_IpcFailed(tag) && tag != L4_Niltag ? "words: nothing is received\n" : "words: something is received\n");
     tag = L4_Wait(L4_ZeroTime, from);
     print_number("words: ErrorCode ", L4_ErrorCode(), "\n");
-    odd.raw = 5 << 10 | 100; // a time that this kernel does not have
-    tag = L4_Receive(sigma0, odd);
+    tag = L4_Receive(sigma0, time);
     print_number("words: ErrorCode ", L4_ErrorCode(), ", ");
-    tag = L4_Send(sigma0, odd);
+    L4_Set_MsgTag(L4_Niltag);
+    tag = L4_Send(sigma0, time);
     print_number("", L4_ErrorCode(), "\n");
+    print(time > L4_ZeroTime && time - 200 < time && time <= L4_Never && time >= time ? "words: times agree\n" : "words: times disagree\n");
     L4_KDB_Enter("done");
     return 0;
 }

@@ -72,6 +72,9 @@ struct thread {
     uint32_t fault_address, fault_access;
     uint32_t vain_answers; /* answers in a row to one fault that did not give the right */
     int is_halted;         /* its program does not run until another thread starts it; its Ipc continues */
+    uint32_t send_timeout, receive_timeout; /* of the Ipc in which it is, if they are neither zero nor never; otherwise 0 */
+    uint64_t call_time;    /* when it entered this Ipc, if one of these timeouts is not 0 */
+    uint64_t deadline;     /* when the phase in which it waits expires, or 0 */
     char text[1023];       /* the line that it has begun to print; a longer one is printed in parts */
     size_t text_length;
 };
@@ -111,6 +114,8 @@ struct bed {
     int rounded_rights;   /* the bed has said that the engine rounds rights up */
     uint64_t virtual_time; /* in nanoseconds */
     int has_virtual_clock;
+    int has_timeouts;       /* a thread has used a timeout that is neither zero nor never */
+    uint64_t next_deadline; /* no wait expires before this time, in microseconds of the clock; or 0 if none expires */
     struct limits limits;
     struct {
         uint64_t start, last; /* times in nanoseconds */
@@ -133,6 +138,9 @@ void bed_free_frame(struct bed *bed, uint32_t frame);
 l4_call kernel_call(uint32_t kind);
 /* Enters a call of a thread, and then lets sigma0 answer. Returns the call's refusal. */
 uint32_t kernel_enter(struct bed *bed, uint32_t thread, const l4_call *call, const uint32_t *words, size_t count);
+/* Ends the wait of a thread because its timeout is over, or because another thread cancels it. */
+void kernel_timeout(struct bed *bed, uint32_t thread);
+void kernel_cancel(struct bed *bed, uint32_t thread);
 l4_reply kernel_reply(struct bed *bed, uint32_t thread);
 uint64_t kernel_space(struct bed *bed, uint32_t thread);
 l4_mapping kernel_mapping(struct bed *bed, uint64_t space, uint32_t page);
@@ -158,6 +166,8 @@ int end_status(const struct bed *bed);
 void record_begin(struct bed *bed);
 void record_call(struct bed *bed, uint32_t thread, const l4_call *call, const uint32_t *words, size_t count);
 void record_step(const l4_step *step);
+/* `name` is timeout or cancel. */
+void record_end_of_wait(const char *name, uint32_t thread);
 void record_end(struct bed *bed);
 
 /* text.c: what programs print. A line is printed once it is complete, or as long as a line can be. */
@@ -245,11 +255,10 @@ void thread_fault(struct bed *bed, struct thread *thread, uint32_t address, uint
 l4_state thread_state(struct bed *bed, const struct thread *thread);
 /* Returns L4_STATE_SENDING or L4_STATE_RECEIVING if the thread waits in the kernel, and otherwise 0. */
 uint32_t thread_wait(struct bed *bed, const struct thread *thread);
-/* Returns whether the thread waits for the thread with this id alone: to send to it, or to receive from it. */
-int thread_awaits(struct bed *bed, const struct thread *thread, uint32_t id);
 /* Takes the reply of the thread's call if the call has ended. */
 void thread_take_reply(struct bed *bed, struct thread *thread);
-/* The kernel has ended such a wait of the thread. Its Ipc returns the ErrorCode of a canceled one; a page fault or an exception is raised again. */
+/* Such a wait of the thread is over, as the thread was created again. Its Ipc returns the ErrorCode of a canceled one; a page fault or an exception is
+ * raised again. */
 void thread_cancel(struct thread *thread, uint32_t wait);
 
 /* Words of a UTCB, counted from message register 0. */
@@ -270,6 +279,21 @@ uint32_t call_global_id(const struct bed *bed, const struct thread *caller, uint
 uint32_t call_control(struct bed *bed, struct thread *caller, uint32_t kind, uint32_t id, uint32_t space, uint32_t pager);
 /* Deletes a thread in the kernel, and creates it again in the same space, with an id of the same number. Returns the ErrorCode. */
 uint32_t call_recreate(struct bed *bed, struct thread *caller, const struct thread *changed, uint32_t id);
+
+/* timeouts.c: the bed's clock, in microseconds, and timeouts by it. */
+uint64_t clock_now(const struct bed *bed);
+/* The thread enters this Ipc. Its timeouts become those that the kernel gets. */
+void timeouts_begin(struct bed *bed, struct thread *thread, l4_call *call);
+/* If the receive phase of the sender's Ipc has begun, its timeout begins. */
+void timeouts_after_transfer(struct bed *bed, uint32_t sender);
+/* The Ipc of the thread has ended. */
+void timeouts_forget(struct thread *thread);
+/* Ends each wait whose time is over, the earliest first. */
+void timeouts_expire(struct bed *bed);
+/* If no thread can run: lets time pass until the next wait expires, and ends it. Returns 0 if none expires. */
+int timeouts_wait(struct bed *bed);
+/* Returns for how many microseconds such a timeout of the thread's Ipc lets it wait; those of a point in time count from the call on. */
+uint64_t timeouts_length(const struct thread *thread, uint32_t timeout);
 
 /* exchange.c: executes ExchangeRegisters. */
 void exchange_take(struct bed *bed, struct thread *thread);

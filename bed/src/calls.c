@@ -1,7 +1,5 @@
 #include "bed.h"
-#include "check.h"
 #include <string.h>
-#include <time.h>
 
 #define STUB_TRAP_BYTES 2
 #define NO_CHANGE UINT32_C(0xffffffff)
@@ -46,9 +44,11 @@ static void take_ipc(struct bed *bed, struct thread *thread) {
     call.timeouts = registers->ecx;
     call.acceptor = thread->utcb_words[TCR_BUFFER_0];
     print_line(bed, "%u calls ipc %08x %08x %08x %08x", thread->number, call.to, call.from, call.timeouts, call.acceptor);
+    timeouts_begin(bed, thread, &call);
     refusal = thread_enter(bed, thread, CALL_IPC, &call, words, L4_MAX_WORDS);
     if (refusal == L4_OK)
         return;
+    timeouts_forget(thread);
     print_refused(bed, thread, refusal);
     thread->utcb_words[TCR_ERROR_CODE] = call.to == L4_NILTHREAD ? REFUSED_MESSAGE | RECEIVE_PHASE : REFUSED_MESSAGE;
     registers->esi = FAILED_TAG;
@@ -268,12 +268,7 @@ static void take_space_control(struct bed *bed, struct thread *thread) {
 }
 
 static void take_clock(const struct bed *bed, struct thread *thread) {
-    struct timespec now;
-    uint64_t microseconds = bed->virtual_time / 1000;
-    if (!bed->has_virtual_clock) {
-        check_system(clock_gettime(CLOCK_MONOTONIC, &now), "clock_gettime");
-        microseconds = (uint64_t)now.tv_sec * 1000000 + (uint64_t)now.tv_nsec / 1000;
-    }
+    uint64_t microseconds = clock_now(bed);
     thread->registers.eax = (uint32_t)microseconds;
     thread->registers.edx = (uint32_t)(microseconds >> 32);
 }

@@ -71,10 +71,10 @@ void end_watch(struct bed *bed) {
         look(bed, time);
 }
 
-/* Returns the number of the one thread for which a thread waits, or 0. */
+/* Returns the number of the one thread for which a thread waits without a timeout, or 0. */
 static uint32_t awaited(struct bed *bed, const struct thread *thread) {
     uint32_t partner;
-    if (thread == NULL || thread_wait(bed, thread) == 0)
+    if (thread == NULL || thread->deadline != 0 || thread_wait(bed, thread) == 0)
         return 0;
     partner = thread_state(bed, thread).partner;
     return partner != L4_ANYTHREAD ? NUMBER(partner) : 0;
@@ -92,14 +92,26 @@ void end_by_gdb(struct bed *bed) {
     end_by(bed, ENDED_BY_LIMIT, "gdb has ended it", 0);
 }
 
+/* Writes how long a wait that expires lasts at most. */
+static void write_rest(const struct bed *bed, const struct thread *thread, char *text, size_t room) {
+    uint64_t time = clock_now(bed);
+    text[0] = 0;
+    if (thread->deadline != 0)
+        snprintf(text, room, " for at most %llu more microseconds", (unsigned long long)(thread->deadline > time ? thread->deadline - time : 0));
+}
+
 static void print_ipc(struct bed *bed, const struct thread *thread, const l4_state *state) {
+    char rest[80];
+    write_rest(bed, thread, rest, sizeof rest);
     if (state->partner == L4_ANYTHREAD)
-        print("%u waits to receive from any thread\n", thread->number);
+        print("%u waits to receive from any thread%s\n", thread->number, rest);
+    else if (state->partner == thread->id && thread->deadline != 0)
+        print("%u sleeps%s\n", thread->number, rest);
     else if (state->partner == thread->id)
         print("%u waits for ever: it receives from itself\n", thread->number);
     else
-        print("%u waits to %s %u%s\n", thread->number, state->state == L4_STATE_SENDING ? "send to" : "receive from", NUMBER(state->partner),
-              partner_text(bed, state->partner));
+        print("%u waits to %s %u%s%s\n", thread->number, state->state == L4_STATE_SENDING ? "send to" : "receive from", NUMBER(state->partner),
+              rest, partner_text(bed, state->partner));
 }
 
 static void print_wait(struct bed *bed, const struct thread *thread, const l4_state *state) {

@@ -21,29 +21,6 @@ static uint32_t bit_of(uint32_t wait) {
     return wait == L4_STATE_SENDING ? SEND : wait == L4_STATE_RECEIVING ? RECEIVE : 0;
 }
 
-/* Whether another thread sends to this one, or receives from it. */
-static int is_awaited(struct bed *bed, const struct thread *thread) {
-    size_t k;
-    for (k = 0; k < L4_MAX_THREADS; k++) {
-        if (&bed->threads[k] != thread && thread_awaits(bed, &bed->threads[k], thread->id))
-            return 1;
-    }
-    return 0;
-}
-
-/* The kernel has no call that ends a wait, so the thread is deleted and created again. That would end the waits of others for it too. */
-static uint32_t end_wait(struct bed *bed, struct thread *caller, struct thread *dest, uint32_t wait) {
-    uint32_t error;
-    if (dest->number == ROOT || is_awaited(bed, dest)) {
-        print_line(bed, "%u refused: the bed cannot end the wait of %u, which is root, or for which another thread waits", caller->number, dest->number);
-        return INVALID_PARAMETER;
-    }
-    error = call_recreate(bed, caller, dest, dest->id);
-    if (error == 0)
-        thread_cancel(dest, wait);
-    return error;
-}
-
 static uint32_t set_pager(struct bed *bed, struct thread *caller, struct thread *dest, uint32_t pager) {
     uint32_t error = call_control(bed, caller, L4_SET_PAGER, dest->id, 0, pager);
     if (error != 0)
@@ -56,14 +33,13 @@ static uint32_t set_pager(struct bed *bed, struct thread *caller, struct thread 
 /* What the kernel can refuse comes first, so that a call with an ErrorCode has changed nothing. */
 static uint32_t change_kernel(struct bed *bed, struct thread *caller, struct thread *dest, uint32_t wait) {
     uint32_t control = caller->registers.ecx, error = 0;
-    int ends_wait = (control & bit_of(wait)) != 0;
-    if ((control & SET_PAGER || ends_wait) && caller->space->number != ROOT_SPACE)
-        return NO_PRIVILEGE;
-    if (ends_wait)
-        error = end_wait(bed, caller, dest, wait);
-    if (error == 0 && control & SET_PAGER)
+    if (control & SET_PAGER)
         error = set_pager(bed, caller, dest, call_global_id(bed, caller, caller->registers.ebp));
-    return error;
+    if (error != 0 || (control & bit_of(wait)) == 0)
+        return error;
+    kernel_cancel(bed, dest->number);
+    thread_take_reply(bed, dest);
+    return 0;
 }
 
 static void set_registers(struct thread *dest, const struct registers *values) {

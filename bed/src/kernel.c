@@ -84,8 +84,28 @@ static void take_step(struct bed *bed, const l4_step *step) {
     if (bed->prints_lines)
         print_step(step);
     take_ended(bed, step->ended, step->ended_count);
-    if (step->kind == L4_TRANSFER && step->outcome == L4_DELIVERED)
+    if (step->kind == L4_TRANSFER && step->outcome == L4_DELIVERED) {
         change_after_transfer(bed, step->thread, step->receiver);
+        timeouts_after_transfer(bed, step->thread);
+    }
+}
+
+/* This takes an offer of a message or a readiness away, so no step is enabled afterwards. */
+static void end_wait(struct bed *bed, const char *name, uint32_t thread, const l4_answer *answer) {
+    check_library(answer->refusal, "the end of a wait");
+    record_end_of_wait(name, thread);
+    print_line(bed, "%s %u", name, thread);
+    take_ended(bed, answer->ended, answer->ended_count);
+}
+
+void kernel_timeout(struct bed *bed, uint32_t thread) {
+    l4_answer answer = l4_timeout(&bed->kernel, thread);
+    end_wait(bed, "timeout", thread, &answer);
+}
+
+void kernel_cancel(struct bed *bed, uint32_t thread) {
+    l4_answer answer = l4_cancel(&bed->kernel, thread);
+    end_wait(bed, "cancel", thread, &answer);
 }
 
 struct entered *kernel_entered(struct bed *bed, uint32_t thread) {

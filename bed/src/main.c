@@ -126,7 +126,7 @@ static const char usage[] =
     "  --memory MIB     end the run if the bed has this many mebibytes in the host's memory\n"
     "\n"
     "  --turn MS        interrupt a thread that runs for MS milliseconds, 1 to 1000, without a system call\n"
-    "  --clock NAME     SystemClock returns the host's time, or virtual time: what unicorn has executed (its default)\n"
+    "  --clock NAME     SystemClock and timeouts follow the clock of the host, or virtual time: what unicorn has executed (its default)\n"
     "  --gdb PORT       wait until gdb connects to this port of the machine itself (only with unicorn)\n"
     "  --tap            with l4_bed test: print the results in TAP. Write all other options as --NAME=VALUE there\n"
     "\n"

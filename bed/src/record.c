@@ -166,6 +166,11 @@ void record_step(const l4_step *step) {
         output_print(OUTPUT_STEPS, "expire %" PRIu32 "\n", step->thread);
 }
 
+void record_end_of_wait(const char *name, uint32_t thread) {
+    output_print(OUTPUT_SCRIPT, "%s %" PRIu32 "\n", name, thread);
+    output_print(OUTPUT_STEPS, "%s %" PRIu32 "\n", name, thread);
+}
+
 void record_end(struct bed *bed) {
     if (bed->script_gaps > 0)
         note("the script lacks %u call%s that scripts cannot express; --steps writes them all", bed->script_gaps, bed->script_gaps == 1 ? "" : "s");

@@ -14,9 +14,14 @@
  * going for ever, so the bed stops the thread then. */
 #define MAX_VAIN_ANSWERS 16u
 
-/* The ErrorCodes of an Ipc that another thread canceled, in its send phase and in its receive phase. */
+/* The ErrorCodes of an Ipc that another thread canceled, in its send phase and in its receive phase. A page fault and an exception are raised again if
+ * their Ipc ends so, unless the other thread lets the thread continue at another instruction. */
 #define CANCELED_SEND 6u
 #define CANCELED_RECEIVE 7u
+
+static int is_canceled(uint32_t error) {
+    return error == CANCELED_SEND || error == CANCELED_RECEIVE;
+}
 
 struct thread *thread_find(struct bed *bed, uint32_t id) {
     struct thread *found = thread_numbered(bed, NUMBER(id));
@@ -201,6 +206,8 @@ static void raise_exception(struct bed *bed, struct thread *thread, uint32_t num
 static void end_exception(struct bed *bed, struct thread *thread, const l4_reply *reply) {
     uint32_t *places[EXCEPTION_WORDS];
     size_t k;
+    if (reply->tag & FAILED_TAG && is_canceled(reply->error))
+        return;
     if (reply->tag & FAILED_TAG) {
         stop_by_code(bed, thread, "the message of its exception failed", reply->error);
         return;
@@ -226,8 +233,11 @@ void thread_fault(struct bed *bed, struct thread *thread, uint32_t address, uint
     check_library(thread_enter(bed, thread, CALL_FAULT, &call, &none, 0), "a page fault");
 }
 
+/* If another thread cancels the wait for the start message, that thread sets the registers. */
 static void end_start(struct bed *bed, struct thread *thread, const l4_reply *reply) {
-    if (reply->tag & FAILED_TAG)
+    if (reply->tag & FAILED_TAG && is_canceled(reply->error))
+        thread_set_ready(thread, 0, 0);
+    else if (reply->tag & FAILED_TAG)
         stop_by_code(bed, thread, "the receive of its start message failed", reply->error);
     else if (reply->word_count < 2)
         thread_activate(bed, thread, thread->pager);
@@ -260,6 +270,8 @@ static void end_fault(struct bed *bed, struct thread *thread, const l4_reply *re
     l4_mapping mapping = kernel_mapping(bed, thread->space->number, thread->fault_address / PAGE_BYTES);
     if (reply->kind == L4_REPLY_HIT) { /* the kernel has the page, but the areas hide it */
         stop(bed, thread, "it accessed its kernel interface page or UTCB area without the right");
+    } else if (reply->kind == L4_REPLY_FAILED && is_canceled(reply->error)) {
+        thread->vain_answers = 0;
     } else if (reply->kind == L4_REPLY_FAILED) {
         stop_by_code(bed, thread, "its page fault failed", reply->error);
     } else if (mapping.there && mapping.rights & thread->fault_access) {
@@ -277,6 +289,7 @@ void thread_take_reply(struct bed *bed, struct thread *thread) {
     if (reply.kind == L4_NONE)
         return;
     thread->state = READY;
+    timeouts_forget(thread);
     switch (thread->calling) {
     case CALL_START: end_start(bed, thread, &reply); break;
     case CALL_IPC: end_ipc(thread, &reply); break;
@@ -297,10 +310,6 @@ uint32_t thread_wait(struct bed *bed, const struct thread *thread) {
     return state == L4_STATE_SENDING || state == L4_STATE_RECEIVING ? state : 0;
 }
 
-int thread_awaits(struct bed *bed, const struct thread *thread, uint32_t id) {
-    return thread_wait(bed, thread) != 0 && thread_state(bed, thread).partner == id;
-}
-
 void thread_cancel(struct thread *thread, uint32_t wait) {
     l4_reply reply;
     if (wait == 0)
@@ -310,6 +319,7 @@ void thread_cancel(struct thread *thread, uint32_t wait) {
     reply.tag = FAILED_TAG;
     reply.error = wait == L4_STATE_SENDING ? CANCELED_SEND : CANCELED_RECEIVE;
     thread->state = READY;
+    timeouts_forget(thread);
     if (thread->calling == CALL_IPC)
         end_ipc(thread, &reply);
     else if (thread->calling == CALL_START)
@@ -354,6 +364,7 @@ static int run(struct bed *bed, struct thread *thread) {
     bed->kind->run(bed->engine, thread->space->engine_space, &thread->registers, &stopped);
     signals_set_thread(0, 0);
     bed->virtual_time += stopped.time + ENTRY_TIME;
+    timeouts_expire(bed);
     end_watch(bed);
     if (bed->has_gdb && gdb_after(bed, thread, &stopped))
         return 1;

@@ -76,23 +76,28 @@ static const char *ipc_name(const l4_call *call) {
     return call->from == L4_ANYTHREAD ? "ReplyWait" : "Ipc";
 }
 
-static const char *timeout_text(uint32_t timeout) {
-    return timeout == 0 ? "" : timeout == L4_ZERO_TIMEOUT ? " without waiting" : " with an invalid timeout";
+/* The thread keeps a timeout in place of which the kernel gets never. */
+static void print_timeout(const struct thread *thread, uint32_t for_kernel, uint32_t kept) {
+    if (kept != 0)
+        print(" for at most %llu microseconds", (unsigned long long)timeouts_length(thread, kept));
+    else if (for_kernel == L4_ZERO_TIMEOUT)
+        print(" without waiting");
 }
 
-static void trace_ipc(uint32_t thread, const l4_call *call, const uint32_t *words) {
-    print("%u calls %s:", thread, ipc_name(call));
+static void trace_ipc(const struct thread *thread, const l4_call *call, const uint32_t *words) {
+    print("%u calls %s:", thread->number, ipc_name(call));
     if (call->to != L4_NILTHREAD) {
         print(" sends to ");
         print_id(call->to);
-        print("%s: ", timeout_text(call->timeouts >> 16));
+        print_timeout(thread, call->timeouts >> 16, thread->send_timeout);
+        print(": ");
         print_words(words[0], words + 1);
     }
     if (call->from == L4_NILTHREAD)
         return;
-    print(call->to == L4_NILTHREAD ? " receives from " : "%u then receives from ", thread);
+    print(call->to == L4_NILTHREAD ? " receives from " : "%u then receives from ", thread->number);
     print_id(call->from);
-    print("%s", timeout_text(call->timeouts & 0xffff));
+    print_timeout(thread, call->timeouts & 0xffff, thread->receive_timeout);
     if ((call->acceptor & ~0xfu) != 0) {
         print(", accepts pages in ");
         print_fpage(call->acceptor);
@@ -163,7 +168,7 @@ void trace_call(struct bed *bed, uint32_t thread, const l4_call *call, const uin
     if (!trace_is_on(bed, thread))
         return;
     switch (call->kind) {
-    case L4_IPC: trace_ipc(thread, call, words); break;
+    case L4_IPC: trace_ipc(thread_numbered(bed, thread), call, words); break;
     case L4_FAULT: trace_fault(bed, thread, call); break;
     case L4_UNMAP: trace_unmap(thread, call, words); break;
     default: trace_control(thread, call);

@@ -34,17 +34,20 @@ static int run_named(struct bed *bed) {
     return named != NULL && named->state != ABSENT && thread_turn(bed, named);
 }
 
-void turns_run(struct bed *bed) {
-    uint32_t limit = PRIORITIES;
+/* Gives a turn to a thread of the highest priority of those that can run. Returns 0 if none can. */
+static int run_highest(struct bed *bed) {
+    uint32_t limit = priority_below(bed, PRIORITIES);
     while (limit > 0 && bed->end == NOT_ENDED) {
-        if (run_named(bed)) {
-            limit = PRIORITIES;
-            continue;
-        }
-        limit = priority_below(bed, limit);
-        if (limit > 0)
-            limit = run_one(bed, limit - 1) ? PRIORITIES : limit - 1;
+        if (run_one(bed, limit - 1))
+            return 1;
+        limit = priority_below(bed, limit - 1);
     }
+    return 0;
+}
+
+void turns_run(struct bed *bed) {
+    while (bed->end == NOT_ENDED && (run_named(bed) || run_highest(bed) || timeouts_wait(bed)))
+        continue;
 }
 
 void turns_set_priority(struct bed *bed, struct thread *thread, uint32_t priority) {

@@ -109,7 +109,7 @@ L4_INLINE L4_MsgTag_t L4_ReplyWait(L4_ThreadId_t to, L4_ThreadId_t *from) {
     return L4_ReplyWait_Timeout(to, L4_Never, from);
 }
 
-/* Waits until the timeout expires: at once, or never. */
+/* Waits until the timeout is over. */
 L4_INLINE void L4_Sleep(L4_Time_t t) {
     L4_Receive_Timeout(L4_Myself(), t);
 }

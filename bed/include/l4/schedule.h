@@ -1,4 +1,4 @@
-/* Time, and the end of a turn. */
+/* Time, timeouts, and the end of a turn. */
 #ifndef L4_SCHEDULE_H
 #define L4_SCHEDULE_H
 
@@ -6,8 +6,20 @@
 #include <l4/thread.h>
 #include <l4/types.h>
 
+/* A timeout: a period of m * 2^e microseconds (a is 0), or a point in time (a is 1). */
 typedef union {
     L4_Word16_t raw;
+    struct {
+        L4_Word_t m : 10;
+        L4_Word_t e : 5;
+        L4_Word_t a : 1;
+    } period;
+    struct {
+        L4_Word_t m : 10;
+        L4_Word_t c : 1;
+        L4_Word_t e : 4;
+        L4_Word_t a : 1;
+    } point;
 } L4_Time_t;
 
 typedef union {
@@ -22,7 +34,6 @@ L4_INLINE L4_Time_t L4_TimeOfWord(L4_Word_t raw) {
     return time;
 }
 
-/* The two timeouts of this kernel. */
 #define L4_Never L4_TimeOfWord(0)
 #define L4_ZeroTime L4_TimeOfWord(0x400)
 
@@ -33,20 +44,6 @@ L4_INLINE L4_Bool_t L4_IsTimeEqual(L4_Time_t l, L4_Time_t r) {
 L4_INLINE L4_Word_t L4_Timeouts(L4_Time_t SndTimeout, L4_Time_t RcvTimeout) {
     return (L4_Word_t)SndTimeout.raw << 16 | RcvTimeout.raw;
 }
-
-#define L4_TIMEOUTS_REASON "this kernel has the timeouts L4_Never and L4_ZeroTime only"
-L4_ABSENT(L4_TIMEOUTS_REASON)
-L4_Time_t L4_TimePeriod(L4_Word64_t microseconds);
-L4_ABSENT(L4_TIMEOUTS_REASON)
-L4_Time_t L4_TimePoint2(L4_Clock_t at, L4_Word_t precision);
-L4_ABSENT(L4_TIMEOUTS_REASON)
-L4_Time_t L4_TimeAddTo(L4_Time_t l, L4_Word_t r);
-L4_ABSENT(L4_TIMEOUTS_REASON)
-L4_Time_t L4_TimeSubtractFrom(L4_Time_t l, L4_Word_t r);
-L4_ABSENT(L4_TIMEOUTS_REASON)
-L4_Bool_t L4_IsTimeLonger(L4_Time_t l, L4_Time_t r);
-L4_ABSENT(L4_TIMEOUTS_REASON)
-L4_Bool_t L4_IsTimeShorter(L4_Time_t l, L4_Time_t r);
 
 /* CLOCK */
 
@@ -81,6 +78,85 @@ L4_INLINE L4_Bool_t L4_IsClockEqual(L4_Clock_t l, L4_Clock_t r) {
 
 L4_INLINE L4_Bool_t L4_IsClockNotEqual(L4_Clock_t l, L4_Clock_t r) {
     return l.raw != r.raw;
+}
+
+/* TIMEOUTS */
+
+/* Returns the period of this many microseconds, of which the first ten binary digits count. 0 is L4_ZeroTime, and 2^41 or more is L4_Never. */
+L4_INLINE L4_Time_t L4_TimePeriod(L4_Word64_t microseconds) {
+    L4_Word_t exponent = 0;
+    while (microseconds >> exponent > 1023)
+        exponent++;
+    if (microseconds == 0)
+        return L4_ZeroTime;
+    return exponent > 31 ? L4_Never : L4_TimeOfWord(exponent << 10 | (L4_Word_t)(microseconds >> exponent));
+}
+
+/* Returns the point in time `at`, rounded down to a multiple of 2^e microseconds. 2^e is the largest power of two up to `precision`, or a larger one if
+ * `at` is too far away: a point can be named from 2^(e+10) microseconds before it, and e is 15 at most. A point that is farther away is L4_Never, and
+ * one that has passed is L4_ZeroTime. Once the clock reaches the next multiple of 2^(e+10), the result names a later point. */
+L4_INLINE L4_Time_t L4_TimePoint2(L4_Clock_t at, L4_Word_t precision) {
+    L4_Word64_t now = L4_SystemClock().raw;
+    L4_Word_t exponent = 0;
+    while (exponent < 15 && 2u << exponent <= precision)
+        exponent++;
+    while ((at.raw >> (exponent + 10)) - (now >> (exponent + 10)) > 1 && at.raw > now)
+        exponent++;
+    if (at.raw <= now)
+        return L4_ZeroTime;
+    return exponent > 15 ? L4_Never : L4_TimeOfWord(0x8000 | exponent << 11 | (L4_Word_t)(at.raw >> exponent & 0x7ff));
+}
+
+/* Returns the point's time. */
+L4_INLINE L4_Clock_t L4_ClockOfPoint(L4_Time_t t, L4_Clock_t now) {
+    L4_Word_t bits = t.point.e + 10u;
+    L4_Clock_t clock;
+    clock.raw = now.raw >> bits;
+    clock.raw += (clock.raw & 1) != t.point.c;
+    clock.raw = (clock.raw << bits) + ((L4_Word64_t)t.point.m << t.point.e);
+    return clock;
+}
+
+/* Returns how many microseconds are left of a timeout that begins now. */
+L4_INLINE L4_Word64_t L4_TimeLeft(L4_Time_t t, L4_Clock_t now) {
+    L4_Clock_t point = L4_ClockOfPoint(t, now);
+    if (t.raw == 0)
+        return ~(L4_Word64_t)0;
+    if (!t.point.a)
+        return (L4_Word64_t)t.period.m << t.period.e;
+    return point.raw > now.raw ? point.raw - now.raw : 0;
+}
+
+/* Returns a timeout that is `r` microseconds longer, or a point that is so much later. L4_Never stays as it is. */
+L4_INLINE L4_Time_t L4_TimeAddTo(L4_Time_t l, L4_Word_t r) {
+    L4_Clock_t now = L4_SystemClock();
+    if (l.raw == 0)
+        return L4_Never;
+    if (l.point.a)
+        return L4_TimePoint2(L4_ClockAddUsec(L4_ClockOfPoint(l, now), r), 1u << l.point.e);
+    return L4_TimePeriod(L4_TimeLeft(l, now) + r);
+}
+
+/* Returns a timeout that is `r` microseconds shorter, or a point that is so much earlier; L4_ZeroTime if nothing is left. L4_Never stays as it is. */
+L4_INLINE L4_Time_t L4_TimeSubtractFrom(L4_Time_t l, L4_Word_t r) {
+    L4_Clock_t now = L4_SystemClock();
+    if (l.raw == 0)
+        return L4_Never;
+    if (L4_TimeLeft(l, now) <= r)
+        return L4_ZeroTime;
+    if (l.point.a)
+        return L4_TimePoint2(L4_ClockSubUsec(L4_ClockOfPoint(l, now), r), 1u << l.point.e);
+    return L4_TimePeriod(L4_TimeLeft(l, now) - r);
+}
+
+/* A point counts as the period from now to it. */
+L4_INLINE L4_Bool_t L4_IsTimeLonger(L4_Time_t l, L4_Time_t r) {
+    L4_Clock_t now = L4_SystemClock();
+    return L4_TimeLeft(l, now) > L4_TimeLeft(r, now);
+}
+
+L4_INLINE L4_Bool_t L4_IsTimeShorter(L4_Time_t l, L4_Time_t r) {
+    return L4_IsTimeLonger(r, l);
 }
 
 /* TURNS */

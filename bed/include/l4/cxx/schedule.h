@@ -10,6 +10,30 @@ L4_INLINE bool operator!=(const L4_Time_t &l, const L4_Time_t &r) {
     return !L4_IsTimeEqual(l, r);
 }
 
+L4_INLINE bool operator<(const L4_Time_t &l, const L4_Time_t &r) {
+    return L4_IsTimeShorter(l, r);
+}
+
+L4_INLINE bool operator>(const L4_Time_t &l, const L4_Time_t &r) {
+    return L4_IsTimeLonger(l, r);
+}
+
+L4_INLINE bool operator<=(const L4_Time_t &l, const L4_Time_t &r) {
+    return !L4_IsTimeLonger(l, r);
+}
+
+L4_INLINE bool operator>=(const L4_Time_t &l, const L4_Time_t &r) {
+    return !L4_IsTimeShorter(l, r);
+}
+
+L4_INLINE L4_Time_t operator+(const L4_Time_t &l, L4_Word_t r) {
+    return L4_TimeAddTo(l, r);
+}
+
+L4_INLINE L4_Time_t operator-(const L4_Time_t &l, L4_Word_t r) {
+    return L4_TimeSubtractFrom(l, r);
+}
+
 L4_INLINE L4_Clock_t operator+(const L4_Clock_t &c, L4_Word64_t microseconds) {
     return L4_ClockAddUsec(c, microseconds);
 }
