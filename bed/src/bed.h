@@ -57,6 +57,9 @@ struct entered {
 enum state { ABSENT, INACTIVE, CALLING, READY, STOPPED };
 enum call_kind { CALL_START, CALL_IPC, CALL_UNMAP, CALL_FAULT, CALL_EXCEPTION };
 
+/* A time slice that does not end. */
+#define NO_END UINT32_MAX
+
 /* Priorities are from 0 to 255; each thread begins with the highest. */
 #define PRIORITIES 256u
 
@@ -64,6 +67,8 @@ struct thread {
     enum state state;
     enum call_kind calling;
     uint32_t number, id, pager, priority;
+    int is_interrupted;               /* its last turn has ended though it neither waits nor yields */
+    uint32_t more_turns, turns_left;  /* how many further turns its time slice has, in all and now; or NO_END */
     struct space *space;
     struct registers registers;
     struct entered entered;
@@ -102,6 +107,7 @@ struct bed {
     unsigned char is_own_frame_used[L4_MAX_THREADS];
     struct space spaces[L4_MAX_THREADS];
     struct thread threads[L4_MAX_THREADS];
+    uint32_t turn;                   /* how many milliseconds a turn has */
     uint32_t slots;                  /* the number of places of `threads`, from the first one on, that have been used */
     uint32_t threads_of[PRIORITIES]; /* how many threads have each priority */
     uint32_t next_turns[PRIORITIES]; /* from where on the next thread of each priority is searched */
@@ -292,6 +298,12 @@ void timeouts_forget(struct thread *thread);
 void timeouts_expire(struct bed *bed);
 /* If no thread can run: lets time pass until the next wait expires, and ends it. Returns 0 if none expires. */
 int timeouts_wait(struct bed *bed);
+/* Returns the longest period up to so many microseconds, as a timeout. */
+uint32_t timeouts_period(uint64_t microseconds);
+/* Returns how many microseconds a period has. */
+uint64_t timeouts_microseconds(uint32_t period);
+/* Returns whether the timeout is a period and not a point in time. */
+int timeouts_is_period(uint32_t timeout);
 /* Returns for how many microseconds such a timeout of the thread's Ipc lets it wait; those of a point in time count from the call on. */
 uint64_t timeouts_length(const struct thread *thread, uint32_t timeout);
 

@@ -233,7 +233,8 @@ static uint32_t begin(struct bed *bed, const struct options *options, int count,
     output_open(OUTPUT_SCRIPT, "--script", options->script);
     output_open(OUTPUT_STEPS, "--steps", options->steps);
     record_begin(bed);
-    bed->engine = bed->kind->open(&bed->memory, options->turn == 0 ? bed->kind->turn : options->turn);
+    bed->turn = options->turn == 0 ? bed->kind->turn : options->turn;
+    bed->engine = bed->kind->open(&bed->memory, bed->turn);
     kernel_begin_sigma0(bed);
     bed->has_gdb = options->gdb_port != 0;
     if (bed->has_gdb)

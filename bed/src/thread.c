@@ -373,7 +373,7 @@ static int run(struct bed *bed, struct thread *thread) {
     case STOP_BY_FAULT: thread_fault(bed, thread, stopped.address, stopped.access); return 1;
     case STOP_BY_EXCEPTION: raise_exception(bed, thread, stopped.number); return 1;
     case STOP_BY_HOST: stop(bed, thread, "the host has refused a page of its space"); return 0;
-    case STOP_BY_BUDGET:
+    case STOP_BY_BUDGET: thread->is_interrupted = 1; return 0;
     case STOP_BY_BREAK: return 0;
     }
     return 0;
@@ -382,6 +382,7 @@ static int run(struct bed *bed, struct thread *thread) {
 int thread_turn(struct bed *bed, struct thread *thread) {
     int goes_on = 1;
     uint32_t runs;
+    thread->is_interrupted = 0;
     for (runs = 0; goes_on && runs < RUNS_OF_TURN && bed->end == NOT_ENDED; runs++) {
         thread_take_reply(bed, thread);
         if (thread->state != READY || thread->is_halted)
@@ -390,5 +391,6 @@ int thread_turn(struct bed *bed, struct thread *thread) {
         if (bed->verifies)
             change_verify(bed);
     }
+    thread->is_interrupted |= goes_on && runs == RUNS_OF_TURN;
     return runs > 0;
 }

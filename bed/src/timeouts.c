@@ -31,13 +31,24 @@ static uint64_t point_of(uint32_t timeout, uint64_t now) {
     return (high << (exponent + MANTISSA_BITS)) + ((uint64_t)(timeout & MANTISSA) << exponent);
 }
 
-static uint64_t period_of(uint32_t timeout) {
-    return (uint64_t)(timeout & MANTISSA) << (timeout >> MANTISSA_BITS & 0x1f);
+uint64_t timeouts_microseconds(uint32_t period) {
+    return (uint64_t)(period & MANTISSA) << (period >> MANTISSA_BITS & 0x1f);
+}
+
+uint32_t timeouts_period(uint64_t microseconds) {
+    uint32_t exponent = 0;
+    while (microseconds >> exponent > MANTISSA)
+        exponent++;
+    return exponent << MANTISSA_BITS | (uint32_t)(microseconds >> exponent);
+}
+
+int timeouts_is_period(uint32_t timeout) {
+    return timeout != NEVER && (timeout & IS_POINT) == 0;
 }
 
 /* When a phase that begins at this time expires. A point means what it meant when the thread made the call. */
 static uint64_t deadline_of(const struct thread *thread, uint32_t timeout, uint64_t begin) {
-    return timeout & IS_POINT ? point_of(timeout, thread->call_time) : begin + period_of(timeout);
+    return timeout & IS_POINT ? point_of(timeout, thread->call_time) : begin + timeouts_microseconds(timeout);
 }
 
 /* Whether the timeout is neither never nor zero: no period without a microsecond, and no point that has passed. */

@@ -174,8 +174,9 @@ L4_INLINE void L4_Yield(void) {
 
 /* Sets the priority of a thread, from 0 to 255, or not at all if it is 0xffffffff. A thread begins with 255. A thread runs only while no thread of a
  * higher priority can run. No priority may be higher than the caller's. A thread of root's space can change every thread, and others those of
- * their space. The other control words have to be 0xffffffff, which leaves all as it is. Returns 0 with an ErrorCode, or what the thread does: 1 if
- * the bed has stopped it, 2 without a pager, 3 if it runs, 4 if it waits to send, 6 if it waits to receive. */
+ * their space. TimeControl sets the time slice. The other control words have to be 0xffffffff, which leaves all as it is. Returns 0 with an
+ * ErrorCode, or what the thread does: 1 if the bed has stopped it, 2 without a pager, 3 if it runs, 4 if it waits to send, 6 if it waits to receive;
+ * and what is left of its time slice. */
 L4_INLINE L4_Word_t L4_Schedule(L4_ThreadId_t dest, L4_Word_t TimeControl, L4_Word_t ProcessorControl, L4_Word_t prio, L4_Word_t PreemptionControl,
                                 L4_Word_t *old_TimeControl) {
     L4_Word_t result = dest.raw;
@@ -194,12 +195,23 @@ L4_INLINE L4_Word_t L4_Set_Priority(L4_ThreadId_t dest, L4_Word_t prio) {
 
 L4_ABSENT("l4_bed has one processor")
 L4_Word_t L4_Set_ProcessorNo(L4_ThreadId_t dest, L4_Word_t cpu);
-#define L4_SLICES_REASON "l4_bed has no time slices of a thread: all turns have the length that --turn sets"
-L4_ABSENT(L4_SLICES_REASON)
-L4_Word_t L4_Timeslice(L4_ThreadId_t dest, L4_Time_t *ts, L4_Time_t *tq);
-L4_ABSENT(L4_SLICES_REASON)
-L4_Word_t L4_Set_Timeslice(L4_ThreadId_t dest, L4_Time_t ts, L4_Time_t tq);
-L4_ABSENT(L4_SLICES_REASON)
+
+/* Sets the time slice of a thread: a period, which is rounded up to whole turns, or L4_Never, with which the thread runs until it waits, yields, or a
+ * thread of a higher priority runs. A thread begins with one turn. The total quantum has to be L4_Never. Returns as L4_Schedule does. */
+L4_INLINE L4_Word_t L4_Set_Timeslice(L4_ThreadId_t dest, L4_Time_t ts, L4_Time_t tq) {
+    L4_Word_t old;
+    return L4_Schedule(dest, (L4_Word_t)ts.raw << 16 | tq.raw, 0xffffffffu, 0xffffffffu, 0xffffffffu, &old);
+}
+
+/* Reads what is left of the time slice of a thread, and of its total quantum, which is L4_Never. */
+L4_INLINE L4_Word_t L4_Timeslice(L4_ThreadId_t dest, L4_Time_t *ts, L4_Time_t *tq) {
+    L4_Word_t left, result = L4_Schedule(dest, 0xffffffffu, 0xffffffffu, 0xffffffffu, 0xffffffffu, &left);
+    *ts = L4_TimeOfWord(left >> 16);
+    *tq = L4_TimeOfWord(left & 0xffff);
+    return result;
+}
+
+L4_ABSENT("this kernel has no preemption control")
 L4_Word_t L4_Set_PreemptionDelay(L4_ThreadId_t dest, L4_Word_t sensitivePrio, L4_Word_t maxDelay);
 
 L4_END_C
