@@ -39,6 +39,7 @@ PART = $(patsubst lib%.a,%,$(@F))
 ABI = $(if $(filter 0.%,$(VERSION)),$(basename $(VERSION)),$(basename $(basename $(VERSION))))
 SONAME = libl4.so.$(ABI)
 TRY = out/unproved
+UNPROVED_BY = tests/proofs/build-unproved tests/proofs/compile-module
 
 # UNPROVED=yes builds the library, the bed and the page without proofs. The targets `try-library`, `try-bed` and `try-web` set it.
 WITHOUT = $(filter yes,$(UNPROVED))
@@ -68,7 +69,7 @@ try: toolchain
 	$(TRY)/l4 run $(SCRIPT)
 	@echo 'Nothing has been proved yet: these programs are in $(TRY). `make check` tests them. `make` proves the crates and builds the proved programs.'
 
-$(TRY)/l4 $(TRY)/l4_steps: $(SOURCES) tests/proofs/build-unproved | toolchain
+$(TRY)/l4 $(TRY)/l4_steps: $(SOURCES) $(UNPROVED_BY) | toolchain
 	@tests/proofs/build-unproved $(@F) $@
 
 # Ends a target that needs the Rattle toolchain, with one line, if it is missing.
@@ -102,7 +103,7 @@ library: $(OUT)/libl4.a $(OUT)/$(SONAME)
 # BUILT=yes takes the archives if they are there, and else builds them over the libraries that `rt ci` has just left. The library without
 # proofs is one archive, which is built again when a source has changed.
 ifeq ($(WITHOUT),yes)
-$(PARTS): $(if $(BUILT),,$(SOURCES) tests/proofs/build-unproved | toolchain)
+$(PARTS): $(if $(BUILT),,$(SOURCES) $(UNPROVED_BY) | toolchain)
 	@tests/proofs/build-unproved library $(@D)
 else ifdef BUILT
 $(PARTS):
@@ -130,7 +131,7 @@ $(OUT)/$(SONAME): $(OUT)/libl4.a $(OUT)/exports
 web: $(PAGE)
 
 ifeq ($(WITHOUT),yes)
-$(MODULE): $(SOURCES) web/heap.c tests/proofs/build-unproved | toolchain
+$(MODULE): $(SOURCES) web/heap.c $(UNPROVED_BY) | toolchain
 	@tests/proofs/build-unproved page $@
 else ifdef BUILT
 $(MODULE):
