@@ -83,6 +83,31 @@ static void use_phases(void) {
     L4_Sleep(MILLISECONDS(10));
 }
 
+/* Raises an exception after an Ipc with a timeout that was not needed. */
+static void raise(void) {
+    L4_Set_ExceptionHandler(ROOT);
+    L4_Receive_Timeout(ROOT, MILLISECONDS(5));
+    __asm__ volatile("hlt");
+    print_error("raise: after the exception: ErrorCode ");
+    wait_for_ever();
+}
+
+/* Answers the exception late: the thread continues behind its instruction, which has one byte. */
+static void use_exception(void) {
+    L4_Word_t words[12];
+    run(1, raise);
+    L4_Set_MsgTag(L4_Niltag);
+    L4_Send(thread(1));
+    L4_Sleep(MILLISECONDS(20));
+    L4_Receive(thread(1));
+    L4_StoreMRs(1, 12, words);
+    words[0]++;
+    L4_LoadMRs(1, 12, words);
+    L4_Set_MsgTag(L4_MsgTagOfWord(12));
+    L4_Reply(thread(1));
+    L4_Yield();
+}
+
 /* It computes for five milliseconds, which is less than a turn, and then sends. */
 static void compute(void) {
     L4_Word_t k;
@@ -125,6 +150,7 @@ int main(void) {
         demand(L4_ThreadControl(thread(k), L4_Myself(), L4_Myself(), L4_Pager(), L4_Utcb() + 128 * (k + 1)), "a thread cannot be created");
     use_sleepers();
     use_phases();
+    use_exception();
     use_turns();
     use_times();
     L4_KDB_Enter("done");
