@@ -1,4 +1,4 @@
-// Messages, Unmaps, and threads that come and go, as a sequence chart.
+// Messages, Unmaps, waits that a line ends, and threads that come and go, as a sequence chart.
 import { active, drawing, drawn } from "./dom.mjs";
 import { counted } from "./texts.mjs";
 

@@ -16,7 +16,7 @@ export class Threads {
     this.waits = new Map();
     this.sending = new Map();
     this.nextSpace = 2;
-    // what the chart shows: messages, Unmaps, and threads that come and go
+    // what the chart shows: messages, Unmaps, waits that a line ends, and threads that come and go
     this.events = [];
     this.eventCount = 0;
     this.deletions = new Map();
@@ -40,6 +40,8 @@ export class Threads {
     const [kind, first, second, ...rest] = step.text.split(" ");
     if (kind === "start") this.#start(step, Number(first), second, rest.map(Number));
     if (kind === "transfer") this.#send(step, Number(first), Number(second));
+    if (kind === "timeout") this.#happens({ kind: "end", step, thread: Number(first), text: "a clock ends its wait" });
+    if (kind === "cancel") this.#happens({ kind: "end", step, thread: Number(first), text: "its wait is canceled" });
     step.answers.slice(1).forEach((answer) => this.#end(step, ...answer.split(" ")));
   }
 

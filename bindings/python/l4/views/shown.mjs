@@ -55,7 +55,7 @@ export function glanceAt({ timeline, done, pageBytes, regions, served, threads =
 export function shownAt(given) {
   const { timeline, done, before, now, old } = given, threads = timeline.at(done);
   const changes = changesBetween(old.spaces, now.spaces);
-  const came = threads.events.slice(Math.max(0, threads.eventCount - MOST_OF_STEP), threads.eventCount).filter(({ kind, step }) => kind !== "message" && kind !== "unmap" && step.number > before);
+  const came = threads.events.slice(Math.max(0, threads.eventCount - MOST_OF_STEP), threads.eventCount).filter(({ kind, step }) => ["create", "delete"].includes(kind) && step.number > before);
   return {
     ...glanceAt({ ...given, threads }),
     spaces: now.spaces.map((it) => ({ ...it, threads: threads.threadsOf(it.space) })),
