@@ -5,8 +5,9 @@ import { tested } from "./testing.mjs";
 import { glanceAt, shownAt } from "../bindings/python/l4/views/shown.mjs";
 import { runAt } from "../bindings/python/l4/views/changes.mjs";
 import { stepText } from "../bindings/python/l4/views/kernel.mjs";
+import { originOf, stepName } from "../bindings/python/l4/views/origin.mjs";
 import { rightsText } from "../bindings/python/l4/views/words.mjs";
-import { counted, cut, cutList, ended, grouped, linesIn, megabytes } from "../bindings/python/l4/views/texts.mjs";
+import { counted, cut, cutList, ended, grouped, linesIn, megabytes, pagesText } from "../bindings/python/l4/views/texts.mjs";
 
 const MOST_SCRIPT = 16 << 20, MOST_SHOWN = 256, MOST_WRITTEN = 2 << 20, MOST_ITEMS_SAID = 3, MOST_EXPLAINED = 64, MOST_DRAWN = 300;
 const MOST_ORDERS = 2n ** 64n - 1n;
@@ -75,20 +76,21 @@ class Answers {
     const threads = run.timeline.at(at), [thread] = threads.threadsOf(asked.space);
     const [{ spaces }] = run.states([{ count: at, spaces: threads.allSpaces() }]);
     if (runAt(spaces.find(({ space }) => space === asked.space)?.runs ?? [], asked.page) === null) return this.#absence(run, asked, at, threads);
-    if (end.steps > at) return { lines: [`known after step ${end.steps}, the last one of this line`], steps: [end.steps] };
-    const lines = linesIn(this.program.why(ended(run.lines.slice(0, end.line)), run.machine, thread, asked.page).text);
-    return { lines: cutList(lines), steps: lines.map((line) => (line.startsWith("entry ") ? Number(line.split(" ")[1]) + 1 : null)) };
+    if (end.steps > at) return { isAbsent: false, rows: [{ step: end.steps, text: `known after step ${end.steps}, the last one of this line` }] };
+    return originOf(linesIn(this.program.why(ended(run.lines.slice(0, end.line)), run.machine, thread, asked.page).text), run.steps);
   }
 
-  /** Why a page is absent: the step that took it away, and messages to the space that were not delivered. Each step is a link. */
+  /** Why a page is absent: the step that took it away, messages to the space that were not delivered, and those that mapped other pages in its
+   * place. Each step is a link. */
   #absence(run, { space, page }, at, threads) {
     this.report("Looking for the step that took the page away");
     const { pageBytes } = run.machine, { step: removal, isWhole } = run.removal(space, page, at), lost = run.undelivered(at, threads.threadsOf(space));
-    const row = (step, more) => ({ step: step.number, text: `step ${step.number}, line ${step.line}: ${stepText(step, pageBytes)}. ${more}` });
-    const none = isWhole ? "No step so far has mapped a page here." : `None of the last ${MOST_TRIED} steps that can change pages took the page away.`;
+    const row = (step, more) => ({ step: step.number, text: `${stepName(step)}: ${stepText(step, pageBytes)}. ${more}` });
+    const none = isWhole ? "No step so far has mapped a page here." : `None of the last ${MOST_TRIED} steps of this line took the page away.`;
     const rows = [{ step: null, text: "absent" }, removal ? row(removal, "This step took the page away.") : { step: null, text: none }];
     rows.push(...lost.map((step) => row(step, "This message to the space was not delivered, and none of its items was mapped.")));
-    return { lines: rows.map(({ text }) => text), steps: rows.map(({ step }) => step) };
+    rows.push(...run.elsewhere(space, page, at).map(({ step, pages }) => row(step, `An item of this message names page ${page}, but the receive window decides where pages go. ${placedText(pages)}`)));
+    return { isAbsent: true, rows };
   }
 
   decode({ words, reading, pageBytes }) {
@@ -140,6 +142,12 @@ class Answers {
     if (asked.isWhole || text.length <= MOST_WRITTEN) return { text };
     return { text: `${text.slice(0, MOST_WRITTEN)}\n.. ${grouped(text.length - MOST_WRITTEN)} more characters: save the text to see all of it` };
   }
+}
+
+/** Where the pages of a message were mapped. */
+function placedText(pages) {
+  const texts = pages.slice(0, MOST_ITEMS_SAID).map(({ first, count }) => pagesText(first, count)), left = pages.length - texts.length;
+  return pages.length ? `The step mapped ${texts.join(", ")}${left ? ` and ${counted(left, "more range")}` : ""}.` : "The step mapped no page here.";
 }
 
 /** A number of orders. The module's greatest number stands for more, too. */

@@ -1,9 +1,11 @@
 // A run of a script, as the program's own texts show it after each step: its answers, its history, and the pages of every space.
+import { changesBetween } from "../bindings/python/l4/views/changes.mjs";
 import { Timeline } from "../bindings/python/l4/views/timeline.mjs";
+import { itemsOf } from "../bindings/python/l4/views/words.mjs";
 import { cut, cutList, ended, linesIn } from "../bindings/python/l4/views/texts.mjs";
 
-const MOST_LINES = 120, MOST_REFUSALS = 64, MOST_KEPT = 8, MOST_UNDELIVERED = 3;
-/** How many steps are tried to find the one that took a page away. */
+const MOST_LINES = 120, MOST_REFUSALS = 64, MOST_KEPT = 8, MOST_NAMED = 3, MOST_READ = 64;
+/** How many steps of a line are tried to find the one that took a page away. */
 export const MOST_TRIED = 500;
 const UNDELIVERED = ["no-window", "entangled", "no-memory"];
 
@@ -143,9 +145,19 @@ export class Run {
     });
   }
 
-  /** The step that took a page away that is absent after these steps; null if none did. Only the last ones that can change pages are tried. */
+  /** The step that took a page away that is absent after these steps; null if none did. `l4 why` names it at the end of a line. Of the steps
+   * of a line that has not ended, the last ones that can change pages are tried. */
   removal(space, page, count) {
-    const changes = this.steps.slice(0, count).filter(({ text, answers }) => /^start \d+ (unmap|delete) /.test(text) || (text.startsWith("transfer ") && answers[0] === "done"));
+    const begun = this.begunAt(count), line = this.stepsBy[begun] > count ? begun - 1 : begun, within = this.#removalWithin(space, page, this.stepsBy[line], count);
+    if (within.step || !within.isWhole) return within;
+    const [thread] = this.timeline.at(this.stepsBy[line]).threadsOf(space);
+    const told = thread === undefined ? "" : this.program.why(ended(this.lines.slice(0, line)), this.machine, thread, page).text, entry = /^removed by entry (\d+) /m.exec(told);
+    return { step: entry ? this.steps[Number(entry[1])] : null, isWhole: true };
+  }
+
+  /** The step behind the first ones, up to the last one, that took a page away; whether all of them were tried. */
+  #removalWithin(space, page, first, count) {
+    const changes = this.steps.slice(first, count).filter(({ text, answers }) => /^start \d+ (unmap|delete) /.test(text) || (text.startsWith("transfer ") && answers[0] === "done"));
     const tried = changes.slice(-MOST_TRIED);
     if (!tried.length) return { step: null, isWhole: true };
     const [before, ...after] = this.#presence(space, page, [tried[0].number - 1, ...tried.map(({ number }) => number)]);
@@ -156,7 +168,22 @@ export class Run {
   /** The last messages to a space's threads that were not delivered because of their items. */
   undelivered(count, threads) {
     const isTo = ({ text, answers }) => text.startsWith("transfer ") && UNDELIVERED.includes(answers[0]) && threads.includes(Number(text.split(" ")[2]));
-    return this.steps.slice(0, count).filter(isTo).slice(-MOST_UNDELIVERED);
+    return this.steps.slice(0, count).filter(isTo).slice(-MOST_NAMED);
+  }
+
+  /** The last delivered messages to a space that have an item for a page, but did not map that page: each with its step, and the pages of the
+   * space that the step changed. The receive window decides where pages go. */
+  elsewhere(space, page, count) {
+    const { events, eventCount } = this.timeline.at(count), isIn = (range) => range.first <= page && page < range.first + range.count;
+    const isFor = ({ kind, isDone, words }) => kind === "message" && isDone && itemsOf(words, this.machine.pageBytes).some(isIn);
+    const named = events.slice(0, eventCount).filter(isFor).slice(-MOST_READ).filter(({ step, receiver }) => this.timeline.at(step.number).spaces.get(receiver) === space);
+    return named.slice(-MOST_NAMED).map(({ step }) => ({ step, pages: this.#mappedIn(space, step.number) })).filter(({ pages }) => !pages.some(isIn));
+  }
+
+  /** The pages of a space that a step mapped there. */
+  #mappedIn(space, number) {
+    const places = [number - 1, number].map((count) => ({ count, spaces: this.timeline.at(count).allSpaces() })), [old, now] = this.states(places);
+    return changesBetween(old.spaces, now.spaces).filter((change) => change.space === space && change.is !== null);
   }
 
   /** The pages of every space at some places, which rise: each has a number of steps, and the spaces that there are after them. */

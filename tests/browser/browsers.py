@@ -155,6 +155,11 @@ class Chromium(Page):
         self.command("Emulation.setDeviceMetricsOverride", width=width, height=height, deviceScaleFactor=1, mobile=False)
         self.command("Emulation.setScrollbarsHidden", hidden=True)
 
+    def tab(self):
+        """Presses the Tab key, as a person does."""
+        for kind in ("keyDown", "keyUp"):
+            self.command("Input.dispatchKeyEvent", type=kind, key="Tab", code="Tab", windowsVirtualKeyCode=9)
+
     def darken(self, is_dark):
         self.command("Emulation.setEmulatedMedia", features=[{"name": "prefers-color-scheme", "value": "dark" if is_dark else "light"}])
 
@@ -205,6 +210,11 @@ class Firefox(Page):
         if told["type"] != "success":
             raise RuntimeError(f"{expression[:500]}: {told['exceptionDetails']['text']}")
         return _plain(told["result"])
+
+    def tab(self):
+        """Presses the Tab key, as a person does."""
+        presses = [{"type": kind, "value": "\ue004"} for kind in ("keyDown", "keyUp")]
+        self.command("input.performActions", context=self.context, actions=[{"type": "key", "id": "keys", "actions": presses}])
 
     def resize(self, width, height):
         self.command("browsingContext.setViewport", context=self.context, viewport={"width": width, "height": height})

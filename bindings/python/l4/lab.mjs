@@ -1,5 +1,6 @@
 // The lab's source of answers: the server of `python3 -m l4 lab`.
 import { begin } from "./views/main.mjs";
+import { originOf } from "./views/origin.mjs";
 import { shownAt } from "./views/shown.mjs";
 import { Timeline } from "./views/timeline.mjs";
 
@@ -42,10 +43,17 @@ class ServerSource {
     return { at, count: run.steps.length, line, lineCount: run.lineCount, lines, refusals: run.refusals, notes, pageBytes: asked.pageBytes, ...shown };
   }
 
+  /** How a page got there, in the words of the page. The server answers with the lines of `l4 why`. */
+  async #why(asked, at) {
+    const { steps } = await this.#steps(asked), { lines, steps: named } = await this.#fetch("/why", { ...asked, at });
+    if (lines[0].startsWith("sigma0 ")) return originOf(lines, steps);
+    return { isAbsent: lines[0] === "absent", rows: lines.map((text, place) => ({ step: named[place], text })) };
+  }
+
   async ask(name, asked) {
     if (name === "view") return this.#view(asked);
     const at = asked.at ?? this.run?.steps.length ?? 0;
-    return this.#fetch(`/${name}`, { ...asked, at });
+    return name === "why" ? this.#why(asked, at) : this.#fetch(`/${name}`, { ...asked, at });
   }
 
   stop() {

@@ -2,7 +2,7 @@
 import { drawing, drawn } from "./dom.mjs";
 import { counted, grouped } from "./texts.mjs";
 
-const WIDTH = 780, HEIGHT = 34, LEFT = 66, DIGIT = 8.5, MOST_ITEMS = 256, ITEMS_OF_A_MESSAGE = 31;
+const MOST_WIDTH = 780, LEAST_WIDTH = 240, HEIGHT = 34, LEFT = 66, RIGHT = 12, DIGIT = 8.5, MOST_ITEMS = 256, ITEMS_OF_A_MESSAGE = 31;
 
 /** The block of an item in one row. */
 function blockOf(item, x, y, first, number) {
@@ -27,14 +27,15 @@ function markOf(item, x, source) {
   return drawn("g", { class: "witness" }, drawn("title", {}, `page ${item.page}: no other item could move it`), drawn("path", { d: `M${at} ${y} l-4 10 h8 z` }));
 }
 
-/** The plan, with at most 256 items. */
-export function blocksOf(items, { source, target, count }) {
-  const x = (place) => LEFT + Math.floor((place * WIDTH) / count), shown = items.slice(0, MOST_ITEMS);
+/** The plan, with at most 256 items, in so many pixels. */
+export function blocksOf(items, { source, target, count }, room) {
+  const width = Math.min(Math.max(room - LEFT - RIGHT - 8, LEAST_WIDTH), MOST_WIDTH);
+  const x = (place) => LEFT + Math.floor((place * width) / count), shown = items.slice(0, MOST_ITEMS);
   const names = [["source", 24], ["target", HEIGHT + 30], ["pages", 2 * HEIGHT + 26]].map(([name, y]) => drawn("text", { x: 0, y }, name));
   const blocks = shown.flatMap((item, number) => [blockOf(item, x, 6, source + item.place, number), blockOf(item, x, HEIGHT + 12, target + item.place, number)]);
   const boundaries = shown.map((item, number) => (number && number % ITEMS_OF_A_MESSAGE === 0 ? boundaryOf(item, number, x) : null)).filter((it) => it !== null);
   const left = items.length - shown.length;
   const more = left ? [drawn("text", { x: LEFT, y: 2 * HEIGHT + 46 }, `and ${grouped(left)} more items`)] : [];
   const name = `plan: ${counted(items.length, "item")}`;
-  return drawing(LEFT + WIDTH + 12, 2 * HEIGHT + (left ? 54 : 34), name, [...names, ...blocks, ...boundaries, ...shown.map((item) => markOf(item, x, source)), ...more]);
+  return drawing(LEFT + width + RIGHT, 2 * HEIGHT + (left ? 54 : 34), name, [...names, ...blocks, ...boundaries, ...shown.map((item) => markOf(item, x, source)), ...more]);
 }

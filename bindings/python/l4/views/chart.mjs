@@ -2,12 +2,22 @@
 import { active, drawing, drawn } from "./dom.mjs";
 import { counted } from "./texts.mjs";
 
-const COLUMN = 84, ROW = 30, DIGIT = 9, TEXT = 440, LONGEST = 62;
+const COLUMN = 84, LEAST_COLUMN = 56, ROW = 30, LINE = 20, DIGIT = 9, TEXT = 440, LETTER = 7.2;
 
 /** Where the lines of the threads begin, behind the numbers of the steps. */
 const leftOf = (events) => 26 + DIGIT * Math.max(2, `${events.at(-1).step.number}`.length);
 
-const shortened = (text) => (text.length <= LONGEST ? text : `${text.slice(0, LONGEST - 2)}..`);
+/** A text in at most this many lines of so many pixels. */
+function wrapped(text, width, most) {
+  const letters = Math.max(8, Math.floor(width / LETTER)), lines = [];
+  let left = text;
+  while (left.length > letters && lines.length < most - 1) {
+    const place = left.lastIndexOf(" ", letters), end = place > 0 ? place : letters;
+    lines.push(left.slice(0, end));
+    left = left.slice(end).trimStart();
+  }
+  return [...lines, left.length <= letters ? left : `${left.slice(0, letters - 2)}..`];
+}
 
 /** The threads of an event. */
 const threadsOf = (event) => (event.kind === "message" ? [event.sender, event.receiver] : [event.thread]);
@@ -23,29 +33,42 @@ function arrow(event, columns, y) {
   return drawn("path", { d: `M${start} ${y} H${end} M${end + back} ${y - 4} L${end} ${y} L${end + back} ${y + 4}`, class: kind });
 }
 
-function rowOf(event, columns, left, place, view) {
-  const y = 34 + place * ROW, is = event.kind === "message";
-  const text = is ? messageText(event) : event.text;
+/** What an event says. */
+const textOf = (event) => (event.kind === "message" ? messageText(event) : event.text);
+
+/** Where everything is drawn, in so many pixels: the texts beside the lines of the threads, or below the arrows if there is no room beside. */
+function placesOf(events, room) {
+  const threads = [...new Set(events.flatMap(threadsOf))].sort((a, b) => a - b), left = leftOf(events);
+  const isBeside = left + COLUMN * threads.length + TEXT <= room;
+  const column = isBeside ? COLUMN : Math.min(COLUMN, Math.max(LEAST_COLUMN, (room - left) / threads.length));
+  const right = left + column * threads.length, columns = new Map(threads.map((thread, place) => [thread, left + column / 2 + place * column]));
+  const width = isBeside ? right + TEXT : Math.max(room, right), text = isBeside ? { x: right - 20, y: 5, width: TEXT, most: 1 } : { x: left, y: 5 + LINE, width: width - left, most: 3 };
+  return { left, columns, width, text };
+}
+
+function rowOf(event, lines, y, height, { left, columns, text: spot, width }, view) {
+  const is = event.kind === "message", number = event.step.number;
   const sign = is ? arrow(event, columns, y) : drawn("circle", { cx: columns.get(event.thread), cy: y, r: 5, class: `sign ${event.kind}` });
-  const right = Math.max(...columns.values()) + 22;
-  const isNow = event.step.number === view.step, number = event.step.number;
-  const name = `step ${number}: ${is ? `thread ${event.sender} to thread ${event.receiver}` : `thread ${event.thread}`}, ${text}`;
-  const ground = drawn("rect", { x: 0, y: y - ROW / 2, width: right + TEXT, height: ROW, class: isNow ? "row now" : "row" });
+  const name = `step ${number}: ${is ? `thread ${event.sender} to thread ${event.receiver}` : `thread ${event.thread}`}, ${textOf(event)}`;
+  const ground = drawn("rect", { x: 0, y: y - ROW / 2, width, height, class: number === view.step ? "row now" : "row" });
   const label = drawn("text", { x: left - 12, y: y + 5, "text-anchor": "end" }, `${number}`);
-  const says = drawn("text", { x: right, y: y + 5, class: event.isDone === false ? "failed" : "" }, shortened(text));
+  const says = drawn("text", { class: event.isDone === false ? "failed" : "" }, ...lines.map((line, place) => drawn("tspan", { x: spot.x, y: y + spot.y + place * LINE }, line)));
   return active(drawn("g", { class: is ? "message" : "event" }, ground, label, sign, says), name, () => view.go(number));
 }
 
 /** The events one below another, with the number of those before them. The last is the newest. */
 export function chartOf(events, before, view) {
-  const threads = [...new Set(events.flatMap(threadsOf))].sort((a, b) => a - b);
-  const left = leftOf(events), columns = new Map(threads.map((thread, place) => [thread, left + COLUMN / 2 + place * COLUMN]));
-  const height = 30 + ROW * (events.length + (before ? 1 : 0)), width = left + COLUMN * Math.max(threads.length, 1) + TEXT;
+  const places = placesOf(events, view.room), { text } = places;
+  let y = before ? 64 : 34;
+  const rows = events.map((event) => {
+    const lines = wrapped(textOf(event), text.width, text.most), height = text.most === 1 ? ROW : ROW + LINE * lines.length, top = y;
+    y += height;
+    return rowOf(event, lines, top, height, places, view);
+  });
   // the names are at both ends, because a long chart shows its newest events
-  const lives = [...columns].flatMap(([thread, x]) => [
-    ...[12, height + 12].map((y) => drawn("text", { x, y: y + 2, "text-anchor": "middle" }, `thread ${thread}`)),
-    drawn("line", { x1: x, y1: 18, x2: x, y2: height, class: "life" })]);
-  const rows = events.map((event, place) => rowOf(event, columns, left, place + (before ? 1 : 0), view));
+  const bottom = y - 4, lives = [...places.columns].flatMap(([thread, x]) => [
+    ...[12, bottom + 12].map((at) => drawn("text", { x, y: at + 2, "text-anchor": "middle" }, `thread ${thread}`)),
+    drawn("line", { x1: x, y1: 18, x2: x, y2: bottom, class: "life" })]);
   const earlier = before ? [drawn("text", { x: 4, y: 38 }, `${counted(before, "earlier event")}`)] : [];
-  return drawing(width, height + 18, "messages", [...lives, ...earlier, ...rows]);
+  return drawing(places.width, bottom + 18, "messages", [...lives, ...earlier, ...rows]);
 }

@@ -45,14 +45,18 @@ function stopAt(parts, part) {
 }
 
 /** Replaces what is in an element. The element becomes an area with one stop for the Tab key: the part that had the stop, the current one, or
- * the first. The keyboard's focus stays at the part with the same name. */
+ * the first. The keyboard's focus stays at the part with the same name. If there is none, it goes to the new stop, or to the area itself. */
 export function fill(id, elements) {
   const area = it(id), before = area.querySelector("[data-key][tabindex='0']")?.dataset.key, isFocused = area.contains(document.activeElement);
   area.replaceChildren(...elements);
-  area.dataset.area = "";
   const parts = partsOf(area), kept = isFocused ? parts.find(({ dataset }) => dataset.key === before) : undefined;
-  stopAt(parts, kept ?? area.querySelector(".now [data-key], .now[data-key]") ?? parts[0]);
-  kept?.focus({ preventScroll: true });
+  const stop = kept ?? area.querySelector(".now [data-key], .now[data-key]") ?? parts[0];
+  area.dataset.area = parts.length > 1 ? "many" : "";
+  stopAt(parts, stop);
+  area.removeAttribute("tabindex");
+  if (!isFocused) return;
+  if (!stop) area.tabIndex = -1;
+  (stop ?? area).focus({ preventScroll: true });
 }
 
 /** Moves the keyboard's focus inside an area, by this many parts. Returns whether it was in one. */
@@ -68,9 +72,21 @@ export function moveFocus(by) {
 }
 
 /** Makes a part of an area its stop, and moves the keyboard's focus there. */
-export function focusPart(part) {
+export function focusPart(part, isScrolled = true) {
   stopAt(partsOf(part.closest("[data-area]")), part);
-  part.focus();
+  part.focus({ preventScroll: !isScrolled });
+}
+
+/** Moves the keyboard's focus to the slider, which steps through the run. The page stays where it is. */
+export const focusStep = () => it("step").focus({ preventScroll: true });
+
+/** Opens what an element is in, and brings the element into view with the keyboard's focus. The address stays: it may carry a script. */
+export function goTo(id) {
+  const target = it(id);
+  for (let part = target.closest("details"); part; part = part.parentElement.closest("details")) part.open = true;
+  if (target.tabIndex < 0) target.tabIndex = -1;
+  target.scrollIntoView({ block: "start" });
+  target.focus({ preventScroll: true });
 }
 
 // the lists that are to be scrolled, each with its row; null stands for the end of the list

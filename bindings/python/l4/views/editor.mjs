@@ -6,7 +6,7 @@ import { coloursIn, offersFor, threadsIn } from "./grammar.mjs";
 import { it, made } from "./dom.mjs";
 
 // beyond these sizes there are no colours; so many offers are shown
-const MOST_COLOURED = 1 << 20, MOST_OF_LINE = 1000, MOST_OFFERS = 12;
+const MOST_COLOURED = 1 << 20, MOST_OF_LINE = 1000, MOST_OFFERS = 12, MOST_COMMENT = 2000;
 
 let lines = [], threads = [], refusals = new Map(), current = 0, chosen = -1;
 
@@ -18,9 +18,17 @@ function measures() {
   return { height: Number.parseFloat(style.lineHeight), width: probe.width / it("letter").textContent.length, above: Number.parseFloat(style.paddingTop), left: Number.parseFloat(style.paddingLeft) };
 }
 
-/** Reads the text of the field again, and draws it. */
+/** The comment that a script begins with, as one text. */
+function commentOf(text) {
+  const [, found] = /^(?:#!.*\n)?((?:#(?![!=]).*(?:\n|$))+)/.exec(text.slice(0, MOST_COMMENT)) ?? [null, ""];
+  return found.split("\n").map((line) => line.replace(/^# ?/, "").trim()).filter((line) => line !== "").join(" ");
+}
+
+/** Reads the text of the field again, and draws it. The comment at its head is shown above it too, where it has room. */
 export function showText() {
-  const text = field().value, isPlain = text.length > MOST_COLOURED;
+  const text = field().value, isPlain = text.length > MOST_COLOURED, comment = commentOf(text);
+  it("says").textContent = comment;
+  it("says").hidden = comment === "";
   it("editor").classList.toggle("plain", isPlain);
   lines = isPlain ? [] : text.split("\n");
   threads = isPlain ? [] : threadsIn(text);
@@ -86,7 +94,7 @@ function caretLine() {
 /** Shows what can be written at the caret, what the command of the line takes, and why the line was refused. */
 function showOffers(isTyping) {
   const { before, number } = caretLine(), { begun, offers, forms } = offersFor(before, threads), refusal = refusalOf(number);
-  it("form").textContent = refusal ? `line ${number}: ${refusal.code}: ${refusal.means}` : forms.join("; ").replaceAll("`", "");
+  it("form").textContent = refusal ? `line ${number} (code ${refusal.code}): ${refusal.means}` : forms.join("; ").replaceAll("`", "");
   it("form").classList.toggle("refused", refusal !== undefined);
   if (!isTyping || field().selectionStart !== field().selectionEnd || !offers.length) return hideOffers();
   chosen = -1;

@@ -1,18 +1,19 @@
 // The page: asks its source about the run, and shows what it answers.
 import { decodeBy, forgetLines, listenToWords } from "./decoding.mjs";
-import { it, made, moveFocus, scrollLists } from "./dom.mjs";
-import { forgetForm, listenToEditor, markLines, showText } from "./editor.mjs";
+import { focusStep, goTo, it, made, moveFocus, scrollLists } from "./dom.mjs";
+import { forgetForm, hideOffers, listenToEditor, markLines, showText } from "./editor.mjs";
 import { find } from "./finding.mjs";
 import { framesFor, pageBytesFor } from "./frames.mjs";
 import { FORMS } from "./grammar.mjs";
 import { showChart } from "./message_view.mjs";
 import { listenToOrders, loadedOrder, markOutcomes, needsSearch, search, showOrderNumber } from "./orders_view.mjs";
 import { showMaps, showPages, showTree, showWhy } from "./page_view.mjs";
-import { REGION_FIELDS, clearPlan, plan } from "./plan_view.mjs";
+import { REGION_FIELDS, clearPlan, drawPlan, plan } from "./plan_view.mjs";
 import { showChanges, showLines, showRefusals, showSteps } from "./run_view.mjs";
 import { firstScript, keep, openFile, saveHistory, savePicture, saveScript, shareLink } from "./sharing.mjs";
-import { fields, isEdited, number, question, shown } from "./state.mjs";
+import { fields, isEdited, number, openingOf, question, shown } from "./state.mjs";
 import { saveText, showFields, tell } from "./text_view.mjs";
+import { grouped } from "./texts.mjs";
 import { focusThread, showThreads } from "./thread_view.mjs";
 
 const BUSY_AFTER = 200;
@@ -35,6 +36,7 @@ const sayErrorAt = (id) => (text) => {
 };
 
 const sayError = sayErrorAt("error"), sayPlanError = sayErrorAt("plan-error"), sayTextError = sayErrorAt("text-error"), sayOrdersError = sayErrorAt("orders-error");
+const sayWhyError = sayErrorAt("why-error");
 
 /** How a run says why it has searched no orders: beside the table too, but the script stays in view. */
 const sayOrders = (text) => {
@@ -135,8 +137,7 @@ function takeView(view) {
   document.body.classList.remove("behind");
   shown.at = view.at === view.count ? null : view.at;
   const { isFollowing, space } = shown, isGone = !view.spaces.some((it) => it.space === space);
-  if (isFollowing && view.focus) choosePlace(view.focus.space, view.focus.page);
-  else if (isGone || (isFollowing && space === 0)) chooseFirst(view.spaces);
+  if (isGone || (isFollowing && (view.focus || space === 0))) choosePlace(openingOf(view));
   showPlace(view);
   showRun(view);
   showRefusals(view, go);
@@ -147,10 +148,10 @@ function takeView(view) {
 
 function showPlace(view) {
   it("step").max = view.count;
-  [["at", view.at], ["count", view.count], ["step", view.at]].forEach(([id, value]) => { it(id).value = value; });
+  [["at", view.at], ["count", view.count], ["step", shown.at ?? view.count]].forEach(([id, value]) => { it(id).value = value; });
   it("step").setAttribute("aria-valuetext", `step ${view.at} of ${view.count}`);
-  it("back").disabled = view.at === 0;
-  it("on").disabled = view.at === view.count;
+  it("back").setAttribute("aria-disabled", view.at === 0);
+  it("on").setAttribute("aria-disabled", view.at === view.count);
   it("notes").replaceChildren(...view.notes.map((note) => made("li", {}, note)));
   decodeBy(view.pageBytes);
 }
@@ -163,26 +164,30 @@ function showSelection() {
 }
 
 /** What the views can do, and what is chosen. */
-const acts = () => ({ space: shown.space, page: shown.page, first: shown.first, colour: shown.colour, choose, chooseSpace, go, findThread: focusThread });
+const acts = () => ({ space: shown.space, page: shown.page, first: shown.first, colour: shown.colour, choose, chooseSpace, go, goKeeping, findThread: focusThread });
 
-function choosePlace(space, page) {
-  Object.assign(shown, { space, page, first: page === null ? 0 : page });
+function choosePlace({ space, page }) {
+  Object.assign(shown, { space, page, first: page ?? 0 });
 }
 
-/** The first page of a space beside sigma0's, or else sigma0's space. */
-function chooseFirst(spaces) {
-  const found = spaces.find(({ space, runs }) => space !== 0 && runs.length);
-  choosePlace(found?.space ?? 0, found?.runs[0][0] ?? null);
-}
-
-function go(at) {
-  shown.at = Math.max(0, at);
-  shown.isFollowing = true;
+/** Goes to the place after some steps, whose page is shown then. */
+function go(at, isFollowing = true) {
+  Object.assign(shown, { at: Math.max(0, at), isFollowing });
   return refresh();
+}
+
+/** Goes to a place, and keeps the page that was chosen: what is asked about a page leads to steps of it. */
+const goKeeping = (at) => go(at, false);
+
+/** Goes some steps on, or back, from the place that was asked for last, which may not be shown yet. */
+function goBy(count) {
+  const most = shown.view.count;
+  return go(Math.min((shown.at ?? most) + count, most));
 }
 
 /** Shows why a page is there, and the tree of its frame. */
 function choose(space, page) {
+  sayWhyError("");
   if (space !== shown.space || page < shown.first) shown.first = page;
   Object.assign(shown, { space, page, isFollowing: false });
   refresh();
@@ -190,7 +195,9 @@ function choose(space, page) {
 
 /** Explains the page of the field, in the space that is shown. */
 function askWhy() {
-  if (/^[0-9]+$/.test(it("asked-page").value)) choose(shown.space, number("asked-page"));
+  const most = 2 ** 32 / shown.pageBytes - 1, isPage = /^[0-9]+$/.test(it("asked-page").value) && number("asked-page") <= most;
+  sayWhyError(isPage ? "" : `A page is a number from 0 to ${grouped(most)}.`);
+  if (isPage) choose(shown.space, number("asked-page"));
 }
 
 function chooseSpace(space) {
@@ -198,10 +205,13 @@ function chooseSpace(space) {
   refresh();
 }
 
-/** Runs the script of the field, and shows a place in it: the end, if none is given. The orders of a litmus test are searched then. */
-async function run(at = null) {
+/** Runs the script of the field, and shows a place in it: the end, if none is given, and the page of that step, if none is chosen. The orders of
+ * a litmus test are searched then. */
+async function run(at = null, chosen = null) {
   const asked = fields();
-  Object.assign(shown, asked, { at, isFollowing: true, isSameRun: false, space: null, page: null });
+  Object.assign(shown, asked, { at, isFollowing: chosen === null, isSameRun: false });
+  choosePlace(chosen ?? { space: null, page: null });
+  hideOffers();
   showText();
   const isToSearch = needsSearch(asked);
   markOutcomes();
@@ -221,14 +231,14 @@ function fail(text) {
 }
 
 /** Puts a script into the field, and runs it. A script of the field that would be lost is kept: `former` brings it back. */
-function load({ script, frames = framesFor(script), pageBytes = pageBytesFor(script), step = null, order = null }) {
+function load({ script, frames = framesFor(script), pageBytes = pageBytesFor(script), step = null, chosen = null, order = null }) {
   keepFormer(script);
   it("script").value = script;
   forgetForm();
   it("frames").value = frames;
   if (pageBytes !== undefined) it("page-bytes").value = pageBytes;
   showOrderNumber(order);
-  return run(step);
+  return run(step, chosen);
 }
 
 /** Puts the script of an order into the field, runs it, and brings the field into view. */
@@ -239,11 +249,11 @@ function loadOrder(found) {
 }
 
 /** Loads what a link, the browser's store or the source gives: a script; a litmus test and one of its orders, by the outcome's number; and a
- * step of either. */
+ * step of either, with the page that was chosen there. */
 async function begins(start) {
   if (!start.order) return load({ ...start, order: null });
-  await load({ ...start, step: null, order: null });
-  return loadedOrder(start.order, start.step);
+  await load({ ...start, step: null, chosen: null, order: null });
+  return loadedOrder(start.order, start);
 }
 
 /** Keeps the script of the field if another one takes its place. The kept one is dropped when it comes back. */
@@ -277,7 +287,7 @@ function onKey(event) {
 }
 
 const KEYS = {
-  "ArrowLeft": () => go(shown.view.at - 1), "ArrowRight": () => go(Math.min(shown.view.at + 1, shown.view.count)),
+  "ArrowLeft": () => goBy(-1), "ArrowRight": () => goBy(1),
   "Home": () => go(0), "End": () => go(shown.view.count), "/": () => it("find").focus(),
 };
 
@@ -293,20 +303,23 @@ function listenToRun() {
   on("run", "click", runAgain);
   on("enter", "click", enter);
   on("next-line", "keydown", (event) => { if (event.key === "Enter" && !event.ctrlKey) enter(); });
-  on("back", "click", () => go(shown.view.at - 1));
-  on("on", "click", () => go(Math.min(shown.view.at + 1, shown.view.count)));
+  on("back", "click", () => goBy(-1));
+  on("on", "click", () => goBy(1));
   on("step", "input", () => go(number("step")));
   on("script", "input", () => { keep(); sayDone(""); it("edited").hidden = !isEdited(); it("refusals").hidden = true; markOutcomes(); });
-  on("former", "click", () => load(former));
+  on("former", "click", () => { load(former); focusStep(); });
   ["frames", "page-bytes"].forEach((id) => on(id, "change", runAgain));
   on("stop", "click", () => source.stop());
   document.addEventListener("keydown", onKey);
+  document.querySelectorAll("[data-to]").forEach((button) => button.addEventListener("click", () => goTo(button.dataset.to)));
+  // what is scrolled to, or gets the keyboard's focus, is not below the header
+  new ResizeObserver(([{ target }]) => document.documentElement.style.setProperty("--header", `${target.offsetHeight}px`)).observe(document.querySelector("header"));
 }
 
 function listenToViews() {
   on("space", "change", () => chooseSpace(number("space")));
   on("first", "click", () => { shown.first = 0; showSelection(); });
-  on("more", "click", () => { shown.first = number("more"); showSelection(); });
+  on("more", "click", () => { if (it("more").value !== "") shown.first = number("more"); showSelection(); });
   on("colour", "change", () => { shown.colour = it("colour").value; showSelection(); });
   on("plan", "click", () => plan(source, sayPlanError));
   REGION_FIELDS.forEach((id) => on(id, "input", clearPlan));
@@ -374,6 +387,7 @@ export async function begin(given) {
     await begins(await firstScript(start, source.name === "page", sayDone));
     plan(source, sayPlanError);
     globalThis.addEventListener("hashchange", async () => begins(await firstScript(fields(), false, sayDone)));
+    globalThis.addEventListener("resize", () => { if (shown.view) showChart(shown.view, go); drawPlan(); });
   } catch (fault) {
     fail(fault.message);
   }

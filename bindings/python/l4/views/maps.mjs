@@ -2,7 +2,7 @@
 import { active, drawing, drawn } from "./dom.mjs";
 import { grouped, pagesText } from "./texts.mjs";
 
-const CELL = 16, COLUMNS = 16, MOST_AREAS = 8, MOST_PAGES_OF_AREA = 1024, MOST_BLOCKS = 128, MOST_RUNS = 1024, LABEL = 16, TITLE = 76;
+const CELL = 16, COLUMNS = 16, MOST_AREAS = 8, MOST_PAGES_OF_AREA = 1024, MOST_BLOCKS = 128, MOST_RUNS = 1024, LABEL = 16, TITLE = 76, RING = 4;
 
 const hue = (number) => `hsl(${Math.round(number * 137.5) % 360} 62% 66%)`;
 
@@ -107,7 +107,10 @@ function pageUnder(event, areas, first) {
   return area ? area.start + Math.floor((y - area.y) / CELL) * COLUMNS + Math.min(Math.max(Math.floor(x / CELL), 0), COLUMNS - 1) : first;
 }
 
-/** The map of a space. A page that a step changed has a frame, which is dashed if the page was removed. The chosen page has a ring. */
+/** A rectangle inside another, so that the border of the other can be seen. */
+const inside = ({ x, y, width, height }) => ({ x: x + RING, y: y + RING, width: width - 2 * RING, height: height - 2 * RING });
+
+/** The map of a space. A page that a step changed has a frame, which is dashed if the page was removed. The chosen page has a small frame inside. */
 export function mapOf(shown, changes, view) {
   const own = changes.filter(({ space }) => space === shown.space);
   const runs = shown.runs.slice(0, MOST_RUNS), areas = areasOf([...runs.map(([first, count]) => ({ first, count })), ...own]);
@@ -119,7 +122,7 @@ export function mapOf(shown, changes, view) {
   const marks = own.slice(0, MOST_BLOCKS).flatMap(({ first, count, is }) =>
     areas.flatMap((area) => rectangles(area, first, count)).map((part) => drawn("rect", { ...part, class: is === null ? "mark went" : "mark" })));
   const isChosen = view.space === shown.space && view.page !== null;
-  const ring = isChosen ? areas.flatMap((area) => rectangles(area, view.page, 1)).map((part) => drawn("rect", { ...part, class: "ring" })) : [];
+  const ring = isChosen ? areas.flatMap((area) => rectangles(area, view.page, 1)).map((part) => drawn("rect", { ...inside(part), class: "ring" })) : [];
   const parts = [...grounds, ...blocks.map((it) => it.picture), ...marks, ...ring];
   const picture = drawing(TITLE + COLUMNS * CELL + 4, Math.max(height, CELL + 4), `map of space ${shown.space}`, parts);
   return { picture, left: shown.runs.reduce((sum, [, count]) => sum + count, 0) - blocks.reduce((sum, it) => sum + it.shownPages, 0) };

@@ -1,7 +1,7 @@
 // Every order of a litmus test's calls: a table of outcomes, each with an order that produces it and the rules that it breaks, and the graph of
 // the states. The number of an outcome loads the script of its order.
 import { drawStates, readGraph, takenBy } from "./states.mjs";
-import { fill, it, link, made } from "./dom.mjs";
+import { fill, focusPart, focusStep, it, link, made } from "./dom.mjs";
 import { isLitmus } from "./frames.mjs";
 import { fields, number } from "./state.mjs";
 import { counted, grouped } from "./texts.mjs";
@@ -78,16 +78,22 @@ function row({ answers, witness, broken }, place, script) {
   const rules = broken.map((text) => made("div", { class: "broken" }, `breaks: ${text}`));
   const order = calls.slice(0, MOST_CALLS).map(({ number: at, text }) => made("li", {}, `${at}: ${text}`));
   if (calls.length > MOST_CALLS) order.push(made("li", {}, `and ${counted(calls.length - MOST_CALLS, "more call")}`));
-  return made("tr", { class: broken.length ? "breaks" : null }, made("td", {}, link(`${place + 1}`, () => loadedOrder(place + 1), name)),
+  return made("tr", { class: broken.length ? "breaks" : null }, made("td", {}, link(`${place + 1}`, () => chooseOrder(place + 1), name)),
     made("td", { class: "outcome" }, ...lines, ...rules), made("td", {}, made("ol", { class: "order" }, ...order)));
 }
 
 let load = null;
 
-/** Loads the script of an outcome's order, at a step of it if one is given. */
-export function loadedOrder(outcome, step = null) {
+/** Loads the script of an outcome's order, at a step and a page of it if they are given. */
+export function loadedOrder(outcome, { step = null, chosen = null } = {}) {
   const one = found?.outcomes[outcome - 1];
-  return one ? load({ ...found.asked, script: one.witness, order: outcome, step }) : undefined;
+  return one ? load({ ...found.asked, script: one.witness, order: outcome, step, chosen }) : undefined;
+}
+
+/** Loads the order of an outcome that was chosen. The keyboard's focus goes where the order is stepped through. */
+function chooseOrder(outcome) {
+  loadedOrder(outcome);
+  focusStep();
 }
 
 /** The outcome whose order is in the editor, and its litmus test; null if there is none. */
@@ -109,14 +115,15 @@ export function showOrderNumber(outcome) {
   [...it("outcomes").rows].forEach((row, place) => row.classList.toggle("now", place + 1 === loaded?.outcome));
   if (!found?.graph) return;
   const calls = loaded ? callsOf(found.asked.script, found.outcomes[outcome - 1].witness) : [];
-  fill("states", [drawStates(found.graph, takenBy(found.graph, calls), { outcomes: found.outcomes, choose: loadedOrder, lines: found.asked.script.split("\n") })]);
+  fill("states", [drawStates(found.graph, takenBy(found.graph, calls), { outcomes: found.outcomes, choose: chooseOrder, lines: found.asked.script.split("\n") })]);
 }
 
 /** Brings the outcomes into view, and in their table the first one that breaks a rule. */
 function goToOutcomes() {
   it("orders-title").scrollIntoView({ block: "start" });
-  const broken = it("outcomes").querySelector(".breaks"), table = it("outcomes-table");
+  const broken = it("outcomes").querySelector(".breaks"), table = it("outcomes-table"), part = (broken ?? it("outcomes")).querySelector("[data-key]");
   if (broken) table.scrollTop += broken.getBoundingClientRect().top - table.getBoundingClientRect().top;
+  if (part) focusPart(part, false);
 }
 
 /** Says beside the script that it is a litmus test, with what a search has found or a link that searches its orders. */
@@ -158,7 +165,7 @@ function show(told, asked) {
   it("states-part").hidden = told.states === undefined;
   it("states-more").textContent = found.graph ? "" : `There are ${counted(told.states, "state")}: \`l4 orders --dot\` writes a graph of any number of states, if every order was followed. The page draws up to 300.`;
   if (!found.graph) fill("states", []);
-  it("plan-again").onclick = () => load(asked);
+  it("plan-again").onclick = () => { load(asked); focusStep(); };
   showOrderNumber(null);
 }
 

@@ -57,11 +57,12 @@ export function showPages(view, acts) {
   fill("pages", rows.map((row) => pageRow(row, view, acts)));
   it("pages-table").hidden = rows.length === 0;
   it("no-pages").hidden = rows.length > 0;
-  it("no-pages").textContent = `Space ${space} has no pages${acts.first ? ` after page ${acts.first - 1}` : ""}.`;
-  it("more").disabled = found.length <= MOST_ROWS;
+  const count = countOf(runs), hasEarlier = acts.first > 0 && count > 0;
+  it("no-pages").textContent = `Space ${space} has no pages${hasEarlier ? ` from page ${acts.first} on` : ""}.`;
+  it("more").setAttribute("aria-disabled", found.length <= MOST_ROWS);
   it("more").value = found.length > MOST_ROWS ? found[MOST_ROWS][0] : "";
-  it("first").disabled = acts.first === 0;
-  it("pages-more").textContent = found.length > MOST_ROWS || acts.first ? `${counted(rows.length, "page")} of ${grouped(countOf(runs))}, starting at page ${acts.first}` : "";
+  it("first").setAttribute("aria-disabled", !hasEarlier);
+  it("pages-more").textContent = found.length > MOST_ROWS || hasEarlier ? `${counted(rows.length, "page")} of ${grouped(count)}, starting at page ${acts.first}` : "";
 }
 
 /** The tree of the chosen page's frame. */
@@ -73,13 +74,10 @@ export function showTree(view, acts) {
   if (chosen) it("tree").scrollLeft = chosen.getBBox().x - it("tree").clientWidth / 2 + 52;
 }
 
-/** How the chosen page got there: each transfer is a link to its step. */
+/** How the chosen page got there: each transfer is a link to its step, which keeps the page. */
 export function showWhy(told, acts) {
-  it("why-title").textContent = acts.page === null ? "Why a page is there, or absent" : `Why page ${acts.page} of space ${acts.space} is ${told?.lines[0] === "absent" ? "absent" : "there"}`;
+  it("why-title").textContent = acts.page === null ? "Why a page is there, or absent" : `Why page ${acts.page} of space ${acts.space} is ${told?.isAbsent ? "absent" : "there"}`;
   if (document.activeElement !== it("asked-page")) it("asked-page").value = acts.page ?? "";
   if (!told) return fill("why", [made("li", { class: "hint" }, "Choose a page in a map or in the table, or write its number: it may be absent.")]);
-  return fill("why", told.lines.map((text, place) => {
-    const step = told.steps?.[place] ?? null;
-    return made("li", {}, step === null ? text : link(text, () => acts.go(step), text.startsWith(`step ${step},`) ? text : `step ${step}: ${text}`));
-  }));
+  return fill("why", told.rows.map(({ step, text }) => made("li", {}, step === null ? text : link(text, () => acts.goKeeping(step)))));
 }

@@ -4,6 +4,8 @@ import { fill, it, made } from "./dom.mjs";
 import { number, shown } from "./state.mjs";
 
 let planned = 0;
+// the plan that is shown, and its region
+let shownPlan = null;
 
 export const region = () => ({ source: number("source"), target: number("target"), count: number("pages-of-region"), rights: number("rights") });
 
@@ -23,16 +25,24 @@ export function clearPlan() {
 }
 
 function clear() {
+  shownPlan = null;
   it("plan-text").textContent = it("verdict").textContent = "";
   ["blocks", "items"].forEach((id) => fill(id, []));
   it("items-table").hidden = true;
 }
 
+/** Draws the plan that is shown, as wide as there is room. */
+export function drawPlan() {
+  const { told, asked } = shownPlan ?? { told: { items: [] } };
+  fill("blocks", told.items.length ? [blocksOf(told.items, asked, it("blocks").clientWidth)] : []);
+}
+
 function show(told, asked) {
-  it("plan-text").textContent = told.text;
+  shownPlan = { told, asked };
+  it("plan-text").textContent = `${told.text}${told.verdict ? "; l4 check says" : ""}`;
   it("verdict").textContent = told.verdict;
   it("items-table").hidden = told.pages.length === 0;
-  fill("blocks", told.items.length ? [blocksOf(told.items, asked)] : []);
+  drawPlan();
   fill("items", told.pages.map((page, k) => made("tr", {}, made("td", {}, `${k}`), made("td", {}, told.items[k]?.text ?? ""), made("td", {}, `${page}`))));
 }
 

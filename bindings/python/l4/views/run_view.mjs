@@ -1,5 +1,5 @@
 // The lines of the script with their answers, the refused lines, and the steps.
-import { fill, follow, it, link, made, scrollLists } from "./dom.mjs";
+import { fill, follow, goTo, it, link, made, scrollLists } from "./dom.mjs";
 import { wrongToken } from "./grammar.mjs";
 import { wordsIn } from "./decoding.mjs";
 import { counted, grouped } from "./texts.mjs";
@@ -20,15 +20,15 @@ function answerRow(answer, line, refusals) {
   if (!/(^line \d+|^\d+) refused /.test(answer)) return made("pre", { class: "answer" }, ...wordsIn(answer, "answer"));
   const known = refusals.find(({ line: number }) => number === line.number);
   const row = made("pre", { class: "answer refused" }, answer);
-  if (known) row.append(made("span", { class: "why" }, `\n${refusalText(known, line.text)}`));
+  if (known) row.append(made("span", { class: "why" }, "\n", ...refusalParts(known, line.text)));
   return row;
 }
 
-/** A refusal in words, with the token that is wrong if the line can't be read. The program names that token itself. */
-function refusalText({ code, means, names }, text) {
-  if (means.startsWith("token ")) return `${means}; see “Commands of a script”`;
-  const token = code === "S1" || code === "S2" ? wrongToken(text, names) : "";
-  return token ? `${means}: ${token}; see “Commands of a script”` : means;
+/** A refusal in words, with the token that is wrong and the commands if the line can't be read. The program names that token itself. */
+function refusalParts({ code, means, names, line }, text) {
+  const isToken = means.startsWith("token "), token = !isToken && (code === "S1" || code === "S2") ? wrongToken(text, names) : "";
+  const commands = link("Commands of a script", () => goTo("commands-title"), "Commands of a script", `commands, line ${line}`);
+  return isToken || token ? [`${means}${token ? `: ${token}` : ""}; see “`, commands, "”"] : [means];
 }
 
 export function showLines(view, go) {
@@ -55,7 +55,7 @@ export function showRefusals(view, go) {
   const jump = link(`go to line ${next.line}`, () => goToLine(next, go), `go to the refused line ${next.line}`);
   const text = view.lines.find(({ number }) => number === next.line)?.text ?? "";
   const title = made("strong", {}, `${counted(count, "line")} refused`);
-  return fill("refusals", [title, ` — line ${next.line}: ${next.code}, ${refusalText(next, text)} `, jump]);
+  return fill("refusals", [title, ` — line ${next.line} (code ${next.code}): `, ...refusalParts(next, text), " ", jump]);
 }
 
 /** One step, with the line that caused it, and whether a served thread acted by itself. */

@@ -2,7 +2,7 @@
 import { it, save } from "./dom.mjs";
 import { framesFor, pageBytesFor } from "./frames.mjs";
 import { orderShown } from "./orders_view.mjs";
-import { fields, isEdited, question, shown } from "./state.mjs";
+import { fields, isEdited, openingOf, question, shown } from "./state.mjs";
 import { grouped } from "./texts.mjs";
 
 const STORE = "l4 script", MOST_LINK = 60_000;
@@ -25,10 +25,18 @@ async function through(stream, bytes) {
   return new Uint8Array(await new Response(new Blob([bytes]).stream().pipeThrough(stream)).arrayBuffer());
 }
 
-/** What a link carries now: the script and its machine; or the litmus test with the outcome whose order is in the editor. */
+/** The page that is chosen, if a link without it would open on another one. */
+function chosenPage() {
+  const { space, page, view } = shown, opening = view && openingOf(view);
+  return !view || (opening.space === space && opening.page === page) ? null : { space, page };
+}
+
+/** What a link carries now: the script and its machine; or the litmus test with the outcome whose order is in the editor; and the step and the
+ * page that are shown of either. */
 function toShare() {
-  const order = isEdited() ? null : orderShown(), step = isEdited() ? null : shown.at;
-  return order ? { ...order, order: order.outcome, step } : { ...fields(), order: null, step };
+  if (isEdited()) return { ...fields(), order: null, step: null, chosen: null };
+  const order = orderShown(), place = { step: shown.at, chosen: chosenPage() };
+  return order ? { ...order, order: order.outcome, ...place } : { ...fields(), order: null, ...place };
 }
 
 const isSame = (a, b) => ["script", "frames", "pageBytes", "order"].every((name) => a[name] === b[name]);
@@ -52,9 +60,10 @@ function checksum(text) {
 
 /** The part of a link that carries a script. The script is last, so that a link that is cut still has the length and the checksum. A long
  * script is packed by the browser's deflate. */
-async function linkPart({ script, frames, pageBytes, order, step }) {
+async function linkPart({ script, frames, pageBytes, order, step, chosen }) {
   const bytes = new TextEncoder().encode(script), packed = await through(new CompressionStream("deflate-raw"), bytes);
-  const place = `${order === null ? "" : `&outcome=${order}&most=${it("most").value}`}${step === null ? "" : `&step=${step}`}`;
+  const page = chosen === null ? "" : `&space=${chosen.space}${chosen.page === null ? "" : `&page=${chosen.page}`}`;
+  const place = `${order === null ? "" : `&outcome=${order}&most=${it("most").value}`}${step === null ? "" : `&step=${step}`}${page}`;
   const text = packed.length < bytes.length ? `packed=${encoded(packed)}` : `script=${encoded(bytes)}`;
   return `#frames=${frames}&page-size=${pageBytes}&length=${script.length}&sum=${checksum(script)}${place}&${text}`;
 }
@@ -65,6 +74,12 @@ const isStart = (it) => it !== null && typeof it?.script === "string" && Number.
 function numberIn(parts, name) {
   const text = parts.get(name);
   return text !== null && /^[0-9]+$/.test(text) ? Number(text) : null;
+}
+
+/** The page that a link names, or the space without a page. */
+function chosenIn(parts) {
+  const [space, page] = ["space", "page"].map((name) => numberIn(parts, name));
+  return space === null ? null : { space, page };
 }
 
 async function scriptIn(parts) {
@@ -80,7 +95,7 @@ async function linked() {
     const script = await scriptIn(parts);
     const found = {
       script, frames: numberIn(parts, "frames") ?? framesFor(script), pageBytes: numberIn(parts, "page-size") ?? pageBytesFor(script) ?? 4096,
-      order: numberIn(parts, "outcome"), step: numberIn(parts, "step"), most: numberIn(parts, "most"),
+      order: numberIn(parts, "outcome"), step: numberIn(parts, "step"), chosen: chosenIn(parts), most: numberIn(parts, "most"),
     };
     const isWhole = `${script.length}` === (parts.get("length") ?? `${script.length}`) && checksum(script) === (parts.get("sum") ?? checksum(script));
     if (isWhole && isStart(found)) return found;
@@ -108,7 +123,8 @@ export async function shareLink(say) {
   if (part.length > MOST_LINK) return say(`The script is too long for a link, which carries up to ${grouped(MOST_LINK)} characters. Save it as a file instead.`);
   inAddress = what;
   history.replaceState(null, "", part);
-  const opens = what.step === null ? "" : ` It opens at step ${what.step}.`;
+  const page = what.chosen === null ? "" : ` with ${what.chosen.page === null ? "" : `page ${what.chosen.page} of `}space ${what.chosen.space}`;
+  const opens = what.step === null && page === "" ? "" : ` It opens at ${what.step === null ? "the end" : `step ${what.step}`}${page}.`;
   try {
     await navigator.clipboard.writeText(location.href);
     return say(`The link is in the address bar and on the clipboard.${opens}${where}`);

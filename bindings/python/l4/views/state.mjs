@@ -12,6 +12,13 @@ export const fields = () => ({ script: it("script").value, frames: number("frame
 /** The question about the run that is shown. */
 export const question = () => ({ script: shown.script, frames: shown.frames, pageBytes: shown.pageBytes, at: shown.at });
 
+/** The page that the view opens on: that of its step, or else the first page of a space beside sigma0's. */
+export function openingOf({ focus, spaces }) {
+  if (focus) return focus;
+  const found = spaces.find(({ space, runs }) => space !== 0 && runs.length);
+  return { space: found?.space ?? 0, page: found?.runs[0][0] ?? null };
+}
+
 export const isEdited = () => {
   const { script, frames, pageBytes } = fields();
   return script !== shown.script || frames !== shown.frames || pageBytes !== shown.pageBytes;

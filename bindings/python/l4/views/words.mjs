@@ -1,9 +1,9 @@
 // Words of calls in English: thread ids, windows, rights and timeouts.
-import { hexadecimal, pagesText } from "./texts.mjs";
+import { counted, hexadecimal, pagesText } from "./texts.mjs";
 
 export const NIL = 0;
 export const ANY = 0xffffffff;
-const THREAD_BITS = 14, ZERO_TIMEOUT = 0x400;
+const THREAD_BITS = 14, ZERO_TIMEOUT = 0x400, MOST_FPAGES = 3;
 
 export const threadOf = (id) => Math.floor(id / 2 ** THREAD_BITS);
 
@@ -20,6 +20,30 @@ export function windowText(word, pageBytes) {
   const bytes = 2 ** size, first = Math.floor((word >>> 0) / bytes) * bytes;
   if (bytes < pageBytes) return `accepts no page (${bytes} bytes at ${hexadecimal(first)})`;
   return `accepts ${pagesText(first / pageBytes, bytes / pageBytes)}`;
+}
+
+/** The pages of an fpage, and its rights. */
+function fpageText(word, pageBytes) {
+  const size = (word >>> 4) & 63, rights = `(rights ${rightsText(word)})`;
+  if (size === 0) return "no page";
+  if (size === 1 || size === 32) return `all pages ${rights}`;
+  const bytes = 2 ** size;
+  return bytes < pageBytes ? "less than a page" : `${pagesText(Math.floor((word >>> 0) / bytes) * (bytes / pageBytes), bytes / pageBytes)} ${rights}`;
+}
+
+/** The fpages of an Unmap. */
+function fpagesText(words, pageBytes) {
+  const texts = words.slice(0, MOST_FPAGES).map((word) => fpageText(word, pageBytes)), left = words.length - texts.length;
+  return [...texts, ...(left ? [`and ${counted(left, "more fpage")}`] : [])].join(", ");
+}
+
+/** The map and grant items of a message: the first page that an item is for, and the number of its pages. */
+export function itemsOf([tag = 0, ...words], pageBytes) {
+  const untyped = tag & 63, items = words.slice(untyped, untyped + ((tag >>> 6) & 63));
+  return items.flatMap((base, place) => {
+    const size = ((items[place + 1] ?? 0) >>> 4) & 63, bytes = 2 ** (size === 1 ? 32 : size);
+    return place % 2 || bytes < pageBytes ? [] : [{ first: Math.floor((base >>> 10) / (pageBytes / 1024)), count: bytes / pageBytes }];
+  });
 }
 
 /** The receive phase of an Ipc. */
@@ -43,7 +67,7 @@ export function callText(kind, numbers, pageBytes) {
   switch (kind) {
     case "ipc": return ipcText(numbers, pageBytes);
     case "fault": return faultText(numbers);
-    case "unmap": return `unmap ${numbers.length - 1 === 1 ? "1 fpage" : `${numbers.length - 1} fpages`}${first & 0x40 ? ", from its own pages too" : ""}`;
+    case "unmap": return `unmap ${fpagesText(numbers.slice(1), pageBytes)}${first & 0x40 ? ", from its own pages too" : ""}`;
     case "create": return `create thread ${threadOf(first)} in ${second === first ? "a new space" : `the space of ${partnerText(second)}`}, pager ${partnerText(third)}`;
     case "setpager": return `make ${partnerText(second)} the pager of thread ${threadOf(first)}`;
     default: return `delete thread ${threadOf(first)}`;
