@@ -61,16 +61,15 @@ def listed(lines):
 
 
 def block(lines):
-    """A paragraph, a list or a table. An image is left out."""
-    if lines[0].startswith("!["):
-        return ""
+    """A paragraph, a list or a table."""
     if lines[0].startswith("|"):
         return table(lines)
     return listed(lines) if LIST.match(lines[0]) else f"<p>{inline(' '.join(lines))}</p>"
 
 
 def parts(text):
-    """The parts of a document: each is a heading, code, or a block of lines."""
+    """The parts of a document: each is a heading, code, or a block of lines. An image is left out, with the paragraph that leads to it."""
+    text = re.sub(r"(^[^\n]*:\n\n)?^!\[[^\]]*\]\([^)]*\)\n", "", text, flags=re.M)
     for number, piece in enumerate(re.split(r"^```\w*\n(.*?)^```\n", text, flags=re.M | re.S)):
         if number % 2:
             yield "code", piece

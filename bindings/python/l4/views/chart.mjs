@@ -42,7 +42,7 @@ function placesOf(events, room) {
   const isBeside = left + COLUMN * threads.length + TEXT <= room;
   const column = isBeside ? COLUMN : Math.min(COLUMN, Math.max(LEAST_COLUMN, (room - left) / threads.length));
   const right = left + column * threads.length, columns = new Map(threads.map((thread, place) => [thread, left + column / 2 + place * column]));
-  const width = isBeside ? right + TEXT : Math.max(room, right), text = isBeside ? { x: right - 20, y: 5, width: TEXT, most: 1 } : { x: left, y: 5 + LINE, width: width - left, most: 3 };
+  const width = Math.max(room, right), text = isBeside ? { x: right - 20, y: 5, width: width - right + 20, most: 1 } : { x: left, y: 5 + LINE, width: width - left, most: 3 };
   return { left, columns, width, text };
 }
 

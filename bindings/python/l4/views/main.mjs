@@ -188,7 +188,7 @@ function goBy(count) {
 /** Shows why a page is there, and the tree of its frame. */
 function choose(space, page) {
   sayWhyError("");
-  if (space !== shown.space || page < shown.first) shown.first = page;
+  if (space !== shown.space || page < shown.first || page >= number("more")) shown.first = page;
   Object.assign(shown, { space, page, isFollowing: false });
   refresh();
 }

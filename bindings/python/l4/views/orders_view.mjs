@@ -7,7 +7,7 @@ import { fields, number } from "./state.mjs";
 import { counted, grouped } from "./texts.mjs";
 
 const MOST = 2 ** 32, MOST_CALLS = 40, EARLY = {
-  most: "it visited as many states as it may", memory: "memory ran out", history: "the history of an order is full",
+  most: "it visited as many states as the field “at most” allows", memory: "memory ran out", history: "the history of an order is full",
 };
 
 let searched = 0;
@@ -39,8 +39,9 @@ function summary({ outcomeCount, end, orders, states }) {
 
 const RULE = /^(never|always)( |$)/;
 
-/** How many outcomes break a rule; nothing, if the test has no rule. Rules are known of the outcomes in the table alone. */
+/** How many outcomes break a rule; nothing, if the test has no rule or no outcome was found. Rules are known of the outcomes in the table alone. */
 function verdict({ outcomeCount, end, outcomes, asked }) {
+  if (!outcomeCount) return [];
   const broken = outcomes.filter((it) => it.broken.length).length, hasAll = outcomeCount === outcomes.length;
   if (!broken && !partsOf(asked.script)[2].some(({ text }) => RULE.test(text.trim()))) return [];
   const some = `${hasAll ? "" : "At least "}${grouped(broken)} of ${counted(outcomeCount, "outcome")} ${broken === 1 ? "breaks" : "break"} a rule.`;

@@ -57,12 +57,12 @@ export function showPages(view, acts) {
   fill("pages", rows.map((row) => pageRow(row, view, acts)));
   it("pages-table").hidden = rows.length === 0;
   it("no-pages").hidden = rows.length > 0;
-  const count = countOf(runs), hasEarlier = acts.first > 0 && count > 0;
-  it("no-pages").textContent = `Space ${space} has no pages${hasEarlier ? ` from page ${acts.first} on` : ""}.`;
+  const count = countOf(runs), isPart = rows.length < count;
+  it("no-pages").textContent = `Space ${space} has no pages${isPart ? ` from page ${acts.first} on` : ""}.`;
   it("more").setAttribute("aria-disabled", found.length <= MOST_ROWS);
   it("more").value = found.length > MOST_ROWS ? found[MOST_ROWS][0] : "";
-  it("first").setAttribute("aria-disabled", !hasEarlier);
-  it("pages-more").textContent = found.length > MOST_ROWS || hasEarlier ? `${counted(rows.length, "page")} of ${grouped(count)}, starting at page ${acts.first}` : "";
+  it("first").setAttribute("aria-disabled", !isPart || acts.first === 0);
+  it("pages-more").textContent = isPart ? `${counted(rows.length, "page")} of ${grouped(count)}, starting at page ${acts.first}` : "";
 }
 
 /** The tree of the chosen page's frame. */

@@ -4,7 +4,8 @@ import { it } from "./dom.mjs";
 /** The run that is shown, the place in it (null is the end), and the page that was chosen. */
 export const shown = { script: null, frames: 256, pageBytes: 4096, at: null, space: 0, page: null, first: 0, isFollowing: true, isSameRun: false, colour: "frame", view: null };
 
-export const number = (id) => Number.parseInt(it(id).value, 10);
+/** The number in a field; not a number, if there is another text in it. */
+export const number = (id) => (/^ *[0-9]+ *$/.test(it(id).value) ? Number(it(id).value) : NaN);
 
 /** The script and the machine of the fields. */
 export const fields = () => ({ script: it("script").value, frames: number("frames"), pageBytes: number("page-bytes") });

@@ -11,6 +11,7 @@ const wordsIn = (text) => text.trim().split(/\s+/).filter((word) => word !== "")
 function wrongWords(kind, words) {
   if (words.some((word) => !Number.isInteger(word) || word < 0 || word >= 2 ** 32)) return `${kind}: each word is a number from 0 to 4,294,967,295, decimal or after 0x.`;
   if (kind === "why" && words.length !== 2) return "why: give a thread and a page, as in 3 32.";
+  if (kind === "check" && it("claim").value.trim() === "") return "check: write the lines of a plan into the field below, as plan prints them.";
   if (kind === "decode" && !words.length) return "decode: give the words of a message, as in 0x80 0x20008 0x100c7.";
   return "";
 }
