@@ -1,5 +1,6 @@
 //! The options in the first line of a file.
-ghost use Rattle.std.specs.Prelude.{IfOk, IfSome};
+ghost use Rattle.std.specs.Prelude.{◌≡◌, ◌==◌, codes, if◌then◌else◌, IfOk, IfSome};
+ghost use Rattle.std.specs.List.{starts_with};
 ghost use Rattle.l4_options.specs.Ranges.{IsFrameCount};
 
 use l4_answers::later_lines;
@@ -68,7 +69,9 @@ fn options_behind(alloc: Global, line: &[u8]) -> Result<Option<ScriptOptions>, R
 }
 
 /// Returns the number of the line with the options of a script with this text: the second one if the first names a program.
-pub fn options_line(text: &[u8]) -> u64 {
+pub fn options_line(text: &[u8]) -> u64
+    ensures { result ≡ (if starts_with ◌==◌ text.now (codes "#!/") then 2 else 1) }
+{
     if text.starts_with(PROGRAM) { 2 } else { 1 }
 }
 

@@ -1,5 +1,6 @@
 //! `l4 orders`: every outcome that some order of the threads' calls can have.
-ghost use Rattle.std.specs.Prelude.{◌≡◌, ◌⊎◌, if◌then◌else◌, IfErr, MatchResult};
+ghost use Rattle.std.specs.Prelude.{◌≡◌, ◌⊎◌, if◌then◌else◌, IfOk, IfErr, MatchResult};
+ghost use Rattle.l4_litmus.specs.Inside.Printing.{found_text, script_text, requested_text};
 ghost use Rattle.l4_litmus.specs.Statuses.{found_status};
 ghost use Rattle.l4_options.specs.Ranges.{IsFrameCount};
 ghost use Rattle.l4_programs.specs.Statuses.{run_status};
@@ -12,7 +13,7 @@ use crate::statuses::ruled_status;
 use l4_graphs::graph_text;
 use l4_options::{OrdersOptions, ScriptOptions};
 use l4_orders::{
-    Explored, OrderStyle, Plan, orders_text, rules_text, watched_orders, witness_text,
+    Explored, Found, OrderStyle, Plan, orders_text, rules_text, watched_orders, witness_text,
 };
 use l4_programs::{NOT_UNDERSTOOD, WatchedReader, WatchedWriter, stopped};
 use l4_text::RunFault;
@@ -33,11 +34,51 @@ fn found_text(
     plan: &Plan,
     explored: &Explored,
     style: OrderStyle,
-) -> Result<Vec<u8>, AllocError> {
+) -> Result<Vec<u8>, AllocError>
+    ensures { IfOk result (λ text. text.items ≡ found_text plan.now explored.now style) }
+{
     let mut text = orders_text(alloc, plan, explored, style)?;
     let broken = rules_text(alloc, plan, style.explain, explored.found.as_slice())?;
     text.extend_from_slice(broken.as_slice())?;
     Ok(text)
+}
+
+/// Returns the script of the outcome with this number. It is empty if there is no such outcome.
+fn script_text(
+    alloc: Global,
+    plan: &Plan,
+    found: &[Found],
+    number: u32,
+) -> Result<Vec<u8>, AllocError>
+    ensures { IfOk result (λ text. text.items ≡ script_text plan.now found.now number) }
+{
+    let index = number as usize;
+    if index == 0 || index > found.len() {
+        return Ok(Vec::new(alloc));
+    }
+    witness_text(alloc, plan, found[index - 1].order.as_slice())
+}
+
+/// Returns the text that is requested of a search.
+fn requested_text(
+    alloc: Global,
+    plan: &Plan,
+    explored: &Explored,
+    asked: &OrdersOptions,
+) -> Result<Vec<u8>, AllocError>
+    ensures { IfOk result (λ text. text.items ≡ requested_text asked.now plan.now explored.now) }
+{
+    if let Some(number) = asked.witness {
+        return script_text(alloc, plan, explored.found.as_slice(), number);
+    }
+    if asked.dot {
+        return graph_text(alloc, plan, explored);
+    }
+    let style = OrderStyle {
+        brief: asked.brief,
+        explain: asked.explain,
+    };
+    found_text(alloc, plan, explored, style)
 }
 
 /// Reports that the test has no outcome of this number. Returns the exit status.
@@ -62,43 +103,6 @@ fn print_text<R: Print>(rt: &R, text: Result<Vec<u8>, AllocError>) -> Printed
         return Err((RunFault::Write, writer.error()));
     }
     Ok(())
-}
-
-/// Prints the script of the outcome with this number, if there is one.
-fn print_witness<R: AllocGlobal + Print>(
-    rt: &R,
-    plan: &Plan,
-    explored: &Explored,
-    number: u32,
-) -> Printed {
-    let index = number as usize;
-    if index == 0 || index > explored.found.len() {
-        return Ok(());
-    }
-    let order = explored.found[index - 1].order.as_slice();
-    print_text(rt, witness_text(rt.alloc(), plan, order))
-}
-
-/// Prints what is requested of a search.
-fn print_found<R: AllocGlobal + Print>(
-    rt: &R,
-    plan: &Plan,
-    explored: &Explored,
-    asked: &OrdersOptions,
-) -> Printed {
-    if let Some(number) = asked.witness {
-        return print_witness(rt, plan, explored, number);
-    }
-    let text = if asked.dot {
-        graph_text(rt.alloc(), plan, explored)
-    } else {
-        let style = OrderStyle {
-            brief: asked.brief,
-            explain: asked.explain,
-        };
-        found_text(rt.alloc(), plan, explored, style)
-    };
-    print_text(rt, text)
 }
 
 /// Returns the exit status of a search. If there is no outcome with the requested number, reports this.
@@ -156,7 +160,7 @@ fn search_text<R: AllocGlobal + Print + Eprint + Clock>(
     );
     match searched {
         Ok(explored) => {
-            let printed = print_found(rt, &plan, &explored, asked);
+            let printed = print_text(rt, requested_text(rt.alloc(), &plan, &explored, asked));
             report_found(rt, &plan, &explored, asked.witness, printed)
         }
         Err(failure) => not_searched(rt, failure),

@@ -1,6 +1,7 @@
 //! Reads litmus tests: as `l4_orders` does, with the reasons why lines are refused.
-ghost use Rattle.std.specs.Prelude.{◌≤◌};
+ghost use Rattle.std.specs.Prelude.{◌≤◌, ℕ, List, Some, Ok, IfOk};
 ghost use Rattle.l4_options.specs.Ranges.{IsFrameCount};
+ghost use Rattle.l4_orders.specs.Files.{ReadsPlan};
 
 use crate::faults::{TestFault, refusal_fault};
 use crate::rules::rule_reason;
@@ -110,6 +111,7 @@ pub fn read_test(
     text: &[u8],
 ) -> Result<Plan, TestFault>
     requires { IsFrameCount script.now.frames }
+    ensures { IfOk result (λ plan. (rest : List ℕ) × ReadsPlan script.now.size (Some text.now) (Some rest) (Ok plan)) }
 {
     let mut reader = text;
     let plan = match read_plan(alloc, script.size, &mut reader) {
