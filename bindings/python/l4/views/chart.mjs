@@ -53,7 +53,7 @@ function rowOf(event, lines, y, height, { left, columns, text: spot, width }, vi
   const ground = drawn("rect", { x: 0, y: y - ROW / 2, width, height, class: number === view.step ? "row now" : "row" });
   const label = drawn("text", { x: left - 12, y: y + 5, "text-anchor": "end" }, `${number}`);
   const says = drawn("text", { class: event.isDone === false ? "failed" : "" }, ...lines.map((line, place) => drawn("tspan", { x: spot.x, y: y + spot.y + place * LINE }, line)));
-  return active(drawn("g", { class: is ? "message" : "event" }, ground, label, sign, says), name, () => view.go(number));
+  return active(drawn("g", { class: `${is ? "message" : "event"}${number === view.step ? " now" : ""}` }, ground, label, sign, says), name, () => view.go(number));
 }
 
 /** The events one below another, with the number of those before them. The last is the newest. */

@@ -30,9 +30,12 @@ export function active(element, name, act, key = name) {
   return element;
 }
 
+/** The parts of a text, in which rights such as r-x are not broken at the end of a line. */
+export const unbroken = (text) => text.split(/((?<![\w-])[r-][w-][x-](?![\w-]))/).map((part, place) => (place % 2 ? made("span", { class: "unbroken" }, part) : part));
+
 /** A button that looks like a link. The key is what it is known by when it is made again. */
 export function link(text, act, name = text, key = name) {
-  const button = made("button", { type: "button", class: "link", "aria-label": name, "data-key": key }, text);
+  const button = made("button", { type: "button", class: "link", "aria-label": name, "data-key": key }, ...unbroken(text));
   button.addEventListener("click", (event) => { event.stopPropagation(); act(event); });
   return button;
 }

@@ -1,6 +1,6 @@
 // The spaces as maps, the pages of one as a table, why a page is there, and the tree of its frame.
 import { runAt } from "./changes.mjs";
-import { fill, it, link, made } from "./dom.mjs";
+import { fill, it, link, made, unbroken } from "./dom.mjs";
 import { colouring, mapOf } from "./maps.mjs";
 import { counted, grouped } from "./texts.mjs";
 import { mappingsOf, treeOf } from "./tree.mjs";
@@ -79,5 +79,5 @@ export function showWhy(told, acts) {
   it("why-title").textContent = acts.page === null ? "Why a page is there, or absent" : `Why page ${acts.page} of space ${acts.space} is ${told?.isAbsent ? "absent" : "there"}`;
   if (document.activeElement !== it("asked-page")) it("asked-page").value = acts.page ?? "";
   if (!told) return fill("why", [made("li", { class: "hint" }, "Choose a page in a map or in the table, or write its number: it may be absent.")]);
-  return fill("why", told.rows.map(({ step, text }) => made("li", {}, step === null ? text : link(text, () => acts.goKeeping(step)))));
+  return fill("why", told.rows.map(({ step, text }) => made("li", {}, ...step === null ? unbroken(text) : [link(text, () => acts.goKeeping(step))])));
 }

@@ -1,5 +1,5 @@
 // The lines of the script with their answers, the refused lines, and the steps.
-import { fill, follow, goTo, it, link, made, scrollLists } from "./dom.mjs";
+import { fill, follow, goTo, it, link, made, scrollLists, unbroken } from "./dom.mjs";
 import { wrongToken } from "./grammar.mjs";
 import { wordsIn } from "./decoding.mjs";
 import { counted, grouped } from "./texts.mjs";
@@ -63,7 +63,7 @@ function stepRow(step, view, go) {
   const isNow = step.number === view.stepCount, row = made("li", { value: step.number, class: place(step, isNow), "aria-current": isNow ? "step" : null });
   const cause = `line ${step.line}${step.isServed ? ", served thread" : ""}`;
   row.append(made("span", { class: "jump" }, link(`${step.number}`, () => go(step.number), `step ${step.number}, ${cause}: ${step.text}`)),
-    made("span", { class: "source" }, step.text), made("span", { class: "cause" }, ` ${cause}`));
+    made("span", { class: "source" }, ...unbroken(step.text)), made("span", { class: "cause" }, ` ${cause}`));
   return row;
 }
 

@@ -43,7 +43,7 @@ function boxOf(it, spot, view) {
   const box = drawn("rect", { x, y, width: WIDTH, height: HEIGHT, class: isChosen ? "box chosen" : "box" });
   const from = it.parent ? `from space ${it.parent.space} page ${it.parent.page}` : "no parent";
   const name = `space ${it.space} page ${it.page}, frame ${it.frame} ${it.rights}, ${from}${isChosen ? ", chosen" : ""}`;
-  return active(drawn("g", { "data-space": it.space, "data-page": it.page }, box, ...texts), name, () => view.choose(it.space, it.page), keyOf(it));
+  return active(drawn("g", { class: isChosen ? "now" : null, "data-space": it.space, "data-page": it.page }, box, ...texts), name, () => view.choose(it.space, it.page), keyOf(it));
 }
 
 /** The tree, with at most 256 boxes. */
