@@ -44,6 +44,7 @@ static void print_stop(const char *name, const struct registers *now, const stru
     case STOP_BY_FAULT: printf("fault %08x for %u", stop->address, stop->access); break;
     case STOP_BY_EXCEPTION: printf("exception %u", stop->number); break;
     case STOP_BY_BREAK: printf("breakpoint"); break;
+    case STOP_BY_ACCESS: printf("access"); break;
     case STOP_BY_HOST: printf("the host"); break;
     case STOP_BY_BUDGET: printf("budget\n"); return;
     }

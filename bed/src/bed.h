@@ -37,6 +37,7 @@ struct space {
     struct engine_space *engine_space; /* NULL until the areas are known */
     uint32_t kip_page, utcb_page, utcb_pages;
     uint32_t utcb_frames[MAX_UTCB_PAGES]; /* 0 if this page of the area has no frame yet */
+    int has_changed;                      /* a page has changed since the search of all orders has looked */
     uint32_t *leaves[L4_SPACE_PAGES / LEAF_PAGES];
 };
 
@@ -132,6 +133,8 @@ struct bed {
     int has_stopped; /* the bed has stopped a thread */
     int has_gdb;
     struct costs costs;
+    uint64_t entries;      /* how often a program has entered the kernel, or ended its turn */
+    struct orders *orders; /* the search of all orders, or the replay of one; or NULL */
 };
 
 /* main.c */
@@ -165,6 +168,8 @@ void end_watch(struct bed *bed);
 void end_by_gdb(struct bed *bed);
 /* Prints why the run has ended, and what each thread does, unless a program has ended it. */
 void end_report(struct bed *bed);
+/* Prints what each thread does, and the circles of threads that wait for each other. */
+void end_print_threads(struct bed *bed);
 /* Returns the exit status; or ends the bed by the signal that has ended the run. */
 int end_status(const struct bed *bed);
 
@@ -238,6 +243,9 @@ void change_after_transfer(struct bed *bed, uint32_t sender, uint32_t receiver);
 void change_before_unmap(struct bed *bed, uint32_t thread, uint32_t control, const uint32_t *words, size_t count);
 void change_before_delete(struct bed *bed, uint32_t id);
 void change_apply(struct bed *bed);
+/* Returns what a space has at a page as its tables have it (the frame, the rights and MAPPED), or 0; and makes the page of the engine that. */
+uint32_t change_entry(const struct space *space, uint32_t page);
+void change_set(struct bed *bed, struct space *space, uint32_t page, uint32_t entry);
 /* Ends the bed unless every page of every space is as the kernel has it. */
 void change_verify(struct bed *bed);
 
@@ -255,6 +263,8 @@ void thread_activate(struct bed *bed, struct thread *thread, uint32_t pager);
 void thread_set_ready(struct thread *thread, uint32_t eip, uint32_t esp);
 /* Runs the thread until it waits, is stopped, or its turn ends. Returns 0 if it could not run at all. */
 int thread_turn(struct bed *bed, struct thread *thread);
+/* Runs a thread that is ready until it enters the kernel, ends its turn, or is stopped. */
+void thread_enter_once(struct bed *bed, struct thread *thread);
 uint32_t thread_enter(struct bed *bed, struct thread *thread, enum call_kind kind, const l4_call *call, const uint32_t *words, size_t count);
 void thread_fault(struct bed *bed, struct thread *thread, uint32_t address, uint32_t access);
 /* Returns what the thread does in the kernel. */
@@ -309,6 +319,20 @@ uint64_t timeouts_length(const struct thread *thread, uint32_t timeout);
 
 /* exchange.c: executes ExchangeRegisters. */
 void exchange_take(struct bed *bed, struct thread *thread);
+
+/* orders_notes.c: what the search of all orders has to know about a turn. Without a search, these functions do nothing. */
+/* A call is about to start. */
+void orders_note_call(struct bed *bed, uint32_t thread, const l4_call *call);
+/* A step has been executed. */
+void orders_note_step(struct bed *bed, const l4_step *step);
+/* sigma0 has given the pages of this answer to a space. */
+void orders_note_owner(struct bed *bed, uint64_t space, const l4_message *message);
+/* ExchangeRegisters changes a thread. */
+void orders_note_change(struct bed *bed, const struct thread *thread);
+/* Schedule sets a priority. */
+void orders_note_priority(struct bed *bed);
+/* Returns the time in microseconds that SystemClock returns to the thread. */
+uint64_t orders_clock(struct bed *bed, const struct thread *thread);
 
 /* turns.c */
 /* Gives turns to threads until none can run, or the run ends. */

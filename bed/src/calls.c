@@ -267,8 +267,8 @@ static void take_space_control(struct bed *bed, struct thread *thread) {
     registers->ecx = 0;
 }
 
-static void take_clock(const struct bed *bed, struct thread *thread) {
-    uint64_t microseconds = clock_now(bed);
+static void take_clock(struct bed *bed, struct thread *thread) {
+    uint64_t microseconds = bed->orders != NULL ? orders_clock(bed, thread) : clock_now(bed);
     thread->registers.eax = (uint32_t)microseconds;
     thread->registers.edx = (uint32_t)(microseconds >> 32);
 }
@@ -346,6 +346,7 @@ int call_take(struct bed *bed, struct thread *thread, enum system_call call) {
         return 1;
     }
     thread->registers.eip += STUB_TRAP_BYTES;
+    bed->entries += call != SYSTEM_CLOCK;
     switch (call) {
     case SYSTEM_IPC:
     case SYSTEM_LIPC: take_ipc(bed, thread); return 1;

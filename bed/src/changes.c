@@ -30,7 +30,7 @@ static uint32_t frame_of(uint32_t entry) {
     return (entry & ~MAPPED) >> 3;
 }
 
-static uint32_t entry_at(const struct space *space, uint32_t page) {
+uint32_t change_entry(const struct space *space, uint32_t page) {
     const uint32_t *leaf = space->leaves[page / LEAF_PAGES];
     return leaf == NULL ? 0 : leaf[page % LEAF_PAGES];
 }
@@ -104,6 +104,7 @@ static void put(struct bed *bed, struct space *space, uint32_t page, uint32_t en
         check_holds(*leaf != NULL, "there is not enough memory for the pages of a space");
     }
     (*leaf)[page % LEAF_PAGES] = entry;
+    space->has_changed = 1;
     if (entry == 0)
         return;
     if (!is_own(space, page))
@@ -118,17 +119,21 @@ static void take_out(struct bed *bed, struct space *space, uint32_t page) {
     bed->costs.unmapped++;
 }
 
-/* Makes a page of the engine that of the kernel. */
-static void update(struct bed *bed, struct space *space, uint32_t page) {
-    l4_mapping mapping = kernel_mapping(bed, space->number, page);
-    uint32_t before = entry_at(space, page), now = mapping.there ? MAPPED | mapping.frame << 3 | mapping.rights : 0;
-    if (now == before)
+void change_set(struct bed *bed, struct space *space, uint32_t page, uint32_t entry) {
+    uint32_t before = change_entry(space, page);
+    if (entry == before)
         return;
     if (before != 0)
         take_out(bed, space, page);
-    put(bed, space, page, now);
-    if (now == 0)
+    put(bed, space, page, entry);
+    if (entry == 0)
         print_line(bed, "space %u page %u gone", (unsigned)space->number, page);
+}
+
+/* Makes a page of the engine that of the kernel. */
+static void update(struct bed *bed, struct space *space, uint32_t page) {
+    l4_mapping mapping = kernel_mapping(bed, space->number, page);
+    change_set(bed, space, page, mapping.there ? MAPPED | mapping.frame << 3 | mapping.rights : 0);
 }
 
 /* sigma0's space is none of the bed's. */
@@ -228,13 +233,13 @@ static void verify_space(struct bed *bed, const struct space *space) {
     l4_page next = l4_next_page(&bed->kernel, space->number, 0);
     while (next.there) {
         l4_mapping mapping = kernel_mapping(bed, space->number, next.page);
-        check_holds(entry_at(space, next.page) == (MAPPED | mapping.frame << 3 | mapping.rights), "verify: a page is not as the kernel has it");
+        check_holds(change_entry(space, next.page) == (MAPPED | mapping.frame << 3 | mapping.rights), "verify: a page is not as the kernel has it");
         present++;
         next = l4_next_page(&bed->kernel, space->number, next.page + 1);
     }
     check_library(next.refusal, "l4_next_page");
     for (page = 0; page < L4_SPACE_PAGES; page += space->leaves[page / LEAF_PAGES] == NULL ? LEAF_PAGES : 1)
-        present -= entry_at(space, page) != 0;
+        present -= change_entry(space, page) != 0;
     check_holds(present == 0, "verify: a page is mapped that the kernel does not have");
 }
 

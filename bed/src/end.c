@@ -158,6 +158,14 @@ static void print_circle(struct bed *bed, const struct thread *first) {
     print(" waits for %u\n", first->number);
 }
 
+void end_print_threads(struct bed *bed) {
+    size_t k;
+    for (k = 0; k < L4_MAX_THREADS; k++)
+        print_thread(bed, &bed->threads[k]);
+    for (k = 0; k < L4_MAX_THREADS; k++)
+        print_circle(bed, &bed->threads[k]);
+}
+
 void end_report(struct bed *bed) {
     size_t k;
     for (k = 0; k < L4_MAX_THREADS; k++)
@@ -168,10 +176,7 @@ void end_report(struct bed *bed) {
         print("no thread can continue\n");
     else
         print("the run ends: %s\n", bed->end_reason);
-    for (k = 0; k < L4_MAX_THREADS; k++)
-        print_thread(bed, &bed->threads[k]);
-    for (k = 0; k < L4_MAX_THREADS; k++)
-        print_circle(bed, &bed->threads[k]);
+    end_print_threads(bed);
 }
 
 int end_status(const struct bed *bed) {

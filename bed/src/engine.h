@@ -24,6 +24,7 @@ enum stop_kind {
     STOP_BY_EXCEPTION, /* the processor raised exception `number` */
     STOP_BY_BUDGET,    /* the thread ran for a whole turn */
     STOP_BY_BREAK,     /* there is a breakpoint at eip */
+    STOP_BY_ACCESS,    /* the last instruction has accessed memory at which the watcher wants to stop */
     STOP_BY_HOST       /* the host has refused a page of the space, so nothing runs in it any more */
 };
 
@@ -45,6 +46,13 @@ struct memory {
 /* An engine, and an address space in it. Each engine defines both. */
 struct engine;
 struct engine_space;
+
+/* A function that gets each access of a program to memory. If it returns 1 and `stops` is set, the program stops behind the instruction. */
+struct watcher {
+    int (*accessed)(void *user, uint32_t address, uint32_t bytes, int writes);
+    void *user;
+    int stops;
+};
 
 struct engine_kind {
     const char *name;
@@ -70,6 +78,10 @@ struct engine_kind {
     void (*forget)(struct engine *engine, struct engine_space *space, const struct registers *registers);
     /* Sets or removes a breakpoint, at which programs stop before its instruction. NULL if the engine has none. */
     void (*set_break)(struct engine *engine, struct engine_space *space, uint32_t address, int is_set);
+    /* Sets the watcher of all accesses, before the first space is made. NULL if the engine has none. */
+    void (*watch)(struct engine *engine, const struct watcher *watcher);
+    /* Writes the floats that are still in the engine to the registers that they belong to. NULL if the engine has no watcher. */
+    void (*keep)(struct engine *engine, struct engine_space *space);
 };
 
 extern const struct engine_kind engine_kvm;

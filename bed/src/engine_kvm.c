@@ -442,4 +442,4 @@ static void forget(struct engine *engine, struct engine_space *space, const stru
         engine->float_owner = NULL;
 }
 
-const struct engine_kind engine_kvm = {"kvm", 0, 50, open_engine, close_engine, end_engine, new_space, free_space, map, unmap, run, forget, NULL};
+const struct engine_kind engine_kvm = {"kvm", 0, 50, open_engine, close_engine, end_engine, new_space, free_space, map, unmap, run, forget, NULL, NULL, NULL};

@@ -622,4 +622,4 @@ static void forget(struct engine *engine, struct engine_space *space, const stru
         space->float_owner = NULL;
 }
 
-const struct engine_kind engine_ptrace = {"ptrace", 0, 50, open_engine, close_engine, NULL, new_space, free_space, map, unmap, run, forget, NULL};
+const struct engine_kind engine_ptrace = {"ptrace", 0, 50, open_engine, close_engine, NULL, new_space, free_space, map, unmap, run, forget, NULL, NULL, NULL};

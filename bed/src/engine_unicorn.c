@@ -44,10 +44,12 @@ struct stop_place {
 
 struct engine {
     const struct memory *memory;
+    struct watcher watcher;
     uint32_t blocks_of_turn;
 };
 
 struct engine_space {
+    const struct watcher *watcher; /* NULL if there is none */
     uc_engine *unicorn;
     uc_context *clean; /* the processor in ring 3, before any exception */
     struct tables tables;
@@ -63,6 +65,7 @@ struct engine_space {
     uint32_t blocks, most_blocks, block_first, block_bytes;
     int has_accessed; /* the block has accessed memory, last with the right `access` */
     uint32_t access;
+    int has_touched; /* the last instruction has accessed memory at which the watcher wants to stop */
     int has_raised;  /* the processor has raised an exception */
     int is_behind;   /* eip is behind the instruction, which has two bytes: `int n`, sysenter or syscall */
     uint32_t run_on; /* the address of a page that the block continues into and may not execute, or 0 */
@@ -74,7 +77,7 @@ static void check_unicorn(uc_err error, const char *what) {
 }
 
 static struct engine *open_engine(const struct memory *memory, uint32_t turn) {
-    struct engine *engine = malloc(sizeof *engine);
+    struct engine *engine = calloc(1, sizeof *engine);
     check_holds(engine != NULL, "there is not enough memory for an engine");
     engine->memory = memory;
     engine->blocks_of_turn = turn * (MILLISECOND / BLOCK_TIME);
@@ -217,9 +220,21 @@ static bool on_invalid(uc_engine *unicorn, void *user) {
 
 static void on_access(uc_engine *unicorn, uc_mem_type type, uint64_t address, int size, int64_t value, void *user) {
     struct engine_space *space = user;
-    (void)unicorn, (void)address, (void)size, (void)value;
+    (void)unicorn, (void)value;
+    if (space->watcher != NULL && address < SHIM)
+        space->has_touched |= space->watcher->accessed(space->watcher->user, (uint32_t)address, (uint32_t)size, type == UC_MEM_WRITE);
     space->has_accessed = 1;
     space->access = type == UC_MEM_WRITE ? L4_WRITE : L4_READ;
+}
+
+/* Before each instruction, if the watcher stops programs. */
+static void on_instruction(uc_engine *unicorn, uint64_t address, uint32_t size, void *user) {
+    struct engine_space *space = user;
+    (void)address, (void)size;
+    if (!space->has_touched)
+        return;
+    space->stop->kind = STOP_BY_ACCESS;
+    check_unicorn(uc_emu_stop(unicorn), "uc_emu_stop");
 }
 
 /* The emulated processor has no right to execute, so each block of instructions is checked before it runs. */
@@ -358,14 +373,16 @@ static void add_hooks(struct engine_space *space) {
     hook(space, UC_HOOK_INSN_INVALID, (uintptr_t)on_invalid);
     hook(space, UC_HOOK_MEM_READ | UC_HOOK_MEM_WRITE, (uintptr_t)on_access);
     hook(space, UC_HOOK_BLOCK, (uintptr_t)on_block);
+    if (space->watcher != NULL && space->watcher->stops)
+        hook(space, UC_HOOK_CODE, (uintptr_t)on_instruction);
     hook_instruction(space, UC_X86_INS_SYSENTER, (uintptr_t)on_sysenter);
     hook_instruction(space, UC_X86_INS_SYSCALL, (uintptr_t)on_syscall);
 }
 
 static struct engine_space *new_space(struct engine *engine, uint32_t gs_base) {
     struct engine_space *space = calloc(1, sizeof *space);
-    (void)engine;
     check_holds(space != NULL, "there is not enough memory for a space");
+    space->watcher = engine->watcher.accessed == NULL ? NULL : &engine->watcher;
     space->gs_base = gs_base;
     open_memory(space);
     open_processor(space);
@@ -516,7 +533,7 @@ static int start(struct engine_space *space, uint32_t from, uint64_t until) {
     space->stop->kind = STOP_BY_BUDGET;
     space->run_on = 0;
     space->block_bytes = 0;
-    space->has_accessed = space->has_raised = space->is_behind = 0;
+    space->has_accessed = space->has_touched = space->has_raised = space->is_behind = 0;
     if (sigsetjmp(signals_abort_return, 0) != 0) {
         signals_forget_abort();
         return 0;
@@ -653,6 +670,15 @@ static void forget(struct engine *engine, struct engine_space *space, const stru
         space->float_owner = NULL;
 }
 
+static void watch(struct engine *engine, const struct watcher *watcher) {
+    engine->watcher = *watcher;
+}
+
+static void keep(struct engine *engine, struct engine_space *space) {
+    (void)engine;
+    keep_floats(space);
+}
+
 /* Code that was translated before has no hook at the address, or still has one. (Unicorn would raise a page fault if the page were absent.) */
 static void set_break(struct engine *engine, struct engine_space *space, uint32_t address, int is_set) {
     uint32_t k = 0;
@@ -671,4 +697,5 @@ static void set_break(struct engine *engine, struct engine_space *space, uint32_
         check_unicorn(uc_ctl_remove_cache(space->unicorn, address, address + 1), "uc_ctl_remove_cache");
 }
 
-const struct engine_kind engine_unicorn = {"unicorn", 1, 10, open_engine, close_engine, NULL, new_space, free_space, map, unmap, run, forget, set_break};
+const struct engine_kind engine_unicorn = {"unicorn", 1, 10, open_engine, close_engine, NULL, new_space, free_space, map, unmap, run, forget, set_break, watch,
+                                           keep};

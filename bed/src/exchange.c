@@ -95,6 +95,7 @@ static uint32_t exchange(struct bed *bed, struct thread *thread, struct thread *
     if (error != 0)
         return error;
     return_values(&thread->registers, &old);
+    orders_note_change(bed, dest);
     set_registers(dest, &given);
     return 0;
 }

@@ -81,6 +81,7 @@ static void take_ended(struct bed *bed, const uint32_t *ended, uint32_t count) {
 static void take_step(struct bed *bed, const l4_step *step) {
     check_library(step->refusal, "a step of the kernel");
     record_step(step);
+    orders_note_step(bed, step);
     if (bed->prints_lines)
         print_step(step);
     take_ended(bed, step->ended, step->ended_count);
@@ -144,6 +145,7 @@ static int take_next(struct bed *bed) {
 
 static uint32_t enter(struct bed *bed, uint32_t thread, const l4_call *call, const uint32_t *words, size_t count) {
     l4_answer start;
+    orders_note_call(bed, thread, call);
     before_start(bed, thread, call, words, count);
     start = l4_start(&bed->kernel, thread, call, words, count);
     if (start.refusal == L4_OK) {
@@ -171,6 +173,7 @@ static l4_message answer_of_sigma0(struct bed *bed, const l4_reply *reply) {
     memcpy(words + 1, reply->words, reply->word_count * sizeof *words);
     message = l4_sigma0_answer(&bed->sigma0, kernel_space(bed, NUMBER(reply->from)), words, 1 + reply->word_count);
     check_library(message.refusal, "l4_sigma0_answer");
+    orders_note_owner(bed, kernel_space(bed, NUMBER(reply->from)), &message);
     return message;
 }
 

@@ -3,6 +3,7 @@
 #include "bed.h"
 #include "check.h"
 #include "gdb.h"
+#include "orders.h"
 #include "signals.h"
 #include "test.h"
 #include <errno.h>
@@ -15,6 +16,7 @@
 #include <unistd.h>
 
 #define DEFAULT_FRAMES 1024u
+#define DEFAULT_STATES 1000000u
 /* The bed's own frames: the kernel interface page, and one page of UTCBs for each thread at most. */
 #define OWN_FRAMES (1u + L4_MAX_THREADS)
 
@@ -102,6 +104,8 @@ static void print_costs(const struct bed *bed, double seconds) {
     fprintf(stderr, "engine %s: %.3f s, %llu runs, %llu kernel calls, %llu page faults, %llu pages mapped, %llu unmapped\n", bed->kind->name, seconds,
             (unsigned long long)costs->runs, (unsigned long long)costs->calls, (unsigned long long)costs->faults,
             (unsigned long long)costs->mapped, (unsigned long long)costs->unmapped);
+    if (bed->orders != NULL)
+        orders_print_costs(bed, seconds);
 }
 
 static const char usage[] =
@@ -125,6 +129,20 @@ static const char usage[] =
     "  --calls N        end the run after N kernel calls\n"
     "  --memory MIB     end the run if the bed has this many mebibytes in the host's memory\n"
     "\n"
+    "  --orders         run the programs in every order of their turns, and print each outcome with a schedule that leads to it\n"
+    "  --schedule FILE  take the turns of this schedule\n"
+    "With --orders:\n"
+    "  --never LINE     exit with status 1 if an outcome has this line; * stands for any text, as in the shell\n"
+    "  --always LINE    exit with status 1 if an outcome does not have this line\n"
+    "  --from-line TEXT take turns in a fixed order until a thread prints a line with TEXT, and search from there\n"
+    "  --switch-at-memory  let a turn also end at each access to a word of memory that threads share\n"
+    "  --all-turns      follow every turn, count the schedules, and look for threads that can wait for ever\n"
+    "  --page N         add what each space has at page N to each outcome\n"
+    "  --outcomes       print the outcomes without schedules\n"
+    "  --schedules DIR  write the schedule of outcome K to DIR/K.schedule\n"
+    "  --most N         visit at most N states (default 1000000)\n"
+    "  --depth N        follow at most N turns of an order\n"
+    "\n"
     "  --turn MS        interrupt a thread that runs for MS milliseconds, 1 to 1000, without a system call\n"
     "  --clock NAME     SystemClock and timeouts follow the clock of the host, or virtual time: what unicorn has executed (its default)\n"
     "  --gdb PORT       wait until gdb connects to this port of the machine itself (only with unicorn)\n"
@@ -139,7 +157,8 @@ static const char usage[] =
     "  5  deadlock: every thread waits, and nothing can end a wait\n"
     "  6  the bed stopped a thread, for example because of an exception that has no handler\n"
     "  7  an assertion of a program does not hold\n"
-    "  8  the run reached a limit\n"
+    "  8  the run, or the search of all orders, reached a limit\n"
+    "With --orders, the status is that of an outcome: the lowest one that is not 0. A broken rule has status 1, and a thread that can wait for ever 5.\n"
     "SIGINT, SIGTERM and SIGHUP end the run, and the bed exits by this signal.\n";
 
 struct options {
@@ -150,9 +169,11 @@ struct options {
     struct limits limits;
     uint32_t turn, gdb_port;
     const char *clock;
+    struct orders_options orders;
 };
 
-enum { ENGINE = 1, ENGINES, FRAMES, LINES, TRACE, SCRIPT, STEPS, COSTS, VERIFY, TIME, CALLS, MEMORY, TURN, CLOCK, GDB, HELP, VERSION };
+enum { ENGINE = 1, ENGINES, FRAMES, LINES, TRACE, SCRIPT, STEPS, COSTS, VERIFY, TIME, CALLS, MEMORY, TURN, CLOCK, GDB, HELP, VERSION, ORDERS,
+       SCHEDULE, NEVER, ALWAYS, FROM_LINE, SWITCH_AT_MEMORY, ALL_TURNS, PAGE, OUTCOMES, SCHEDULES, MOST, DEPTH };
 
 static const struct option long_options[] = {{"engine", required_argument, NULL, ENGINE}, {"engines", no_argument, NULL, ENGINES},
                                              {"frames", required_argument, NULL, FRAMES}, {"lines", no_argument, NULL, LINES},
@@ -162,6 +183,13 @@ static const struct option long_options[] = {{"engine", required_argument, NULL,
                                              {"calls", required_argument, NULL, CALLS},   {"memory", required_argument, NULL, MEMORY},
                                              {"turn", required_argument, NULL, TURN},     {"clock", required_argument, NULL, CLOCK},
                                              {"gdb", required_argument, NULL, GDB},
+                                             {"orders", no_argument, NULL, ORDERS},       {"schedule", required_argument, NULL, SCHEDULE},
+                                             {"never", required_argument, NULL, NEVER},   {"always", required_argument, NULL, ALWAYS},
+                                             {"from-line", required_argument, NULL, FROM_LINE},
+                                             {"switch-at-memory", no_argument, NULL, SWITCH_AT_MEMORY},
+                                             {"all-turns", no_argument, NULL, ALL_TURNS}, {"page", required_argument, NULL, PAGE},
+                                             {"outcomes", no_argument, NULL, OUTCOMES},   {"schedules", required_argument, NULL, SCHEDULES},
+                                             {"most", required_argument, NULL, MOST},     {"depth", required_argument, NULL, DEPTH},
                                              {"help", no_argument, NULL, HELP},           {"version", no_argument, NULL, VERSION},
                                              {NULL, 0, NULL, 0}};
 
@@ -185,6 +213,24 @@ static _Noreturn void print_and_end(const char *text) {
     exit(STATUS_ENDED);
 }
 
+static void read_orders_option(struct orders_options *orders, int option) {
+    switch (option) {
+    case ORDERS: orders->is_on = 1; break;
+    case SCHEDULE: orders->schedule = optarg; break;
+    case NEVER: orders_add_rule(orders, 0, optarg); break;
+    case ALWAYS: orders_add_rule(orders, 1, optarg); break;
+    case FROM_LINE: orders->from_line = optarg; break;
+    case SWITCH_AT_MEMORY: orders->switches_at_memory = 1; break;
+    case ALL_TURNS: orders->takes_all_turns = 1; break;
+    case PAGE: orders_add_page(orders, read_number("--page", optarg, L4_SPACE_PAGES - 1)); break;
+    case OUTCOMES: orders->hides_schedules = 1; break;
+    case SCHEDULES: orders->folder = optarg; break;
+    case MOST: orders->most_states = read_number("--most", optarg, MAX_LIMIT); break;
+    case DEPTH: orders->most_depth = read_number("--depth", optarg, MAX_LIMIT); break;
+    default: fputs(usage, stderr); exit(STATUS_INPUT);
+    }
+}
+
 static void read_option(struct options *options, int option) {
     switch (option) {
     case ENGINE: options->engine = optarg; break;
@@ -204,8 +250,21 @@ static void read_option(struct options *options, int option) {
     case CLOCK: options->clock = optarg; break;
     case HELP: print_and_end(usage);
     case VERSION: print_and_end("l4_bed " BED_VERSION "\n");
-    default: fputs(usage, stderr); exit(STATUS_INPUT);
+    default: read_orders_option(&options->orders, option);
     }
+}
+
+/* A search has no one run that these options could print. */
+static void check_orders(const struct options *options) {
+    const struct orders_options *orders = &options->orders;
+    if (orders->is_on && orders->schedule != NULL)
+        fail(STATUS_INPUT, "--orders searches all schedules, and --schedule takes one: use one of both");
+    if (orders_are_asked(orders) && options->gdb_port != 0)
+        fail(STATUS_INPUT, "--gdb cannot be used with --orders or --schedule");
+    if (orders->is_on && (options->prints_lines || options->script != NULL || options->steps != NULL || options->bed->traced_count > 0))
+        fail(STATUS_INPUT, "--lines, --trace, --script and --steps cannot be used with --orders; use them with --schedule");
+    if (!orders->is_on && (orders->rule_count > 0 || orders->from_line != NULL || orders->takes_all_turns || orders->folder != NULL))
+        fail(STATUS_INPUT, "--never, --always, --from-line, --all-turns and --schedules need --orders");
 }
 
 /* Without the option, an engine with virtual time has the virtual clock. */
@@ -235,6 +294,8 @@ static uint32_t begin(struct bed *bed, const struct options *options, int count,
     record_begin(bed);
     bed->turn = options->turn == 0 ? bed->kind->turn : options->turn;
     bed->engine = bed->kind->open(&bed->memory, bed->turn);
+    if (orders_are_asked(&options->orders))
+        orders_open(bed, &options->orders);
     kernel_begin_sigma0(bed);
     bed->has_gdb = options->gdb_port != 0;
     if (bed->has_gdb)
@@ -242,32 +303,48 @@ static uint32_t begin(struct bed *bed, const struct options *options, int count,
     return entry;
 }
 
+/* Runs the programs in one order or in all. Returns the exit status, or STATUS_OF_END. */
+static int run_programs(struct bed *bed, uint32_t entry) {
+    end_begin(bed);
+    begin_root(bed, entry);
+    if (bed->orders != NULL)
+        return orders_run(bed);
+    turns_run(bed);
+    end_report(bed);
+    return STATUS_OF_END;
+}
+
 static int run(int count, char **words) {
     static struct bed bed;
-    struct options options = {NULL, NULL, NULL, &bed, DEFAULT_FRAMES, 0, 0, 0, {0, 0, 0}, 0, 0, NULL};
-    int option;
+    static struct options options;
+    int option, status;
     uint32_t entry;
     double start;
+    options.bed = &bed;
+    options.frames = DEFAULT_FRAMES;
+    options.orders.most_states = DEFAULT_STATES;
+    options.orders.most_depth = UINT64_MAX;
     signals_begin(output_write);
     check_before_message(output_write);
     while ((option = getopt_long(count, words, "+", long_options, NULL)) != -1)
         read_option(&options, option);
     if (optind == count)
         fail(STATUS_INPUT, "no program is named (l4_bed --help explains the command line)");
+    check_orders(&options);
     entry = begin(&bed, &options, count - optind, words + optind);
     start = now();
-    end_begin(&bed);
-    begin_root(&bed, entry);
-    turns_run(&bed);
-    end_report(&bed);
+    status = run_programs(&bed, entry);
     record_end(&bed);
     output_end();
     trace_check(&bed);
     if (options.prints_costs)
         print_costs(&bed, now() - start);
+    orders_close(&bed);
     free_bed(&bed);
-    gdb_report_end(end_status(&bed));
-    return end_status(&bed);
+    if (status == STATUS_OF_END)
+        status = end_status(&bed);
+    gdb_report_end(status);
+    return status;
 }
 
 int main(int count, char **words) {

@@ -25,6 +25,16 @@ struct stream {
 
 static struct stream streams[OUTPUTS];
 
+static struct {
+    void (*take)(void *user, const char *line);
+    void *user;
+} taker;
+
+void output_take_lines(void (*take)(void *user, const char *line), void *user) {
+    taker.take = take;
+    taker.user = user;
+}
+
 void output_begin(void) {
     struct stream *standard = &streams[OUTPUT_STANDARD];
     standard->is_open = 1;
@@ -85,6 +95,12 @@ static void write_whole(struct stream *stream) {
 
 /* A terminal gets each line at once. */
 static void end_line(struct stream *stream) {
+    if (taker.take != NULL && stream == &streams[OUTPUT_STANDARD]) {
+        stream->length = stream->whole;
+        *strchr(stream->text + stream->whole, '\n') = 0;
+        taker.take(taker.user, stream->text + stream->whole);
+        return;
+    }
     stream->whole = stream->length;
     if (stream->is_terminal || stream->length > ROOM)
         write_whole(stream);

@@ -15,6 +15,9 @@ int output_is_open(enum output output);
 void output_print(enum output output, const char *format, ...) __attribute__((format(printf, 2, 3)));
 void print(const char *format, ...) __attribute__((format(printf, 1, 2)));
 
+/* From now on, a function gets each line of standard output without its newline, and it is not printed; NULL ends this. */
+void output_take_lines(void (*take)(void *user, const char *line), void *user);
+
 /* Writes the whole lines of all outputs. A signal's handler may call this too. */
 void output_write(void);
 

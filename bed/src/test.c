@@ -2,6 +2,7 @@
 #define _GNU_SOURCE
 #include "test.h"
 #include "check.h"
+#include "test_orders.h"
 #include <dirent.h>
 #include <errno.h>
 #include <fcntl.h>
@@ -17,9 +18,8 @@
 #define SUFFIX ".test"
 #define RUN "#! "
 #define STATUS "#! status "
-#define ANY_LINES "#= .."
 #define MAX_WORDS 1000
-#define TEXT_ROOM 3000
+#define TEXT_ROOM DIFFERENCE_ROOM
 
 /* A run that does not end is no endless test. */
 static char default_limit[] = "--time=60";
@@ -130,24 +130,33 @@ static char *take_expected(struct test *test) {
     return line;
 }
 
-static void execute(const struct test *test, int output) {
+/* Adds the options, or with a schedule those of its replay. */
+static void add_options(struct words *words, const struct words *options, char *schedule) {
+    int k;
+    for (k = 0; k < options->count; k++) {
+        if (schedule == NULL || !outcomes_are_of_option(options->list[k]))
+            add_word(words, options->list[k]);
+    }
+}
+
+static void execute(const struct test *test, int output, char *schedule) {
     static char name[] = "l4_bed";
     struct words words = {{NULL}, 0};
     int k;
     add_word(&words, name);
     add_word(&words, default_limit);
-    for (k = 0; k < test->options.count; k++)
-        add_word(&words, test->options.list[k]);
-    for (k = 0; k < tests.options.count; k++)
-        add_word(&words, tests.options.list[k]);
+    add_options(&words, &test->options, schedule);
+    add_options(&words, &tests.options, schedule);
+    if (schedule != NULL)
+        add_word(&words, schedule);
     for (k = 0; k < test->programs.count; k++)
         add_word(&words, test->programs.list[k]);
     check_system(dup2(output, STDOUT_FILENO), "dup2");
     exit(tests.run(words.count, words.list));
 }
 
-/* The run is in a process of its own, so that whatever happens ends only that process. */
-static void run_test(struct test *test) {
+/* The run is in a process of its own, so that whatever happens ends only that process. It is a replay if there is a schedule. */
+static void run_test(struct test *test, char *schedule) {
     int output = memfd_create("output", MFD_CLOEXEC), status;
     pid_t child;
     check_system(output, "memfd_create");
@@ -155,7 +164,7 @@ static void run_test(struct test *test) {
     child = fork();
     check_system(child, "fork");
     if (child == 0)
-        execute(test, output);
+        execute(test, output, schedule);
     check_system(waitpid(child, &status, 0), "waitpid");
     test->actual_status = WIFEXITED(status) ? WEXITSTATUS(status) : 128 + WTERMSIG(status);
     test->printed = read_text(output, "the output of a run");
@@ -200,9 +209,49 @@ static void print_result(const struct test *test, int has_passed, const char *te
     check_output();
 }
 
-/* Writes the first difference, or how many lines agree. Returns whether all agree. */
+static int has_orders(const struct words *options) {
+    int k = 0;
+    while (k < options->count && strcmp(options->list[k], "--orders") != 0)
+        k++;
+    return k < options->count;
+}
+
+/* Replays the schedule of each outcome in a process of its own. Returns whether each leads to its outcome. */
+static int replays_agree(struct test *test, const struct outcomes *found, char *difference) {
+    const struct test searched = *test;
+    int k, agree = 1;
+    for (k = 0; agree && k < found->count; k++) {
+        char *option = outcomes_schedule_option(&found->list[k]);
+        run_test(test, option);
+        agree = outcomes_is_replay(&found->list[k], test->printed.bytes, difference);
+        free(test->printed.bytes);
+        free(option);
+    }
+    *test = searched;
+    return agree;
+}
+
+/* The outcomes of a search are compared in any order. */
+static int outcomes_agree(struct test *test, char *wanted, char *difference) {
+    struct outcomes expected = {NULL, 0}, found = {NULL, 0};
+    char *line;
+    int agree;
+    for (line = wanted; line != NULL; line = take_expected(test))
+        outcomes_add_expected(&expected, line, test->expected.line);
+    for (line = take_line(&test->printed); line != NULL; line = take_line(&test->printed))
+        outcomes_add_printed(&found, line);
+    agree = outcomes_compare(&expected, &found, difference) && replays_agree(test, &found, difference);
+    if (agree)
+        snprintf(difference, TEXT_ROOM, "%d outcome%s, passed", found.count, found.count == 1 ? "" : "s");
+    outcomes_free(&expected);
+    outcomes_free(&found);
+    return agree;
+}
+
+/* Writes the first difference, or how much agrees. Returns whether all agrees. */
 static int compare(struct test *test, char *wanted, char *text) {
-    if (!agrees(test, wanted, text)) {
+    int is_search = has_orders(&test->options) || has_orders(&tests.options);
+    if (!(is_search ? outcomes_agree(test, wanted, text) : agrees(test, wanted, text))) {
         size_t length = strlen(text);
         if (test->actual_status != test->status)
             snprintf(text + length, TEXT_ROOM - length, "; expected status %d, found %d", test->status, test->actual_status);
@@ -212,7 +261,8 @@ static int compare(struct test *test, char *wanted, char *text) {
         snprintf(text, TEXT_ROOM, "expected status %d, found %d", test->status, test->actual_status);
         return 0;
     }
-    snprintf(text, TEXT_ROOM, "%u line%s, passed", test->printed.line, test->printed.line == 1 ? "" : "s");
+    if (!is_search)
+        snprintf(text, TEXT_ROOM, "%u line%s, passed", test->printed.line, test->printed.line == 1 ? "" : "s");
     return 1;
 }
 
@@ -225,7 +275,7 @@ static void take_test(const char *name) {
     wanted = take_expected(test);
     if (test->programs.count == 0)
         fail(STATUS_INPUT, "%s: no line `#! [OPTION..] PROGRAM..` names a program above the expected lines", name);
-    run_test(test);
+    run_test(test, NULL);
     print_result(test, compare(test, wanted, text), text);
     for (k = 0; k < test->programs.count; k++)
         free(test->programs.list[k]);

@@ -189,6 +189,7 @@ static void raise_exception(struct bed *bed, struct thread *thread, uint32_t num
     l4_call call = kernel_call(L4_IPC);
     uint32_t words[1 + EXCEPTION_WORDS] = {EXCEPTION_TAG}, *places[EXCEPTION_WORDS];
     size_t k;
+    bed->entries++;
     call.to = call.from = thread->utcb_words[TCR_EXCEPTION_HANDLER];
     if (call.to == L4_NILTHREAD) {
         stop_by_exception(bed, thread, number);
@@ -225,6 +226,7 @@ static void end_exception(struct bed *bed, struct thread *thread, const l4_reply
 void thread_fault(struct bed *bed, struct thread *thread, uint32_t address, uint32_t access) {
     l4_call call = kernel_call(L4_FAULT);
     uint32_t none = 0;
+    bed->entries++;
     call.address = thread->fault_address = address;
     call.access = thread->fault_access = access;
     call.ip = thread->registers.eip;
@@ -374,9 +376,20 @@ static int run(struct bed *bed, struct thread *thread) {
     case STOP_BY_EXCEPTION: raise_exception(bed, thread, stopped.number); return 1;
     case STOP_BY_HOST: stop(bed, thread, "the host has refused a page of its space"); return 0;
     case STOP_BY_BUDGET: thread->is_interrupted = 1; return 0;
+    case STOP_BY_ACCESS:
     case STOP_BY_BREAK: return 0;
     }
     return 0;
+}
+
+void thread_enter_once(struct bed *bed, struct thread *thread) {
+    uint64_t before = bed->entries;
+    uint32_t runs;
+    int goes_on = 1;
+    for (runs = 0; goes_on && runs < RUNS_OF_TURN && bed->end == NOT_ENDED && bed->entries == before && thread->state == READY; runs++)
+        goes_on = run(bed, thread);
+    if (bed->verifies)
+        change_verify(bed);
 }
 
 int thread_turn(struct bed *bed, struct thread *thread) {

@@ -61,6 +61,7 @@ void turns_run(struct bed *bed) {
 }
 
 void turns_set_priority(struct bed *bed, struct thread *thread, uint32_t priority) {
+    orders_note_priority(bed);
     bed->threads_of[thread->priority]--;
     thread->priority = priority;
     bed->threads_of[priority]++;

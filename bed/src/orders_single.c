@@ -1,0 +1,181 @@
+/* Turns that need not be compared with others.
+ *
+ * In a state, the search has to follow the turn of each thread that is ready. It follows one turn alone if no other turn can notice when this one
+ * is taken. That is so for an Ipc that receives without a timeout, and sends nothing, or sends to a thread that waits for this sender alone.
+ *
+ * Let T be the thread of this turn t, and let other threads take any turns u1 .. un first. Then t can still be taken, and t u1 .. un leads to the
+ * same state as u1 .. un t:
+ *
+ * - T is ready until its own turn. No other turn changes its registers or its memory, so its instructions do the same.
+ * - If t sends to R, R waits for T alone until then: no other message reaches R, and R's wait has no timeout. So t delivers the same message.
+ * - If t receives, it takes the first sender in the queue that it accepts, or waits for one. The queue keeps the order of the senders to T, whether
+ *   they send before t or after it. So T gets the same message. A sender whose message T takes continues later or earlier; it takes no turn of its own
+ *   among u1 .. un in the second case, and its turns after that are turns of the search behind t.
+ *
+ * This fails if a turn among u1 .. un can notice t, or t can notice it:
+ *
+ * - It sends to T with a timeout of zero: this fails before t. But if T has called the sender in one Ipc, T receives since the sender has the message.
+ * - It changes pages of T's space without T's doing, or deletes or changes a thread that t touches, or creates one that t names.
+ * - It accesses a word of memory that t accesses too, and one of both writes it.
+ * - It ends the run, and t prints.
+ * - It sets a priority. Then who can take a turn depends on what other threads do.
+ *
+ * Whether there are such turns is not known before. So each is noted when the search sees it, and the search begins again without following
+ * the noted turn alone. If none is new, then no turn that the search has followed alone can be noticed. (If a turn among u1 .. un were the first that
+ * notices t, the search would have followed it behind t, and would have noted it there.) */
+#include "states.h"
+#include <stdlib.h>
+
+static int has_site(const struct races *races, const struct site *site) {
+    uint32_t k;
+    for (k = 0; k < races->count; k++) {
+        if (races->list[k].thread == site->thread && (races->list[k].address == site->address || races->list[k].address == 0))
+            return 1;
+    }
+    return 0;
+}
+
+static void add_site(struct races *races, uint32_t thread, uint32_t address) {
+    struct site site = {thread, address};
+    if (has_site(races, &site))
+        return;
+    if (races->count == races->room) {
+        races->room = races->room * 2 + 64;
+        races->list = parts_need(realloc(races->list, races->room * sizeof *races->list));
+    }
+    races->list[races->count++] = site;
+    races->are_new = 1;
+}
+
+static int is_controlled(const struct races *races, uint32_t number) {
+    uint32_t k;
+    for (k = 0; k < races->controlled_count; k++) {
+        if (races->controlled[k] == number)
+            return 1;
+    }
+    return 0;
+}
+
+/* A thread that has no pager yet has taken no turn. */
+void single_note_controlled(struct orders *orders, const struct thread *thread) {
+    struct races *races = &orders->races;
+    if (thread == NULL || thread->state == INACTIVE || is_controlled(races, thread->number))
+        return;
+    if (races->controlled_count == MAX_SPEAKERS)
+        races->of_priorities = 1; /* no turn is followed alone any more */
+    else
+        races->controlled[races->controlled_count++] = thread->number;
+    races->are_new = 1;
+}
+
+void single_touch(struct orders *orders, uint32_t number) {
+    const struct thread *thread = thread_numbered(orders->bed, number);
+    if (number == SIGMA0)
+        orders->turn.has_sigma0 = 1;
+    if (thread != NULL)
+        orders->turn.touched |= UINT64_C(1) << slot_of(orders->bed, thread);
+}
+
+/* Returns whether no other turn can create the thread with this id. */
+static int is_active(struct bed *bed, uint32_t id) {
+    const struct thread *thread = thread_find(bed, id);
+    return id == L4_NILTHREAD || id == L4_ANYTHREAD || (thread != NULL && thread->state != INACTIVE);
+}
+
+/* Returns the address behind the call of a thread that is in an entry of the kernel interface page. */
+static uint32_t call_site(struct bed *bed, const struct thread *thread) {
+    uint32_t address = 0, k;
+    for (k = 0; k < sizeof address; k++) {
+        const unsigned char *byte = space_byte(bed, thread->space, thread->registers.esp + k);
+        if (byte != NULL)
+            address |= (uint32_t)*byte << 8 * k;
+    }
+    return address;
+}
+
+/* A send with a timeout of zero succeeds, or would have succeeded, because its receiver waits already. */
+static void note_zero_send(struct orders *orders, uint32_t sender, const l4_call *call, const l4_state *to) {
+    struct bed *bed = orders->bed;
+    const struct thread *receiver = thread_find(bed, call->to), *from = thread_numbered(bed, sender);
+    uint32_t called;
+    if (receiver == NULL || from == NULL || to->state != L4_STATE_RECEIVING)
+        return;
+    called = orders->extras[slot_of(bed, receiver)].to;
+    if (called == from->id)
+        return;
+    add_site(&orders->races, receiver->number, call_site(bed, receiver));
+    if (called != L4_NILTHREAD) /* the receiver waits since a turn of that thread has taken its message */
+        add_site(&orders->races, NUMBER(called), 0);
+}
+
+static void note_ipc(struct orders *orders, uint32_t caller, const l4_call *call) {
+    struct bed *bed = orders->bed;
+    const struct thread *thread = thread_numbered(bed, caller);
+    l4_state to = l4_state_of(&bed->kernel, NUMBER(call->to));
+    int sends = call->to != L4_NILTHREAD, receives = call->from != L4_NILTHREAD;
+    single_touch(orders, NUMBER(call->to));
+    if (call->from != L4_ANYTHREAD)
+        single_touch(orders, NUMBER(call->from));
+    if (sends && call->timeouts >> 16 != 0)
+        note_zero_send(orders, caller, call, &to);
+    if (thread == NULL || thread != orders->turn.running)
+        return;
+    orders->turn.site.thread = caller;
+    orders->turn.site.address = call_site(bed, thread);
+    orders->turn.can_be_single = is_active(bed, call->to) && is_active(bed, call->from) && (sends || receives)
+        && (!receives || (call->timeouts & 0xffff) == 0)
+        && (!sends || (to.state == L4_STATE_RECEIVING && !to.expires && to.id == call->to && to.partner == thread->id));
+}
+
+void single_note_call(struct orders *orders, uint32_t caller, const l4_call *call) {
+    orders->turn.calls++;
+    orders->turn.can_be_single = 0;
+    single_touch(orders, caller);
+    if (call->kind == L4_IPC)
+        note_ipc(orders, caller, call);
+    else if (call->kind == L4_FAULT)
+        single_touch(orders, NUMBER(l4_state_of(&orders->bed->kernel, caller).pager));
+    else if (call->kind != L4_UNMAP)
+        single_note_controlled(orders, thread_numbered(orders->bed, NUMBER(call->id)));
+}
+
+/* Notes the threads whose pages the turn has changed without their doing. */
+static void note_changed_pages(struct orders *orders, const struct thread *running) {
+    const struct bed *bed = orders->bed;
+    uint32_t k;
+    for (k = 0; k < L4_MAX_THREADS; k++) {
+        const struct thread *thread = &bed->threads[k];
+        int has_received = (orders->turn.waited >> k & 1) && thread->state == READY;
+        if (thread->state != ABSENT && thread != running && !has_received && thread->space->has_changed)
+            add_site(&orders->races, thread->number, 0);
+    }
+}
+
+void single_note_end(struct orders *orders, const struct thread *running) {
+    struct races *races = &orders->races;
+    if (orders->bed->end != NOT_ENDED) {
+        races->are_new |= !races->of_prints;
+        races->of_prints = 1;
+    }
+    note_changed_pages(orders, running);
+}
+
+/* Returns whether the turn has touched a thread that is deleted or changed at some time. */
+static int touches_controlled(const struct orders *orders) {
+    uint32_t k;
+    for (k = 0; k < L4_MAX_THREADS; k++) {
+        if (orders->turn.touched >> k & 1 && is_controlled(&orders->races, orders->bed->threads[k].number))
+            return 1;
+    }
+    return 0;
+}
+
+int single_is_turn(const struct orders *orders) {
+    const struct turn *turn = &orders->turn;
+    const struct races *races = &orders->races;
+    if (turn->calls != 1 || !turn->can_be_single || turn->has_shared || turn->has_sigma0 || orders->bed->end != NOT_ENDED)
+        return 0;
+    if (races->of_priorities || (turn->has_printed && races->of_prints))
+        return 0;
+    return !touches_controlled(orders) && !has_site(races, &turn->site);
+}
