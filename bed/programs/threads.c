@@ -33,12 +33,12 @@ static void say(const char *what, L4_MsgTag_t tag) {
 
 static void begin_second(void) {
     demand(L4_ThreadControl(SECOND, L4_Myself(), L4_Myself(), L4_Myself(), L4_Utcb() + 128), "root: the second thread cannot be created");
+    /* it waits for the message of root, its pager so far, that starts it; but root will wait for it, and so cannot answer its page faults */
+    demand(L4_ThreadControl(SECOND, SECOND, L4_nilthread, L4_Pager(), (void *)0xffffffffu), "root: the second thread gets no pager");
     L4_Set_MsgTag(L4_MsgTagOfWord(2));
     L4_LoadMR(1, (L4_Word_t)second);
     L4_LoadMR(2, (L4_Word_t)(stack + 1024));
     L4_Send(SECOND);
-    /* root, its pager so far, has started it; before it runs, it gets a pager that answers page faults */
-    demand(L4_ThreadControl(SECOND, SECOND, L4_nilthread, L4_Pager(), (void *)0xffffffffu), "root: the second thread gets no pager");
 }
 
 int main(void) {

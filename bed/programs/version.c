@@ -18,7 +18,7 @@ int main(void) {
     tag = L4_Wait(&from);
     while (has_faulted(&from, &tag))
         continue;
-    L4_Yield(); /* the child waits for a message */
+    /* the child waits for an answer: it sends and receives in one Ipc */
     demand(L4_ThreadControl(after, after, L4_nilthread, L4_nilthread, (void *)0xffffffffu), "root: the version cannot be changed");
     L4_Set_MsgTag(L4_Niltag);
     L4_Send_Timeout(before, L4_ZeroTime);
