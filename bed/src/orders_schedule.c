@@ -32,7 +32,8 @@ static uint32_t turns_in_row(const uint32_t *turns, uint32_t count) {
 void schedule_append(const struct orders *orders, struct text *text, uint32_t node) {
     uint32_t count = orders->prefix_count + orders->nodes[node].depth, k, row;
     uint32_t *turns = parts_need(malloc((count + 1) * sizeof *turns));
-    memcpy(turns, orders->prefix, orders->prefix_count * sizeof *turns);
+    for (k = 0; k < orders->prefix_count; k++)
+        turns[k] = orders->prefix[k];
     for (k = count; k > orders->prefix_count; node = orders->nodes[node].parent)
         turns[--k] = orders->nodes[node].by;
     for (k = 0; k < count; k += row) {

@@ -223,7 +223,7 @@ static void begin_round(struct orders *orders) {
 void search_all(struct orders *orders) {
     memory_forget(orders);
     orders->is_switching = 1;
-    memset(&orders->races, 0, sizeof orders->races);
+    single_forget(orders);
     keep_first_state(orders);
     check_library(l4_copy(&orders->bed->kernel, &orders->first_kernel), "l4_copy");
     do {
@@ -241,5 +241,5 @@ void search_free(struct orders *orders) {
     free(orders->outcomes);
     free(orders->buffer);
     free(orders->kernel_words);
-    free(orders->races.list);
+    single_forget(orders);
 }

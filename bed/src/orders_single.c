@@ -25,6 +25,12 @@
  * notices t, the search would have followed it behind t, and would have noted it there.) */
 #include "states.h"
 #include <stdlib.h>
+#include <string.h>
+
+void single_forget(struct orders *orders) {
+    free(orders->races.list);
+    memset(&orders->races, 0, sizeof orders->races);
+}
 
 static int has_site(const struct races *races, const struct site *site) {
     uint32_t k;

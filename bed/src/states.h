@@ -175,6 +175,8 @@ static inline uint32_t slot_of(const struct bed *bed, const struct thread *threa
 
 /* orders_notes.c, and orders_single.c: turns that need not be compared with others. */
 int single_is_turn(const struct orders *orders);
+/* What was noted so far does not count. */
+void single_forget(struct orders *orders);
 void single_note_call(struct orders *orders, uint32_t caller, const l4_call *call);
 void single_note_controlled(struct orders *orders, const struct thread *thread);
 /* To be called when the turn has ended. */
