@@ -132,7 +132,7 @@ static const char usage[] =
     "  --orders         run the programs in every order of their turns, and print each outcome with a schedule that leads to it\n"
     "  --schedule FILE  take the turns of this schedule\n"
     "With --orders:\n"
-    "  --never LINE     exit with status 1 if an outcome has this line; * stands for any text, as in the shell\n"
+    "  --never LINE     exit with status 1 if an outcome has this line; * matches any text, as in the shell\n"
     "  --always LINE    exit with status 1 if an outcome does not have this line\n"
     "  --from-line TEXT take turns in a fixed order until a thread prints a line with TEXT, and search from there\n"
     "  --switch-at-memory  let a turn also end at each access to a word of memory that threads share\n"
