@@ -327,7 +327,7 @@ void orders_note_call(struct bed *bed, uint32_t thread, const l4_call *call);
 void orders_note_step(struct bed *bed, const l4_step *step);
 /* sigma0 has given the pages of this answer to a space. */
 void orders_note_owner(struct bed *bed, uint64_t space, const l4_message *message);
-/* ExchangeRegisters changes a thread. */
+/* ExchangeRegisters or Schedule changes a thread, or returns what it does. NULL is no thread. */
 void orders_note_change(struct bed *bed, const struct thread *thread);
 /* Schedule sets a priority. */
 void orders_note_priority(struct bed *bed);

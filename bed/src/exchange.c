@@ -95,7 +95,6 @@ static uint32_t exchange(struct bed *bed, struct thread *thread, struct thread *
     if (error != 0)
         return error;
     return_values(&thread->registers, &old);
-    orders_note_change(bed, dest);
     set_registers(dest, &given);
     return 0;
 }
@@ -104,6 +103,7 @@ void exchange_take(struct bed *bed, struct thread *thread) {
     struct registers *registers = &thread->registers;
     struct thread *dest = thread_find(bed, call_global_id(bed, thread, registers->eax));
     uint32_t error;
+    orders_note_change(bed, dest);
     print_line(bed, "%u calls exchange registers %08x %08x", thread->number, registers->eax, registers->ecx);
     if (dest != NULL && trace_is_on(bed, thread->number))
         print("%u calls ExchangeRegisters: thread %u, control %03x\n", thread->number, dest->number, registers->ecx);

@@ -134,6 +134,7 @@ static int follow(struct orders *orders, uint32_t number, uint32_t slot, int is_
     }
     is_single = !orders->options->takes_all_turns && single_is_turn(orders);
     to = take_node(orders, number, by);
+    is_single = is_single && !orders->nodes[to].is_expanded;
     if (is_single) {
         orders->edge_count -= orders->nodes[number].edge_count;
         orders->nodes[number].edge_count = 0;

@@ -1,28 +1,39 @@
-/* Turns that need not be compared with others.
+/* Turns that are followed alone.
  *
- * In a state, the search has to follow the turn of each thread that is ready. It follows one turn alone if no other turn can notice when this one
- * is taken. That is so for an Ipc that receives without a timeout, and sends nothing, or sends to a thread that waits for this sender alone.
+ * In a state, the search has to follow the turn of each thread that is ready. It follows the turn t of a thread T alone if t is an Ipc that receives
+ * without a timeout, and sends nothing, or sends to a thread R that waits for T alone, and if no other turn can notice when t is taken. (In the
+ * words of the field, {t} is a persistent set.) The outcomes are the same, for the following reason.
  *
- * Let T be the thread of this turn t, and let other threads take any turns u1 .. un first. Then t can still be taken, and t u1 .. un leads to the
- * same state as u1 .. un t:
+ * Let other threads take any turns u1 .. un first. Then t can still be taken, unless un ends the run, and t u1 .. un leads to the same state as u1
+ * .. un t:
  *
  * - T is ready until its own turn. No other turn changes its registers or its memory, so its instructions do the same.
- * - If t sends to R, R waits for T alone until then: no other message reaches R, and R's wait has no timeout. So t delivers the same message.
- * - If t receives, it takes the first sender in the queue that it accepts, or waits for one. The queue keeps the order of the senders to T, whether
- *   they send before t or after it. So T gets the same message. A sender whose message T takes continues later or earlier; it takes no turn of its own
- *   among u1 .. un in the second case, and its turns after that are turns of the search behind t.
+ * - If t sends, R waits for T alone until then: no other message reaches R, and its wait has no timeout. So t delivers the same message.
+ * - If t receives, T gets the message of the first sender in the queue that it accepts, or waits for one. The queue keeps the order of the senders
+ *   to T, whether they send before t or after it. So T gets the same message. Its sender continues when both have taken their turns.
  *
- * This fails if a turn among u1 .. un can notice t, or t can notice it:
+ * So an order of turns that leads to an outcome can be changed into one that begins with t, by moving t to the front. If t is not in it, some turn
+ * ends the run before T's; then t can be put in front, and the lines are the same if t prints nothing.
  *
- * - It sends to T with a timeout of zero: this fails before t. But if T has called the sender in one Ipc, T receives since the sender has the message.
- * - It changes pages of T's space without T's doing, or deletes or changes a thread that t touches, or creates one that t names.
+ * That fails if a turn among u1 .. un notices t, or the other way round:
+ *
+ * - It sends with a timeout of zero to T, or to the thread whose message T takes: this can fail before t and succeed behind it. But if T has called
+ *   the sender in one Ipc, T receives for as long as the sender has its message.
+ * - It changes pages of the space of T or R without the doing of that thread.
+ * - It deletes or changes a thread that t touches, or returns what such a thread does (Schedule, ExchangeRegisters), or it creates a thread that t
+ *   names.
  * - It accesses a word of memory that t accesses too, and one of both writes it.
- * - It ends the run, and t prints.
- * - It sets a priority. Then who can take a turn depends on what other threads do.
+ * - It ends the run, and t has printed, or outcomes show pages.
+ * - It sets a priority: then who can take a turn depends on what other threads do.
  *
- * Whether there are such turns is not known before. So each is noted when the search sees it, and the search begins again without following
- * the noted turn alone. If none is new, then no turn that the search has followed alone can be noticed. (If a turn among u1 .. un were the first that
- * notices t, the search would have followed it behind t, and would have noted it there.) */
+ * Whether there are such turns is not known before. So each is noted when the search sees it (races), and the search begins again without following
+ * the turns alone that it can notice. Let no turn be new in the last search. Suppose that u1 .. un is a shortest such list behind a state in which t
+ * was followed alone, in which un notices t. Before un, t can be moved to the front, so u1 .. un can be taken behind t. The search follows u1 there,
+ * or another turn alone that does not notice u1 .. un-1 and can be moved before them. It goes on so until it has followed un, with T as t has left
+ * it; and it would have noted un then.
+ *
+ * A turn is not followed alone if it leads to a state whose turns were followed before. So each cycle of states has one in which all turns are
+ * followed, and no turn is left out for ever. */
 #include "states.h"
 #include <stdlib.h>
 #include <string.h>
@@ -62,7 +73,7 @@ static int is_controlled(const struct races *races, uint32_t number) {
     return 0;
 }
 
-/* A thread that has no pager yet has taken no turn. */
+/* Notes a thread that others delete, change or look at. One that has no pager yet has taken no turn. */
 void single_note_controlled(struct orders *orders, const struct thread *thread) {
     struct races *races = &orders->races;
     if (thread == NULL || thread->state == INACTIVE || is_controlled(races, thread->number))
@@ -159,18 +170,20 @@ static void note_changed_pages(struct orders *orders, const struct thread *runni
 
 void single_note_end(struct orders *orders, const struct thread *running) {
     struct races *races = &orders->races;
+    orders->turn.has_printed |= running->text_length > 0;
     if (orders->bed->end != NOT_ENDED) {
-        races->are_new |= !races->of_prints;
-        races->of_prints = 1;
+        races->are_new |= !races->of_ends;
+        races->of_ends = 1;
     }
     note_changed_pages(orders, running);
 }
 
-/* Returns whether the turn has touched a thread that is deleted or changed at some time. */
-static int touches_controlled(const struct orders *orders) {
+/* Returns whether the turn has touched a thread that is deleted or changed at some time, or whose pages are. */
+static int touches_noted(const struct orders *orders) {
     uint32_t k;
     for (k = 0; k < L4_MAX_THREADS; k++) {
-        if (orders->turn.touched >> k & 1 && is_controlled(&orders->races, orders->bed->threads[k].number))
+        struct site all = {orders->bed->threads[k].number, 0};
+        if (orders->turn.touched >> k & 1 && (is_controlled(&orders->races, all.thread) || has_site(&orders->races, &all)))
             return 1;
     }
     return 0;
@@ -181,7 +194,7 @@ int single_is_turn(const struct orders *orders) {
     const struct races *races = &orders->races;
     if (turn->calls != 1 || !turn->can_be_single || turn->has_shared || turn->has_sigma0 || orders->bed->end != NOT_ENDED)
         return 0;
-    if (races->of_priorities || (turn->has_printed && races->of_prints))
+    if (races->of_priorities || (races->of_ends && (turn->has_printed || orders->options->page_count > 0)))
         return 0;
-    return !touches_controlled(orders) && !has_site(races, &turn->site);
+    return !touches_noted(orders) && !has_site(races, &turn->site);
 }

@@ -109,8 +109,8 @@ struct words {
 struct races {
     struct site *list;
     uint32_t count, room;
-    uint32_t controlled[MAX_SPEAKERS], controlled_count; /* threads that others delete or change while they are active */
-    int of_prints, of_priorities;
+    uint32_t controlled[MAX_SPEAKERS], controlled_count; /* threads that others delete, change or look at while they are active */
+    int of_ends, of_priorities;
     int are_new; /* there are more of them than when the search began */
 };
 

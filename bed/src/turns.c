@@ -113,6 +113,7 @@ void turns_schedule(struct bed *bed, struct thread *thread) {
     struct registers *registers = &thread->registers;
     struct thread *dest = thread_find(bed, call_global_id(bed, thread, registers->eax));
     uint32_t error = INVALID_PARAMETER, left = dest == NULL ? 0 : slice_left(bed, dest);
+    orders_note_change(bed, dest);
     if (dest != NULL && trace_is_on(bed, thread->number))
         print("%u calls Schedule: thread %u, priority %d, time %08x\n", thread->number, dest->number, (int)registers->ecx, registers->edx);
     print_line(bed, "%u calls schedule %08x priority %08x time %08x", thread->number, registers->eax, registers->ecx, registers->edx);
