@@ -137,6 +137,9 @@ static const char usage[] =
     "  --from-line TEXT take turns in a fixed order until a thread prints a line with TEXT, and search from there\n"
     "  --switch-at-memory  let a turn also end at each access to a word of memory that threads share\n"
     "  --all-turns      follow every turn, count the schedules, and look for threads that can wait for ever\n"
+    "  --certificate FILE  with --all-turns: write all states to a file\n"
+    "  --check-orders FILE  instead of --orders: check that each turn from each state of this file leads to one of them, and print the outcomes\n"
+    "  --part K/N       with --check-orders: check only the Kth of N parts of the states\n"
     "  --page N         add what each space has at page N to each outcome\n"
     "  --outcomes       print the outcomes without schedules\n"
     "  --schedules DIR  write the schedule of outcome K to DIR/K.schedule\n"
@@ -173,7 +176,7 @@ struct options {
 };
 
 enum { ENGINE = 1, ENGINES, FRAMES, LINES, TRACE, SCRIPT, STEPS, COSTS, VERIFY, TIME, CALLS, MEMORY, TURN, CLOCK, GDB, HELP, VERSION, ORDERS,
-       SCHEDULE, NEVER, ALWAYS, FROM_LINE, SWITCH_AT_MEMORY, ALL_TURNS, PAGE, OUTCOMES, SCHEDULES, MOST, DEPTH };
+       SCHEDULE, NEVER, ALWAYS, FROM_LINE, SWITCH_AT_MEMORY, ALL_TURNS, CERTIFICATE, CHECK_ORDERS, PART, PAGE, OUTCOMES, SCHEDULES, MOST, DEPTH };
 
 static const struct option long_options[] = {{"engine", required_argument, NULL, ENGINE}, {"engines", no_argument, NULL, ENGINES},
                                              {"frames", required_argument, NULL, FRAMES}, {"lines", no_argument, NULL, LINES},
@@ -189,6 +192,8 @@ static const struct option long_options[] = {{"engine", required_argument, NULL,
                                              {"switch-at-memory", no_argument, NULL, SWITCH_AT_MEMORY},
                                              {"all-turns", no_argument, NULL, ALL_TURNS}, {"page", required_argument, NULL, PAGE},
                                              {"outcomes", no_argument, NULL, OUTCOMES},   {"schedules", required_argument, NULL, SCHEDULES},
+                                             {"certificate", required_argument, NULL, CERTIFICATE},
+                                             {"check-orders", required_argument, NULL, CHECK_ORDERS}, {"part", required_argument, NULL, PART},
                                              {"most", required_argument, NULL, MOST},     {"depth", required_argument, NULL, DEPTH},
                                              {"help", no_argument, NULL, HELP},           {"version", no_argument, NULL, VERSION},
                                              {NULL, 0, NULL, 0}};
@@ -222,6 +227,9 @@ static void read_orders_option(struct orders_options *orders, int option) {
     case FROM_LINE: orders->from_line = optarg; break;
     case SWITCH_AT_MEMORY: orders->switches_at_memory = 1; break;
     case ALL_TURNS: orders->takes_all_turns = 1; break;
+    case CERTIFICATE: orders->certificate = optarg; break;
+    case CHECK_ORDERS: orders->check = optarg; orders->hides_schedules = 1; break;
+    case PART: orders_set_part(orders, optarg); break;
     case PAGE: orders_add_page(orders, read_number("--page", optarg, L4_SPACE_PAGES - 1)); break;
     case OUTCOMES: orders->hides_schedules = 1; break;
     case SCHEDULES: orders->folder = optarg; break;
@@ -257,14 +265,18 @@ static void read_option(struct options *options, int option) {
 /* A search has no one run that these options could print. */
 static void check_orders(const struct options *options) {
     const struct orders_options *orders = &options->orders;
-    if (orders->is_on && orders->schedule != NULL)
-        fail(STATUS_INPUT, "--orders searches all schedules, and --schedule takes one: use one of both");
+    if (orders->is_on + (orders->schedule != NULL) + (orders->check != NULL) > 1)
+        fail(STATUS_INPUT, "--orders, --schedule and --check-orders cannot be used together");
     if (orders_are_asked(orders) && options->gdb_port != 0)
-        fail(STATUS_INPUT, "--gdb cannot be used with --orders or --schedule");
-    if (orders->is_on && (options->prints_lines || options->script != NULL || options->steps != NULL || options->bed->traced_count > 0))
+        fail(STATUS_INPUT, "--gdb cannot be used with --orders, --schedule or --check-orders");
+    if (orders->certificate != NULL && !orders->takes_all_turns)
+        fail(STATUS_INPUT, "--certificate needs --all-turns");
+    if ((orders->is_on || orders->check != NULL) && (options->prints_lines || options->script != NULL || options->steps != NULL || options->bed->traced_count > 0))
         fail(STATUS_INPUT, "--lines, --trace, --script and --steps cannot be used with --orders; use them with --schedule");
-    if (!orders->is_on && (orders->rule_count > 0 || orders->from_line != NULL || orders->takes_all_turns || orders->folder != NULL))
-        fail(STATUS_INPUT, "--never, --always, --from-line, --all-turns and --schedules need --orders");
+    if (!orders->is_on && orders->check == NULL && orders->rule_count > 0)
+        fail(STATUS_INPUT, "--never and --always need --orders or --check-orders");
+    if (!orders->is_on && (orders->from_line != NULL || orders->takes_all_turns || orders->folder != NULL))
+        fail(STATUS_INPUT, "--from-line, --all-turns and --schedules need --orders");
 }
 
 /* Without the option, an engine with virtual time has the virtual clock. */
@@ -324,6 +336,7 @@ static int run(int count, char **words) {
     options.frames = DEFAULT_FRAMES;
     options.orders.most_states = DEFAULT_STATES;
     options.orders.most_depth = UINT64_MAX;
+    options.orders.part = options.orders.part_count = 1;
     signals_begin(output_write);
     check_before_message(output_write);
     while ((option = getopt_long(count, words, "+", long_options, NULL)) != -1)

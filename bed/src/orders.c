@@ -17,8 +17,14 @@ void orders_add_page(struct orders_options *options, uint32_t page) {
     options->pages[options->page_count++] = page;
 }
 
+void orders_set_part(struct orders_options *options, const char *text) {
+    char end;
+    if (sscanf(text, "%u/%u%c", &options->part, &options->part_count, &end) != 2 || options->part == 0 || options->part > options->part_count)
+        fail(STATUS_INPUT, "--part: %s is not K/N with K in 1..=N", text);
+}
+
 int orders_are_asked(const struct orders_options *options) {
-    return options->is_on || options->schedule != NULL;
+    return options->is_on || options->schedule != NULL || options->check != NULL;
 }
 
 void orders_open(struct bed *bed, const struct orders_options *options) {
@@ -70,7 +76,8 @@ static void print_end(struct orders *orders) {
 static int replay(struct orders *orders) {
     struct bed *bed = orders->bed;
     uint32_t k;
-    schedule_replay(orders, orders->options->schedule);
+    schedule_read(orders, orders->options->schedule);
+    schedule_take(orders);
     for (k = 0; k < L4_MAX_THREADS; k++)
         text_end_begun(&bed->threads[k]);
     if (turn_was_interrupted(bed)) {
@@ -86,7 +93,15 @@ static int replay(struct orders *orders) {
     return outcome_status(bed);
 }
 
+/* Prints the outcomes of a certificate's states, without schedules. */
+static int check(struct orders *orders) {
+    certificate_check(orders);
+    return report_print(orders);
+}
+
 int orders_run(struct bed *bed) {
+    if (bed->orders->options->check != NULL)
+        return check(bed->orders);
     return bed->orders->is_replay ? replay(bed->orders) : search(bed->orders);
 }
 

@@ -16,12 +16,16 @@ struct orders_options {
     int is_on, switches_at_memory, takes_all_turns, hides_schedules;
     uint64_t most_states, most_depth;
     const char *from_line, *schedule, *folder;
+    const char *certificate, *check; /* the file to write, or to check; and which of several equal parts of its states */
+    uint32_t part, part_count;
     struct rule rules[MAX_RULES];
     uint32_t rule_count;
     uint32_t pages[MAX_SHOWN_PAGES], page_count; /* outcomes have what each space has at these pages */
 };
 
 void orders_add_rule(struct orders_options *options, int is_always, const char *line);
+/* Reads a part of a check: K/N. */
+void orders_set_part(struct orders_options *options, const char *text);
 void orders_add_page(struct orders_options *options, uint32_t page);
 /* Whether the bed is to search or to replay. */
 int orders_are_asked(const struct orders_options *options);

@@ -297,17 +297,28 @@ uint32_t keep_state(struct orders *orders) {
     return parts_number(&orders->parts, list, list_of(orders, list) * sizeof *list);
 }
 
-void keep_first_state(struct orders *orders) {
+/* The kernel interface page has the address of the running thread's UTCB, and so differs all the time. */
+void keep_forget(struct orders *orders) {
     struct bed *bed = orders->bed;
     uint32_t k;
-    memset(&orders->now, 0xff, sizeof orders->now);
+    memset(&orders->now.heading, 0xff, sizeof orders->now.heading);
+    memset(&orders->now.threads, 0xff, sizeof orders->now.threads);
+    memset(&orders->now.spaces, 0xff, sizeof orders->now.spaces);
+    memset(&orders->now.pages, 0xff, sizeof orders->now.pages);
     orders->now.heading[THREAD_COUNT] = orders->now.heading[SPACE_COUNT] = 0;
-    for (k = 0; k < bed->memory.frames; k++)
-        keep_frame(orders, k);
+    for (k = 0; k < bed->memory.frames; k++) {
+        if (k != bed->frames)
+            keep_frame(orders, k);
+    }
+    for (k = 0; k < L4_MAX_THREADS; k++)
+        bed->spaces[k].has_changed = 1;
+}
+
+void keep_first_state(struct orders *orders) {
+    memset(orders->now.frames, 0xff, sizeof orders->now.frames);
+    keep_forget(orders);
     memcpy(orders->first_frames, orders->now.frames, sizeof orders->first_frames);
     memset(orders->varies, 0, sizeof orders->varies);
     orders->varying_count = 0;
-    for (k = 0; k < L4_MAX_THREADS; k++)
-        bed->spaces[k].has_changed = 1;
     orders->first_state = keep_state(orders);
 }

@@ -97,7 +97,7 @@ static void read_schedule(struct orders *orders, const char *text) {
     }
 }
 
-static void read_file(struct orders *orders, const char *name) {
+void schedule_read(struct orders *orders, const char *name) {
     FILE *file = fopen(name, "r");
     char *line = NULL;
     size_t room = 0;
@@ -109,17 +109,17 @@ static void read_file(struct orders *orders, const char *name) {
     fclose(file);
 }
 
-void schedule_replay(struct orders *orders, const char *name) {
+void schedule_take(struct orders *orders) {
+    const char *option = orders->is_replay ? "--schedule" : "--check-orders";
     struct bed *bed = orders->bed;
     uint32_t k;
-    read_file(orders, name);
     for (k = 0; k < orders->prefix_count && !turn_was_interrupted(bed); k++) {
         struct thread *thread = thread_numbered(bed, orders->prefix[k]);
-        orders->is_switching = k >= orders->switching_from;
+        orders->is_switching = orders->is_replay && k >= orders->switching_from;
         if (bed->end != NOT_ENDED)
-            fail(STATUS_INPUT, "--schedule: turn %u: the run has ended before", k + 1);
+            fail(STATUS_INPUT, "%s: turn %u: the run has ended before", option, k + 1);
         if (thread == NULL || !(turn_enabled(bed) >> slot_of(bed, thread) & 1))
-            fail(STATUS_INPUT, "--schedule: turn %u: thread %u %s", k + 1, orders->prefix[k], thread == NULL ? "does not exist" : "cannot continue now");
+            fail(STATUS_INPUT, "%s: turn %u: thread %u %s", option, k + 1, orders->prefix[k], thread == NULL ? "does not exist" : "cannot continue now");
         turn_take(orders, thread);
     }
 }

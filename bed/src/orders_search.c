@@ -93,6 +93,7 @@ static uint32_t take_node(struct orders *orders, uint32_t parent, uint32_t by) {
     if (number != NONE)
         return number;
     number = new_node(orders, state, parent, by);
+    certificate_add(orders, state);
     orders->nodes[number].enabled = turn_enabled(orders->bed);
     orders->nodes[number].waits = outcome_waiting(orders->bed);
     if (orders->nodes[number].enabled != 0)
@@ -214,6 +215,7 @@ static void begin_round(struct orders *orders) {
     struct bed *bed = orders->bed;
     give_up_kernel(orders);
     clear(orders);
+    certificate_begin(orders);
     orders->has_new_shared = orders->races.are_new = 0;
     orders->rounds++;
     restore_state(orders, orders->first_state);
@@ -221,17 +223,24 @@ static void begin_round(struct orders *orders) {
     reach(orders, take_node(orders, NONE, 0));
 }
 
-void search_all(struct orders *orders) {
+void search_begin(struct orders *orders) {
     memory_forget(orders);
     orders->is_switching = 1;
+    orders->has_new_shared = 0;
+    orders->turns = 0;
     single_forget(orders);
     keep_first_state(orders);
+}
+
+void search_all(struct orders *orders) {
+    search_begin(orders);
     check_library(l4_copy(&orders->bed->kernel, &orders->first_kernel), "l4_copy");
     do {
         begin_round(orders);
         search(orders);
     } while (orders->incomplete[0] == 0 && must_repeat(orders));
     give_up_kernel(orders);
+    certificate_write(orders);
 }
 
 void search_free(struct orders *orders) {
@@ -243,4 +252,5 @@ void search_free(struct orders *orders) {
     free(orders->buffer);
     free(orders->kernel_words);
     single_forget(orders);
+    certificate_close(orders);
 }

@@ -9,6 +9,7 @@
 
 #include "orders.h"
 #include "parts.h"
+#include <stdio.h>
 
 #define MAX_BED_FRAMES (L4_MAX_FRAMES + 1u + L4_MAX_THREADS)
 #define FRAME_WORDS (PAGE_BYTES / 4)
@@ -163,6 +164,7 @@ struct orders {
     struct outcome *outcomes;
     uint32_t outcome_count;
     char incomplete[120]; /* why the search has ended early, or "" */
+    FILE *certificate;    /* the states so far, or NULL */
 
     /* the turns before the search, or of the replay */
     uint32_t *prefix, prefix_count, prefix_room, switching_from; /* the turn from which on turns end at words of memory, if there are such words */
@@ -204,6 +206,8 @@ void lines_append(const struct orders *orders, struct text *text, uint32_t last)
 
 /* orders_keep.c: returns the part that is the present state. */
 uint32_t keep_state(struct orders *orders);
+/* Forgets the present state, so that the next call of keep_state looks at everything. */
+void keep_forget(struct orders *orders);
 /* Keeps the first state, with which the frames of all others are compared. */
 void keep_first_state(struct orders *orders);
 
@@ -226,6 +230,8 @@ uint32_t outcome_take(struct orders *orders, uint32_t node);
 int outcome_status(struct bed *bed);
 
 /* orders_search.c */
+/* Makes the present state the first one. */
+void search_begin(struct orders *orders);
 void search_all(struct orders *orders);
 void search_free(struct orders *orders);
 
@@ -238,8 +244,21 @@ void schedule_append(const struct orders *orders, struct text *text, uint32_t no
 /* Prints the schedule that leads to a node. */
 void schedule_print(const struct orders *orders, uint32_t node);
 void schedule_add(struct orders *orders, uint32_t thread);
-/* Takes the turns of a schedule or of a file that has one. */
-void schedule_replay(struct orders *orders, const char *name);
+/* Reads a schedule from a file. */
+void schedule_read(struct orders *orders, const char *name);
+/* Takes the turns before the search, or those of the replay. */
+void schedule_take(struct orders *orders);
+
+/* orders_certificate.c: writes the states of a search, and checks them. A search begins, adds each state that it finds, and writes the file at its end. */
+void certificate_begin(struct orders *orders);
+void certificate_add(struct orders *orders, uint32_t state);
+void certificate_write(struct orders *orders);
+void certificate_close(struct orders *orders);
+/* Ends the bed with STATUS_FAILED unless each turn of each state leads to one of the states. Takes the outcomes. */
+void certificate_check(struct orders *orders);
+
+/* orders_valid.c: whether the part with this number is the list of a state whose parts can be restored. */
+int valid_is_state(const struct orders *orders, uint32_t number);
 
 /* orders_report.c: prints the result of the search, and returns the exit status. */
 int report_print(struct orders *orders);
