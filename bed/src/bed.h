@@ -331,7 +331,9 @@ void orders_note_owner(struct bed *bed, uint64_t space, const l4_message *messag
 void orders_note_change(struct bed *bed, const struct thread *thread);
 /* Schedule sets a priority. */
 void orders_note_priority(struct bed *bed);
-/* Returns the time in microseconds that SystemClock returns to the thread. */
+/* Returns the time of the thread whose turn it is, in microseconds. */
+uint64_t orders_time(const struct bed *bed);
+/* Moves the thread's time on, and returns it. */
 uint64_t orders_clock(struct bed *bed, const struct thread *thread);
 
 /* turns.c */

@@ -120,6 +120,12 @@ static void fill_thread(const struct bed *bed, const struct thread *thread, cons
     part->is_halted = (uint32_t)thread->is_halted;
     part->text_length = (uint32_t)thread->text_length;
     part->time = extra->time;
+    part->send_timeout = thread->send_timeout;
+    part->receive_timeout = thread->receive_timeout;
+    part->call_time = thread->call_time;
+    part->deadline = thread->deadline != 0; /* whether it can expire, but not when */
+    part->more_turns = thread->more_turns;
+    part->turns_left = thread->turns_left;
     memcpy(part->general, general, sizeof general);
 }
 

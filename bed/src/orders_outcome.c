@@ -4,10 +4,11 @@
 #include <stdlib.h>
 #include <string.h>
 
-/* A thread whose main has returned receives from itself, and a server may wait for any thread. Any other wait is for one other thread. */
+/* A thread whose main has returned receives from itself, and a server may wait for any thread. Any other wait without a timeout is for one other
+ * thread. */
 static int waits_for_another(struct bed *bed, const struct thread *thread) {
     uint32_t partner;
-    if (thread_wait(bed, thread) == 0)
+    if (thread->deadline != 0 || thread_wait(bed, thread) == 0)
         return 0;
     partner = thread_state(bed, thread).partner;
     return partner != thread->id && partner != L4_ANYTHREAD;

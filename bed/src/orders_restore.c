@@ -160,6 +160,12 @@ static void set_thread(struct bed *bed, struct thread *thread, const struct thre
     thread->is_halted = (int)part->is_halted;
     thread->text_length = part->text_length;
     thread->entered.acceptor = part->acceptor;
+    thread->send_timeout = part->send_timeout;
+    thread->receive_timeout = part->receive_timeout;
+    thread->call_time = part->call_time;
+    thread->deadline = part->deadline;
+    thread->more_turns = part->more_turns;
+    thread->turns_left = part->turns_left;
     set_registers(&thread->registers, part->general);
 }
 

@@ -1,8 +1,8 @@
 /* Turns that are followed alone.
  *
  * In a state, the search has to follow the turn of each thread that is ready. It follows the turn t of a thread T alone if t is an Ipc that receives
- * without a timeout, and sends nothing, or sends to a thread R that waits for T alone, and if no other turn can notice when t is taken. (In the
- * words of the field, {t} is a persistent set.) The outcomes are the same, for the following reason.
+ * without a timeout of zero, and sends nothing, or sends to a thread R that waits for T alone, without a timeout, and if no other turn can notice
+ * when t is taken. (In the words of the field, {t} is a persistent set.) The outcomes are the same, for the following reason.
  *
  * Let other threads take any turns u1 .. un first. Then t can still be taken, unless un ends the run, and t u1 .. un leads to the same state as u1
  * .. un t:
@@ -17,8 +17,8 @@
  *
  * That fails if a turn among u1 .. un notices t, or the other way round:
  *
- * - It sends with a timeout of zero to T, or to the thread whose message T takes: this can fail before t and succeed behind it. But if T has called
- *   the sender in one Ipc, T receives for as long as the sender has its message.
+ * - It sends with a timeout to T, or to the thread whose message T takes: this can fail before t and succeed behind it. But if T has called the
+ *   sender in one Ipc, T receives for as long as the sender has its message.
  * - It changes pages of the space of T or R without the doing of that thread.
  * - It deletes or changes a thread that t touches, or returns what such a thread does (Schedule, ExchangeRegisters), or it creates a thread that t
  *   names.
@@ -99,6 +99,12 @@ static int is_active(struct bed *bed, uint32_t id) {
     return id == L4_NILTHREAD || id == L4_ANYTHREAD || (thread != NULL && thread->state != INACTIVE);
 }
 
+/* Returns whether the thread with this id waits with a timeout. */
+static int can_expire(struct bed *bed, uint32_t id) {
+    const struct thread *thread = thread_find(bed, id);
+    return thread != NULL && thread->deadline != 0;
+}
+
 /* Returns the address behind the call of a thread that is in an entry of the kernel interface page. */
 static uint32_t call_site(struct bed *bed, const struct thread *thread) {
     uint32_t address = 0, k;
@@ -110,8 +116,8 @@ static uint32_t call_site(struct bed *bed, const struct thread *thread) {
     return address;
 }
 
-/* A send with a timeout of zero succeeds, or would have succeeded, because its receiver waits already. */
-static void note_zero_send(struct orders *orders, uint32_t sender, const l4_call *call, const l4_state *to) {
+/* A send that can expire succeeds, or would have succeeded, because its receiver waits already. */
+static void note_short_send(struct orders *orders, uint32_t sender, const l4_call *call, const l4_state *to) {
     struct bed *bed = orders->bed;
     const struct thread *receiver = thread_find(bed, call->to), *from = thread_numbered(bed, sender);
     uint32_t called;
@@ -133,15 +139,16 @@ static void note_ipc(struct orders *orders, uint32_t caller, const l4_call *call
     single_touch(orders, NUMBER(call->to));
     if (call->from != L4_ANYTHREAD)
         single_touch(orders, NUMBER(call->from));
-    if (sends && call->timeouts >> 16 != 0)
-        note_zero_send(orders, caller, call, &to);
+    if (sends && (call->timeouts >> 16 != 0 || (thread != NULL && thread->send_timeout != 0)))
+        note_short_send(orders, caller, call, &to);
     if (thread == NULL || thread != orders->turn.running)
         return;
     orders->turn.site.thread = caller;
     orders->turn.site.address = call_site(bed, thread);
     orders->turn.can_be_single = is_active(bed, call->to) && is_active(bed, call->from) && (sends || receives)
         && (!receives || (call->timeouts & 0xffff) == 0)
-        && (!sends || (to.state == L4_STATE_RECEIVING && !to.expires && to.id == call->to && to.partner == thread->id));
+        && (!sends || (to.state == L4_STATE_RECEIVING && !to.expires && to.id == call->to && to.partner == thread->id
+                       && !can_expire(bed, call->to)));
 }
 
 void single_note_call(struct orders *orders, uint32_t caller, const l4_call *call) {

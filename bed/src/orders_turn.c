@@ -24,11 +24,25 @@ static uint64_t highest_places(const struct bed *bed) {
     return places;
 }
 
-/* As in a run, a thread takes a turn only if no thread of a higher priority is ready, or if ThreadSwitch has named it. */
+/* Whether the thread waits with a timeout that is neither zero nor never. It can strike at any time. */
+static int can_expire(const struct thread *thread) {
+    return thread->state == CALLING && thread->deadline != 0;
+}
+
+static uint64_t expiring_places(const struct bed *bed) {
+    uint64_t places = 0;
+    uint32_t k;
+    for (k = 0; k < L4_MAX_THREADS; k++)
+        places |= (uint64_t)can_expire(&bed->threads[k]) << k;
+    return places;
+}
+
+/* As in a run, a thread takes a turn only if no thread of a higher priority is ready, or if ThreadSwitch has named it. The turn of a thread that waits
+ * is the end of its wait by the timeout. */
 uint64_t turn_enabled(const struct bed *bed) {
     if (bed->end != NOT_ENDED)
         return 0;
-    return highest_places(bed) | (bed->named_next == NULL ? 0 : UINT64_C(1) << slot_of(bed, bed->named_next));
+    return highest_places(bed) | expiring_places(bed) | (bed->named_next == NULL ? 0 : UINT64_C(1) << slot_of(bed, bed->named_next));
 }
 
 /* Forgets the thread that ThreadSwitch has named if this makes no difference: it is not ready, or can take the next turn in any case. */
@@ -56,6 +70,15 @@ static void take_replies(struct bed *bed) {
         thread_take_reply(bed, &bed->threads[k]);
 }
 
+static void run_turn(struct bed *bed, struct thread *thread) {
+    if (!can_expire(thread)) {
+        thread_enter_once(bed, thread);
+        return;
+    }
+    timeouts_forget(thread);
+    kernel_timeout(bed, thread->number);
+}
+
 void turn_take(struct orders *orders, struct thread *thread) {
     struct bed *bed = orders->bed;
     uint32_t k;
@@ -65,7 +88,7 @@ void turn_take(struct orders *orders, struct thread *thread) {
     single_touch(orders, thread->number);
     bed->named_next = NULL;
     lines_begin(orders);
-    thread_enter_once(bed, thread);
+    run_turn(bed, thread);
     orders->turn.running = NULL;
     for (k = 0; k < L4_MAX_THREADS; k++) {
         if (bed->spaces[k].engine_space != NULL)

@@ -41,9 +41,9 @@ struct current {
 /* A part of a state: a thread. Behind it are the words of its call, if they are still to be sent, and the text that it has begun to print. */
 struct thread_part {
     uint32_t state, calling, number, id, pager, priority, space, utcb, fault_address, fault_access, vain_answers, is_halted;
-    uint32_t to, acceptor, word_count, text_length, floats;
+    uint32_t to, acceptor, word_count, text_length, floats, send_timeout, receive_timeout, more_turns, turns_left;
     uint32_t general[10];
-    uint64_t time;
+    uint64_t time, call_time, deadline;
 };
 
 struct space_part {

@@ -17,6 +17,8 @@
 
 uint64_t clock_now(const struct bed *bed) {
     struct timespec now;
+    if (bed->orders != NULL)
+        return orders_time(bed);
     if (bed->has_virtual_clock)
         return bed->virtual_time / 1000;
     check_system(clock_gettime(CLOCK_MONOTONIC, &now), "clock_gettime");
@@ -127,9 +129,10 @@ static void expire_until(struct bed *bed, uint64_t now) {
     bed->next_deadline = first == NULL ? 0 : first->deadline;
 }
 
+/* In a search of all orders, the end of a wait is a turn of its own. */
 void timeouts_expire(struct bed *bed) {
     uint64_t now = bed->next_deadline == 0 ? 0 : clock_now(bed);
-    if (bed->next_deadline != 0 && bed->next_deadline <= now)
+    if (bed->next_deadline != 0 && bed->next_deadline <= now && bed->orders == NULL)
         expire_until(bed, now);
 }
 
