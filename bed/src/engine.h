@@ -47,7 +47,8 @@ struct memory {
 struct engine;
 struct engine_space;
 
-/* A function that gets each access of a program to memory. If it returns 1 and `stops` is set, the program stops behind the instruction. */
+/* A function that gets each access of a program to memory. If it returns 1 and `stops` is set, the program stops behind the instruction. The
+ * instruction rdtsc, which returns the host's time, is exception 13 then. */
 struct watcher {
     int (*accessed)(void *user, uint32_t address, uint32_t bytes, int writes);
     void *user;

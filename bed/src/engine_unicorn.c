@@ -307,7 +307,8 @@ static void set_processor(struct engine_space *space) {
     table.limit = GDT_BYTES - 1;
     check_unicorn(uc_reg_write(space->unicorn, UC_X86_REG_GDTR, &table), "uc_reg_write");
     check_unicorn(uc_reg_write(space->unicorn, UC_X86_REG_MSR, &features), "uc_reg_write");
-    write_register(space, UC_X86_REG_CR4, CONTROL_4);
+    /* under a watcher, a run can be repeated, and so depends on nothing but the program */
+    write_register(space, UC_X86_REG_CR4, space->watcher == NULL ? CONTROL_4 : CONTROL_4 | NO_TIME_STAMP);
     write_register(space, UC_X86_REG_CR3, SHIM + space->root);
     write_register(space, UC_X86_REG_CR0, CONTROL_0);
     for (k = 0; k < sizeof flat / sizeof *flat; k++)

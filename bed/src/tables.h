@@ -44,6 +44,7 @@ enum { DEBUG = 1, BREAKPOINT = 3, OVERFLOW = 4, INVALID_OPCODE = 6, NO_COPROCESS
 #define CONTROL_0 UINT64_C(0x80010033) /* paging, write protection, exceptions of the coprocessor, protection */
 #define TASK_SWITCHED UINT64_C(8)
 #define CONTROL_4 UINT64_C(0x620) /* long entries, and SSE */
+#define NO_TIME_STAMP UINT64_C(4) /* in control register 4: programs may not read the time stamp */
 #define EXTENDED_FEATURES UINT64_C(0xd00) /* 64-bit mode, and pages that may not be executed */
 
 #define MAX_TREES 80
