@@ -6,7 +6,8 @@ import hashlib
 import struct
 from typing import NamedTuple
 
-OUTCOMES = ["started", "done", "no-window", "entangled", "no-memory", "expired"]
+OUTCOMES = ["started", "done", "no-window", "entangled", "no-memory", "expired", "canceled"]
+ENDS = {"timeout": 3, "cancel": 4}  # the steps that the environment executes, with their kinds: no seat is theirs
 CALLS = ["ipc", "fault", "unmap", "create", "setpager", "delete"]
 RIGHTS = {"r": 4, "w": 2, "x": 1}
 
@@ -33,6 +34,8 @@ def step_words(line):
         return [1, *map(int, tokens)]
     if kind == "expire":
         return [2, int(tokens[0])]
+    if kind in ENDS:
+        return [ENDS[kind], int(tokens[0])]
     number, call, *fields = tokens
     if call == "fault":
         fields[2] = str(sum(RIGHTS.get(letter, 0) for letter in fields[2])) if set(fields[2]) <= set("rwx-") else fields[2]
@@ -45,7 +48,8 @@ def entries(text):
     for line in text.splitlines():
         if not line.startswith("# "):
             step = step_words(line)
-            found.append(Entry(step[1] if step[0] == 0 else found[-1].seat, 0, [], step))
+            seat = step[1] if step[0] == 0 else 0 if step[0] in ENDS.values() else found[-1].seat
+            found.append(Entry(seat, 0, [], step))
         elif line[2:] in OUTCOMES:
             found[-1] = found[-1]._replace(outcome=OUTCOMES.index(line[2:]))
         else:
