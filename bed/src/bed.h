@@ -322,7 +322,9 @@ void exchange_take(struct bed *bed, struct thread *thread);
 
 /* orders_notes.c: what the search of all orders has to know about a turn. Without a search, these functions do nothing. */
 /* A call is about to start. */
-void orders_note_call(struct bed *bed, uint32_t thread, const l4_call *call);
+void orders_note_call(struct bed *bed, uint32_t thread, const l4_call *call, const uint32_t *words, size_t count);
+/* A wait has been ended: by a timeout, or by another thread. */
+void orders_note_end_of_wait(struct bed *bed, uint32_t thread, int is_cancel);
 /* A step has been executed. */
 void orders_note_step(struct bed *bed, const l4_step *step);
 /* sigma0 has given the pages of this answer to a space. */

@@ -101,11 +101,13 @@ static void end_wait(struct bed *bed, const char *name, uint32_t thread, const l
 
 void kernel_timeout(struct bed *bed, uint32_t thread) {
     l4_answer answer = l4_timeout(&bed->kernel, thread);
+    orders_note_end_of_wait(bed, thread, 0);
     end_wait(bed, "timeout", thread, &answer);
 }
 
 void kernel_cancel(struct bed *bed, uint32_t thread) {
     l4_answer answer = l4_cancel(&bed->kernel, thread);
+    orders_note_end_of_wait(bed, thread, 1);
     end_wait(bed, "cancel", thread, &answer);
 }
 
@@ -145,7 +147,7 @@ static int take_next(struct bed *bed) {
 
 static uint32_t enter(struct bed *bed, uint32_t thread, const l4_call *call, const uint32_t *words, size_t count) {
     l4_answer start;
-    orders_note_call(bed, thread, call);
+    orders_note_call(bed, thread, call, words, count);
     before_start(bed, thread, call, words, count);
     start = l4_start(&bed->kernel, thread, call, words, count);
     if (start.refusal == L4_OK) {

@@ -46,6 +46,7 @@ void certificate_begin(struct orders *orders) {
 void certificate_add(struct orders *orders, uint32_t state) {
     if (orders->certificate == NULL)
         return;
+    keep_checkpoint(orders);
     put(orders->certificate, &state, sizeof state);
     put_bytes(orders->certificate, orders->buffer, orders->checkpoint_bytes);
 }

@@ -75,10 +75,12 @@ static size_t take_threads(const uint32_t *words, size_t end, uint32_t *out, siz
     return place;
 }
 
-/* The buffer gets the kernel's checkpoint. */
-static void write_checkpoint(struct orders *orders) {
+void keep_checkpoint(struct orders *orders) {
     struct bed *bed = orders->bed;
-    l4_count written = l4_checkpoint_write(&bed->kernel, bed->frames, 0, orders->buffer, orders->buffer_bytes);
+    l4_count written;
+    if (orders->checkpoint_bytes != 0)
+        return;
+    written = l4_checkpoint_write(&bed->kernel, bed->frames, 0, orders->buffer, orders->buffer_bytes);
     check_library(written.refusal, "l4_checkpoint_write");
     if (written.count > orders->buffer_bytes) {
         orders->buffer_bytes = 2 * (uint32_t)written.count;
@@ -93,12 +95,16 @@ static void write_checkpoint(struct orders *orders) {
 static void keep_kernel(struct orders *orders) {
     const uint32_t *words;
     size_t end, made, mappings;
-    write_checkpoint(orders);
+    orders->checkpoint_bytes = 0;
+    if (kernels_find(orders))
+        return;
+    keep_checkpoint(orders);
     words = (const uint32_t *)(const void *)orders->buffer;
     end = orders->checkpoint_bytes / sizeof *words - DIGEST_WORDS;
     mappings = take_threads(words, end, orders->kernel_words, &made);
     parts_renumber(&orders->parts, &orders->now.heading[OF_THREADS], orders->kernel_words, made * sizeof *words);
     parts_renumber(&orders->parts, &orders->now.heading[OF_MAPPINGS], words + mappings, (end - mappings) * sizeof *words);
+    kernels_add(orders);
 }
 
 static void fill_thread(const struct bed *bed, const struct thread *thread, const struct extra *extra, struct thread_part *part) {
@@ -307,6 +313,7 @@ uint32_t keep_state(struct orders *orders) {
 void keep_forget(struct orders *orders) {
     struct bed *bed = orders->bed;
     uint32_t k;
+    orders->kernels.key_count = 0;
     memset(&orders->now.heading, 0xff, sizeof orders->now.heading);
     memset(&orders->now.threads, 0xff, sizeof orders->now.threads);
     memset(&orders->now.spaces, 0xff, sizeof orders->now.spaces);

@@ -4,13 +4,19 @@
 /* Each look at a thread's clock moves it on by this many microseconds. */
 #define CLOCK_STEP 1000u
 
-void orders_note_call(struct bed *bed, uint32_t thread, const l4_call *call) {
+void orders_note_call(struct bed *bed, uint32_t thread, const l4_call *call, const uint32_t *words, size_t count) {
     const struct thread *caller = thread_numbered(bed, thread);
     if (bed->orders == NULL)
         return;
+    kernels_add_call(bed->orders, thread, call, words, count);
     if (caller != NULL)
         bed->orders->extras[slot_of(bed, caller)].to = call->kind == L4_IPC ? call->to : 0;
     single_note_call(bed->orders, thread, call);
+}
+
+void orders_note_end_of_wait(struct bed *bed, uint32_t thread, int is_cancel) {
+    if (bed->orders != NULL)
+        kernels_add_end_of_wait(bed->orders, thread, is_cancel);
 }
 
 /* A receiver's clock is not behind that of the sender of its message. */

@@ -271,6 +271,7 @@ void restore_state(struct orders *orders, uint32_t state) {
     const struct part *part = part_of(orders, state);
     const uint32_t *list = (const uint32_t *)(const void *)part->bytes, *frames;
     uint32_t k, threads = list[THREAD_COUNT], spaces = list[SPACE_COUNT], count = part->length / 4 - HEADING - threads - 2 * spaces;
+    orders->kernels.key_count = 0; /* no turn has led here */
     restore_rest(orders, list[OF_REST]);
     restore_spaces(orders, list + HEADING + threads, spaces);
     restore_threads(orders, list + HEADING, threads);

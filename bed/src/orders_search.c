@@ -29,6 +29,7 @@ static void keep_kernel(struct orders *orders, uint32_t number) {
         orders->kept_kernels++;
         return;
     }
+    keep_checkpoint(orders);
     node->checkpoint = parts_need(malloc(orders->checkpoint_bytes));
     memcpy(node->checkpoint, orders->buffer, orders->checkpoint_bytes);
     node->checkpoint_bytes = orders->checkpoint_bytes;
@@ -252,5 +253,6 @@ void search_free(struct orders *orders) {
     free(orders->buffer);
     free(orders->kernel_words);
     single_forget(orders);
+    kernels_free(orders);
     certificate_close(orders);
 }

@@ -86,6 +86,7 @@ void turn_take(struct orders *orders, struct thread *thread) {
     orders->turn.running = thread;
     orders->turn.waited = calling_places(bed);
     single_touch(orders, thread->number);
+    kernels_begin_turn(orders);
     bed->named_next = NULL;
     lines_begin(orders);
     run_turn(bed, thread);

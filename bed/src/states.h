@@ -115,6 +115,17 @@ struct races {
     int are_new; /* there are more of them than when the search began */
 };
 
+/* The kernel after a turn follows from the kernel before it and from the calls of the turn. So what a turn did to the kernel is kept: a key (both numbers
+ * of the kernel before, and the calls) is a part, whose node is the place of what the kernel was then. */
+struct kernels {
+    struct {
+        uint32_t threads, mappings;
+    } *list;
+    uint32_t count, room;
+    uint32_t *key; /* of the present turn */
+    size_t key_count, key_room;
+};
+
 #define MAX_SPARES 32u
 struct spare {
     struct engine_space *space;
@@ -131,6 +142,7 @@ struct orders {
     struct said said[MAX_SPEAKERS];
     uint32_t said_count;
     struct turn turn;
+    struct kernels kernels;
     struct races races;
 
     /* frames that differ from those of the first state in some state, in the order in which they were found */
@@ -159,7 +171,7 @@ struct orders {
     uint64_t turns, edge_count;
     l4_kernel first_kernel;
     uint32_t first_state;
-    unsigned char *buffer; /* the present kernel's checkpoint */
+    unsigned char *buffer; /* the present kernel's checkpoint, if checkpoint_bytes is not 0 */
     uint32_t buffer_bytes, checkpoint_bytes, *kernel_words;
     struct outcome *outcomes;
     uint32_t outcome_count;
@@ -204,7 +216,20 @@ struct text {
 void text_append(struct text *text, const char *format, ...) __attribute__((format(printf, 2, 3)));
 void lines_append(const struct orders *orders, struct text *text, uint32_t last);
 
-/* orders_keep.c: returns the part that is the present state. */
+/* orders_kernels.c: a turn begins; it makes a call. */
+void kernels_begin_turn(struct orders *orders);
+void kernels_add_call(struct orders *orders, uint32_t thread, const l4_call *call, const uint32_t *words, size_t count);
+/* It ends the wait of a thread. */
+void kernels_add_end_of_wait(struct orders *orders, uint32_t thread, int is_cancel);
+/* Sets the numbers of the present kernel if the turn is known. Returns whether it is. */
+int kernels_find(struct orders *orders);
+/* Keeps the numbers of the present kernel for this turn. */
+void kernels_add(struct orders *orders);
+void kernels_free(struct orders *orders);
+
+/* orders_keep.c: writes the present kernel's checkpoint to the buffer, unless it is there. */
+void keep_checkpoint(struct orders *orders);
+/* Returns the part that is the present state. */
 uint32_t keep_state(struct orders *orders);
 /* Forgets the present state, so that the next call of keep_state looks at everything. */
 void keep_forget(struct orders *orders);
