@@ -322,11 +322,12 @@ class StepMaker(Maker):
     """Makes lists of kernel steps."""
 
     PLANS = {"chain": 2, "tree": 1, "grants": 2, "family": 3, "ranges": 2, "rows": 3, "queue": 0.2, "fault": 1, "spaces": 1}
+    CANCELS = 0.05  # the share of lines that end a wait; the suite has none
 
     def any_line(self):
         random = self.random
         step = self.machine.enabled()
-        if random.random() < 0.05:
+        if self.CANCELS and random.random() < self.CANCELS:
             return self.any_cancel()
         if step is not None and random.random() < 0.75:
             return " ".join(map(str, step))
@@ -347,7 +348,7 @@ class StepMaker(Maker):
         waiting = self.waiting()
         if not waiting or (len(self.machine.threads) < self.most_threads and random.random() < 0.6):
             return self.any_create(ROOT)
-        if random.random() < 0.15:
+        if self.CANCELS and random.random() < 3 * self.CANCELS:
             return self.any_cancel()
         number, partner = self.blocked(waiting)
         if partner is None:
@@ -545,7 +546,7 @@ class ScriptMaker(Maker):
         waiting = [number for number in self.waiting() if number not in self.model.served]
         if not waiting or (len(self.machine.threads) < self.most_threads and random.random() < 0.6):
             return self.any_thread(ROOT)
-        if random.random() < 0.15:
+        if self.CANCELS and random.random() < 3 * self.CANCELS:
             return self.any_cancel()
         number, partner = self.blocked(waiting)
         if partner is None:
