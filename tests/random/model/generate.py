@@ -33,6 +33,8 @@ def pools(pages):
 class Maker:
     """The common part of the generators of step lists and scripts: words, partners, and the kinds of lines with their weights."""
 
+    CANCELS = 0.05  # the share of lines that end a wait; the suite has none
+
     def __init__(self, random, model):
         self.random = random
         self.model = model
@@ -322,7 +324,6 @@ class StepMaker(Maker):
     """Makes lists of kernel steps."""
 
     PLANS = {"chain": 2, "tree": 1, "grants": 2, "family": 3, "ranges": 2, "rows": 3, "queue": 0.2, "fault": 1, "spaces": 1}
-    CANCELS = 0.05  # the share of lines that end a wait; the suite has none
 
     def any_line(self):
         random = self.random
