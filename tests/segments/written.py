@@ -23,8 +23,9 @@ class Entry(NamedTuple):
     def words(self):
         return [self.seat, self.outcome, len(self.ended), *self.ended, *self.step]
 
-    def starts(self):
-        return self.step[0] == 0
+    def begins(self):
+        """Whether it can be the first of a segment: it starts a call, or ends a wait."""
+        return self.step[0] in (0, *ENDS.values())
 
 
 def step_words(line):
@@ -77,7 +78,8 @@ def segment(*words, **other):
 
 
 def split(given, parts):
-    """A history in so many parts, each of which begins with the start of a call: the number of its first entry, and its entries."""
-    starts = [place for place, entry in enumerate(given) if entry.starts()]
+    """A history in so many parts, each of which begins with the start of a call or the end of a wait: the number of its first entry, and its
+    entries."""
+    starts = [place for place, entry in enumerate(given) if entry.begins()]
     cuts = sorted({0, *(starts[len(starts) * part // parts] for part in range(1, parts))}) if starts else [0]
     return [(begin, given[begin:end]) for begin, end in zip(cuts, [*cuts[1:], len(given)])]
