@@ -105,6 +105,7 @@ fn answers_are_read_back(rt: HostRuntime) {
     check_outcome(&rt, Outcome::Entangled, 3);
     check_outcome(&rt, Outcome::NoMemory, 4);
     check_outcome(&rt, Outcome::Expired, 5);
+    check_outcome(&rt, Outcome::Canceled, 6);
 }
 
 #[test]
@@ -148,7 +149,7 @@ fn other_words_are_refused(rt: HostRuntime) {
     assert!(rt; read_call(0, Words::of(&[0; 68])).is_some());
     assert!(rt; read_call(0, Words::of(&[0; 69])).is_none());
     assert!(rt; read_call(1, Words::of(&[1, 2, 8])).is_none());
-    assert!(rt; read_answer(Words::of(&[6, 0])).is_none());
+    assert!(rt; read_answer(Words::of(&[7, 0])).is_none());
     assert!(rt; read_answer(Words::of(&[0, 2, 7])).is_none());
     assert!(rt; read_reply(Words::of(&[7])).is_none());
     assert!(rt; read_place(Words::of(&[7])).is_none());
