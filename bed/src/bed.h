@@ -314,6 +314,8 @@ uint32_t timeouts_period(uint64_t microseconds);
 uint64_t timeouts_microseconds(uint32_t period);
 /* Returns whether the timeout is a period and not a point in time. */
 int timeouts_is_period(uint32_t timeout);
+/* Returns how many microseconds are left until the wait of the thread expires. */
+uint64_t timeouts_left(const struct bed *bed, const struct thread *thread);
 /* Returns for how many microseconds such a timeout of the thread's Ipc lets it wait; those of a point in time count from the call on. */
 uint64_t timeouts_length(const struct thread *thread, uint32_t timeout);
 
@@ -333,8 +335,8 @@ void orders_note_owner(struct bed *bed, uint64_t space, const l4_message *messag
 void orders_note_change(struct bed *bed, const struct thread *thread);
 /* Schedule sets a priority. */
 void orders_note_priority(struct bed *bed);
-/* Returns the time of the thread whose turn it is, in microseconds. */
-uint64_t orders_time(const struct bed *bed);
+/* Returns the time of the thread, in microseconds. */
+uint64_t orders_time(const struct bed *bed, const struct thread *thread);
 /* Moves the thread's time on, and returns it. */
 uint64_t orders_clock(struct bed *bed, const struct thread *thread);
 

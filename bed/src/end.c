@@ -94,10 +94,9 @@ void end_by_gdb(struct bed *bed) {
 
 /* Writes how long a wait that expires lasts at most. */
 static void write_rest(const struct bed *bed, const struct thread *thread, char *text, size_t room) {
-    uint64_t time = clock_now(bed);
     text[0] = 0;
     if (thread->deadline != 0)
-        snprintf(text, room, " for at most %llu more microseconds", (unsigned long long)(thread->deadline > time ? thread->deadline - time : 0));
+        snprintf(text, room, " for at most %llu more microseconds", (unsigned long long)timeouts_left(bed, thread));
 }
 
 static void print_ipc(struct bed *bed, const struct thread *thread, const l4_state *state) {

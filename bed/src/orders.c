@@ -37,12 +37,12 @@ void orders_open(struct bed *bed, const struct orders_options *options) {
     memory_watch(orders);
 }
 
-/* Takes turns in the order of the threads until one has printed the line. */
+/* Takes turns in the order of the threads until one has printed the line. A wait expires only if no thread is ready. */
 static void run_to_line(struct orders *orders) {
     struct bed *bed = orders->bed;
     uint64_t places = turn_enabled(bed);
     while (places != 0 && !orders->has_seen_line) {
-        struct thread *thread = &bed->threads[__builtin_ctzll(places)];
+        struct thread *thread = turn_first(bed, places);
         schedule_add(orders, thread->number);
         turn_take(orders, thread);
         places = turn_enabled(bed);

@@ -129,7 +129,7 @@ static void fill_thread(const struct bed *bed, const struct thread *thread, cons
     part->send_timeout = thread->send_timeout;
     part->receive_timeout = thread->receive_timeout;
     part->call_time = thread->call_time;
-    part->deadline = thread->deadline != 0; /* whether it can expire, but not when */
+    part->deadline = thread->deadline;
     part->more_turns = thread->more_turns;
     part->turns_left = thread->turns_left;
     memcpy(part->general, general, sizeof general);

@@ -58,9 +58,8 @@ void orders_note_priority(struct bed *bed) {
     bed->orders->races.of_priorities = 1;
 }
 
-uint64_t orders_time(const struct bed *bed) {
-    const struct thread *running = bed->orders->turn.running;
-    return running == NULL ? 0 : bed->orders->extras[slot_of(bed, running)].time;
+uint64_t orders_time(const struct bed *bed, const struct thread *thread) {
+    return bed->orders->extras[slot_of(bed, thread)].time;
 }
 
 uint64_t orders_clock(struct bed *bed, const struct thread *thread) {

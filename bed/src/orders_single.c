@@ -32,6 +32,9 @@
  * or another turn alone that does not notice u1 .. un-1 and can be moved before them. It goes on so until it has followed un, with T as t has left
  * it; and it would have noted un then.
  *
+ * While a thread waits to send to T with a timeout, t is not followed alone if it receives: it could take the message of a send that expires before t. A
+ * send that begins later is noted.
+ *
  * A turn is not followed alone if it leads to a state whose turns were followed before. So each cycle of states has one in which all turns are
  * followed, and no turn is left out for ever. */
 #include "states.h"
@@ -99,6 +102,17 @@ static int is_active(struct bed *bed, uint32_t id) {
     return id == L4_NILTHREAD || id == L4_ANYTHREAD || (thread != NULL && thread->state != INACTIVE);
 }
 
+/* Returns whether a send to this thread can expire. */
+static int has_limited_sender(struct bed *bed, const struct thread *receiver) {
+    uint32_t k;
+    for (k = 0; k < L4_MAX_THREADS; k++) {
+        const struct thread *sender = &bed->threads[k];
+        if (sender->deadline != 0 && thread_wait(bed, sender) == L4_STATE_SENDING && thread_state(bed, sender).partner == receiver->id)
+            return 1;
+    }
+    return 0;
+}
+
 /* Returns whether the thread with this id waits with a timeout. */
 static int can_expire(struct bed *bed, uint32_t id) {
     const struct thread *thread = thread_find(bed, id);
@@ -146,7 +160,7 @@ static void note_ipc(struct orders *orders, uint32_t caller, const l4_call *call
     orders->turn.site.thread = caller;
     orders->turn.site.address = call_site(bed, thread);
     orders->turn.can_be_single = is_active(bed, call->to) && is_active(bed, call->from) && (sends || receives)
-        && (!receives || (call->timeouts & 0xffff) == 0)
+        && (!receives || ((call->timeouts & 0xffff) == 0 && !has_limited_sender(bed, thread)))
         && (!sends || (to.state == L4_STATE_RECEIVING && !to.expires && to.id == call->to && to.partner == thread->id
                        && !can_expire(bed, call->to)));
 }

@@ -70,13 +70,28 @@ static void take_replies(struct bed *bed) {
         thread_take_reply(bed, &bed->threads[k]);
 }
 
-static void run_turn(struct bed *bed, struct thread *thread) {
-    if (!can_expire(thread)) {
-        thread_enter_once(bed, thread);
+struct thread *turn_first(struct bed *bed, uint64_t places) {
+    uint64_t others = places & ~expiring_places(bed);
+    return &bed->threads[__builtin_ctzll(others != 0 ? others : places)];
+}
+
+/* The clock of a thread that has not looked at it stays as it is. */
+static void expire(struct orders *orders, struct thread *thread) {
+    uint64_t *time = &orders->extras[slot_of(orders->bed, thread)].time;
+    if (*time != 0 && *time < thread->deadline)
+        *time = thread->deadline;
+    timeouts_forget(thread);
+    kernel_timeout(orders->bed, thread->number);
+}
+
+static void run_turn(struct orders *orders, struct thread *thread) {
+    struct bed *bed = orders->bed;
+    if (can_expire(thread)) {
+        expire(orders, thread);
         return;
     }
-    timeouts_forget(thread);
-    kernel_timeout(bed, thread->number);
+    bed->named_next = NULL;
+    thread_enter_once(bed, thread);
 }
 
 void turn_take(struct orders *orders, struct thread *thread) {
@@ -87,9 +102,8 @@ void turn_take(struct orders *orders, struct thread *thread) {
     orders->turn.waited = calling_places(bed);
     single_touch(orders, thread->number);
     kernels_begin_turn(orders);
-    bed->named_next = NULL;
     lines_begin(orders);
-    run_turn(bed, thread);
+    run_turn(orders, thread);
     orders->turn.running = NULL;
     for (k = 0; k < L4_MAX_THREADS; k++) {
         if (bed->spaces[k].engine_space != NULL)

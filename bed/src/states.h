@@ -241,6 +241,8 @@ void restore_state(struct orders *orders, uint32_t state);
 
 /* orders_turn.c */
 uint64_t turn_enabled(const struct bed *bed);
+/* Returns the first of these threads, but one whose wait would expire only if there is no other. */
+struct thread *turn_first(struct bed *bed, uint64_t places);
 void turn_take(struct orders *orders, struct thread *thread);
 /* Whether a limit, a signal or an output has ended the run within a turn, and so ends the search. */
 int turn_was_interrupted(const struct bed *bed);

@@ -17,12 +17,15 @@
 
 uint64_t clock_now(const struct bed *bed) {
     struct timespec now;
-    if (bed->orders != NULL)
-        return orders_time(bed);
     if (bed->has_virtual_clock)
         return bed->virtual_time / 1000;
     check_system(clock_gettime(CLOCK_MONOTONIC, &now), "clock_gettime");
     return (uint64_t)now.tv_sec * 1000000 + (uint64_t)now.tv_nsec / 1000;
+}
+
+/* In a search of all orders, each thread has a clock. */
+static uint64_t time_of(const struct bed *bed, const struct thread *thread) {
+    return bed->orders != NULL ? orders_time(bed, thread) : clock_now(bed);
 }
 
 /* The clock's bits from e + 10 on are those of the point; or the next ones, if the lowest of them is not the point's bit of the clock. */
@@ -68,7 +71,7 @@ uint64_t timeouts_length(const struct thread *thread, uint32_t timeout) {
 
 /* The phase with this timeout begins. */
 static void begin_phase(struct bed *bed, struct thread *thread, uint32_t timeout) {
-    thread->deadline = timeout == NEVER ? 0 : deadline_of(thread, timeout, clock_now(bed));
+    thread->deadline = timeout == NEVER ? 0 : deadline_of(thread, timeout, time_of(bed, thread));
     if (thread->deadline != 0 && (bed->next_deadline == 0 || thread->deadline < bed->next_deadline))
         bed->next_deadline = thread->deadline;
 }
@@ -82,7 +85,7 @@ void timeouts_begin(struct bed *bed, struct thread *thread, l4_call *call) {
     timeouts_forget(thread);
     if (is_plain(send) && is_plain(receive))
         return;
-    thread->call_time = clock_now(bed);
+    thread->call_time = time_of(bed, thread);
     if (call->to != L4_NILTHREAD && is_finite(thread, send))
         thread->send_timeout = send;
     if (call->from != L4_NILTHREAD && is_finite(thread, receive))
@@ -94,12 +97,19 @@ void timeouts_begin(struct bed *bed, struct thread *thread, l4_call *call) {
 
 void timeouts_after_transfer(struct bed *bed, uint32_t sender) {
     struct thread *thread = bed->has_timeouts ? thread_numbered(bed, sender) : NULL;
-    if (thread != NULL && (thread->send_timeout | thread->receive_timeout) != 0 && thread_state(bed, thread).state == L4_STATE_RECEIVING)
-        begin_phase(bed, thread, thread->receive_timeout);
+    if (thread == NULL || (thread->send_timeout | thread->receive_timeout) == 0 || thread_state(bed, thread).state != L4_STATE_RECEIVING)
+        return;
+    thread->send_timeout = NEVER;
+    begin_phase(bed, thread, thread->receive_timeout);
+}
+
+uint64_t timeouts_left(const struct bed *bed, const struct thread *thread) {
+    uint64_t time = time_of(bed, thread);
+    return thread->deadline > time ? thread->deadline - time : 0;
 }
 
 void timeouts_forget(struct thread *thread) {
-    thread->deadline = 0;
+    thread->call_time = thread->deadline = 0;
     thread->send_timeout = thread->receive_timeout = NEVER;
 }
 
