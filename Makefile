@@ -142,7 +142,8 @@ $(MODULE): $(SOURCES) web/build-module web/heap.c | toolchain
 	web/build-module
 endif
 
-$(PAGE): $(MODULE) web/make-page $(wildcard web/*.mjs web/*.litmus bindings/python/l4/views/* examples/*.script examples/*.litmus)
+$(PAGE): $(MODULE) web/make-page $(wildcard web/*.mjs web/*.py web/*.litmus bindings/python/l4/views/* examples/*.script examples/*.litmus) \
+    docs/user-guide.md docs/litmus.md docs/glossary.md
 	web/make-page $(if $(WITHOUT),--unproved) $(MODULE) $@
 
 suite:
