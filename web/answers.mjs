@@ -89,7 +89,7 @@ class Answers {
     const none = isWhole ? "No step so far has mapped a page here." : `None of the last ${MOST_TRIED} steps of this line took the page away.`;
     const rows = [{ step: null, text: "absent" }, removal ? row(removal, "This step took the page away.") : { step: null, text: none }];
     rows.push(...lost.map((step) => row(step, "This message to the space was not delivered, and none of its items was mapped.")));
-    rows.push(...run.elsewhere(space, page, at).map(({ step, pages }) => row(step, `An item of this message names page ${page}, but the receive window decides where pages go. ${placedText(pages)}`)));
+    rows.push(...run.elsewhere(space, page, at).map((it) => row(it.step, `An item of this message names page ${page}, but ${placedText(it)}`)));
     return { isAbsent: true, rows };
   }
 
@@ -144,10 +144,11 @@ class Answers {
   }
 }
 
-/** Where the pages of a message were mapped. */
-function placedText(pages) {
+/** Why an item did not map the page that it names: the sender lacked its own page, or the receive window placed it elsewhere. */
+function placedText({ pages, sender, lacked }) {
+  if (lacked !== null) return `thread ${sender} had no page ${lacked} then.`;
   const texts = pages.slice(0, MOST_ITEMS_SAID).map(({ first, count }) => pagesText(first, count)), left = pages.length - texts.length;
-  return pages.length ? `The step mapped ${texts.join(", ")}${left ? ` and ${counted(left, "more range")}` : ""}.` : "The step mapped no page here.";
+  return `the receive window decides where pages go. The step mapped ${pages.length ? `${texts.join(", ")}${left ? ` and ${counted(left, "more range")}` : ""}` : "no page here"}.`;
 }
 
 /** A number of orders. The module's greatest number stands for more, too. */

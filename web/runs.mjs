@@ -1,5 +1,5 @@
 // A run of a script, as the program's own texts show it after each step: its answers, its history, and the pages of every space.
-import { changesBetween } from "../bindings/python/l4/views/changes.mjs";
+import { changesBetween, runAt } from "../bindings/python/l4/views/changes.mjs";
 import { Timeline } from "../bindings/python/l4/views/timeline.mjs";
 import { itemsOf } from "../bindings/python/l4/views/words.mjs";
 import { cut, cutList, ended, linesIn } from "../bindings/python/l4/views/texts.mjs";
@@ -171,19 +171,22 @@ export class Run {
     return this.steps.slice(0, count).filter(isTo).slice(-MOST_NAMED);
   }
 
-  /** The last delivered messages to a space that have an item for a page, but did not map that page: each with its step, and the pages of the
-   * space that the step changed. The receive window decides where pages go. */
+  /** The last delivered messages to a space that have an item for a page, but did not map that page: each with its step, the pages of the
+   * space that the step mapped, and the sender with the page that it lacked, if it lacked the item's. */
   elsewhere(space, page, count) {
     const { events, eventCount } = this.timeline.at(count), isIn = (range) => range.first <= page && page < range.first + range.count;
     const isFor = ({ kind, isDone, words }) => kind === "message" && isDone && itemsOf(words, this.machine.pageBytes).some(isIn);
     const named = events.slice(0, eventCount).filter(isFor).slice(-MOST_READ).filter(({ step, receiver }) => this.timeline.at(step.number).spaces.get(receiver) === space);
-    return named.slice(-MOST_NAMED).map(({ step }) => ({ step, pages: this.#mappedIn(space, step.number) })).filter(({ pages }) => !pages.some(isIn));
+    return named.slice(-MOST_NAMED).map((event) => this.#placed(event, space, page)).filter(({ pages }) => !pages.some(isIn));
   }
 
-  /** The pages of a space that a step mapped there. */
-  #mappedIn(space, number) {
-    const places = [number - 1, number].map((count) => ({ count, spaces: this.timeline.at(count).allSpaces() })), [old, now] = this.states(places);
-    return changesBetween(old.spaces, now.spaces).filter((change) => change.space === space && change.is !== null);
+  /** What a message did for a page of a space that an item of it names. */
+  #placed({ step, sender, words }, space, page) {
+    const places = [step.number - 1, step.number].map((count) => ({ count, spaces: this.timeline.at(count).allSpaces() })), [old, now] = this.states(places);
+    const pages = changesBetween(old.spaces, now.spaces).filter((change) => change.space === space && change.is !== null);
+    const item = itemsOf(words, this.machine.pageBytes).find(({ first, count }) => first <= page && page < first + count), source = item.source + page - item.first;
+    const own = old.spaces.find((it) => it.space === this.timeline.at(step.number - 1).spaces.get(sender))?.runs ?? [];
+    return { step, pages, sender, lacked: runAt(own, source) === null ? source : null };
   }
 
   /** The pages of every space at some places, which rise: each has a number of steps, and the spaces that there are after them. */

@@ -38,14 +38,19 @@ export function pageBytesFor(script) {
   return [1024, 4096].includes(named) ? named : undefined;
 }
 
+/** How many pages sigma0 must have so that it has all that the lines of a script name. */
+export function pagesNamed(script) {
+  const lines = script.length > 1 << 20 ? [] : script.split("\n");
+  const sigma0 = ["1", ...lines.flatMap((line) => { const found = /^ *name +(\S+) +1 *$/.exec(line); return found ? [found[1]] : []; })];
+  return lines.reduce((most, line) => Math.max(most, endIn(line, sigma0)), 0);
+}
+
 /** The number of frames that a script names, or one that has all of sigma0's pages which its lines name: 256 or more for a script, and 16 or
  * more for a litmus test, because a search is faster with few frames. */
 export function framesFor(script) {
   const named = optionOf(script, "frames");
   if (named >= 1 && named <= MOST) return named;
-  const lines = script.length > 1 << 20 ? [] : script.split("\n");
-  const sigma0 = ["1", ...lines.flatMap((line) => { const found = /^ *name +(\S+) +1 *$/.exec(line); return found ? [found[1]] : []; })];
-  const need = lines.reduce((most, line) => Math.max(most, endIn(line, sigma0)), 0);
+  const need = pagesNamed(script);
   let frames = isLitmus(script) ? LEAST : DEFAULT;
   while (frames < need && frames < MOST) frames *= 2;
   return frames;

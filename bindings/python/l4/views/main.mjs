@@ -3,7 +3,7 @@ import { decodeBy, forgetLines, listenToWords } from "./decoding.mjs";
 import { focusStep, goTo, it, made, moveFocus, scrollLists } from "./dom.mjs";
 import { forgetForm, hideOffers, listenToEditor, markLines, showText } from "./editor.mjs";
 import { find } from "./finding.mjs";
-import { framesFor, pageBytesFor } from "./frames.mjs";
+import { framesFor, pageBytesFor, pagesNamed } from "./frames.mjs";
 import { FORMS } from "./grammar.mjs";
 import { showChart } from "./message_view.mjs";
 import { listenToOrders, loadedOrder, markOutcomes, needsSearch, search, showOrderNumber } from "./orders_view.mjs";
@@ -216,12 +216,22 @@ async function run(at = null, chosen = null) {
   const isToSearch = needsSearch(asked);
   markOutcomes();
   showExample(asked.script);
+  showFrames(asked);
   forgetLines();
   it("edited").hidden = true;
   keep();
   if (!Number.isInteger(asked.frames)) return fail("frames: the number of frames must be from 1 to 4,096.");
   await refresh();
   if (isToSearch && shown.script === asked.script) await busy(search(source, sayOrders));
+}
+
+/** Says that a script names pages that sigma0 does not have, with a button for as many frames as it needs. */
+function showFrames({ script, frames }) {
+  const need = pagesNamed(script), enough = framesFor(script);
+  it("few").hidden = !(need > frames && enough >= need);
+  it("few-text").textContent = `The script names page ${need - 1} of sigma0, which has as many pages as there are frames: ${frames}.`;
+  it("more-frames").textContent = `Run with ${enough} frames`;
+  it("more-frames").value = enough;
 }
 
 function fail(text) {
@@ -306,9 +316,10 @@ function listenToRun() {
   on("back", "click", () => goBy(-1));
   on("on", "click", () => goBy(1));
   on("step", "input", () => go(number("step")));
-  on("script", "input", () => { keep(); sayDone(""); it("edited").hidden = !isEdited(); it("refusals").hidden = true; markOutcomes(); });
+  on("script", "input", () => { keep(); sayDone(""); it("edited").hidden = !isEdited(); it("refusals").hidden = it("few").hidden = true; markOutcomes(); });
   on("former", "click", () => { load(former); focusStep(); });
   ["frames", "page-bytes"].forEach((id) => on(id, "change", runAgain));
+  on("more-frames", "click", () => { it("frames").value = it("more-frames").value; runAgain(); it("run").focus({ preventScroll: true }); });
   on("stop", "click", () => source.stop());
   document.addEventListener("keydown", onKey);
   document.querySelectorAll("[data-to]").forEach((button) => button.addEventListener("click", () => goTo(button.dataset.to)));

@@ -37,12 +37,13 @@ function fpagesText(words, pageBytes) {
   return [...texts, ...(left ? [`and ${counted(left, "more fpage")}`] : [])].join(", ");
 }
 
-/** The map and grant items of a message: the first page that an item is for, and the number of its pages. */
+/** The map and grant items of a message: the first page that an item is for, the number of its pages, and the first one of the sender's. */
 export function itemsOf([tag = 0, ...words], pageBytes) {
   const untyped = tag & 63, items = words.slice(untyped, untyped + ((tag >>> 6) & 63));
   return items.flatMap((base, place) => {
-    const size = ((items[place + 1] ?? 0) >>> 4) & 63, bytes = 2 ** (size === 1 ? 32 : size);
-    return place % 2 || bytes < pageBytes ? [] : [{ first: Math.floor((base >>> 10) / (pageBytes / 1024)), count: bytes / pageBytes }];
+    const fpage = (items[place + 1] ?? 0) >>> 0, size = (fpage >>> 4) & 63, bytes = 2 ** (size === 1 ? 32 : size);
+    if (place % 2 || bytes < pageBytes) return [];
+    return [{ first: Math.floor((base >>> 10) / (pageBytes / 1024)), count: bytes / pageBytes, source: Math.floor(fpage / bytes) * (bytes / pageBytes) }];
   });
 }
 
