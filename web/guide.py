@@ -6,7 +6,7 @@ paragraphs, lists of one level, tables, code and links. A link to another docume
 import html
 import re
 
-# the sections: the name of each, its title, and the headings in a document; None stands for the whole document
+# the sections: the name of each, its title, and the headings in a document; None for the whole document
 SECTIONS = (
     ("page", "How to use this page", "user-guide.md", ("A run in a browser",)),
     ("scripts", "Scripts", "user-guide.md", ("Scripts", "Commands of a script", "Symbolic tokens", "Names of threads", "Answers of a script", "Order of steps")),

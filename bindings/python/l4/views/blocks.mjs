@@ -27,7 +27,7 @@ function markOf(item, x, source) {
   return drawn("g", { class: "witness" }, drawn("title", {}, `page ${item.page}: no other item could move it`), drawn("path", { d: `M${at} ${y} l-4 10 h8 z` }));
 }
 
-/** The plan, with at most 256 items, in so many pixels. */
+/** The plan, with at most 256 items, at most `room` pixels wide. */
 export function blocksOf(items, { source, target, count }, room) {
   const width = Math.min(Math.max(room - LEFT - RIGHT - 8, LEAST_WIDTH), MOST_WIDTH);
   const x = (place) => LEFT + Math.floor((place * width) / count), shown = items.slice(0, MOST_ITEMS);

@@ -7,7 +7,7 @@ const COLUMN = 84, LEAST_COLUMN = 56, ROW = 30, LINE = 20, DIGIT = 9, TEXT = 440
 /** Where the lines of the threads begin, behind the numbers of the steps. */
 const leftOf = (events) => 26 + DIGIT * Math.max(2, `${events.at(-1).step.number}`.length);
 
-/** A text in at most this many lines of so many pixels. */
+/** A text in at most `most` lines, each at most `width` pixels wide. */
 function wrapped(text, width, most) {
   const letters = Math.max(8, Math.floor(width / LETTER)), lines = [];
   let left = text;
@@ -36,7 +36,7 @@ function arrow(event, columns, y) {
 /** What an event says. */
 const textOf = (event) => (event.kind === "message" ? messageText(event) : event.text);
 
-/** Where everything is drawn, in so many pixels: the texts beside the lines of the threads, or below the arrows if there is no room beside. */
+/** Where everything is drawn in `room` pixels: the texts beside the lines of the threads, or below the arrows if there is no room beside. */
 function placesOf(events, room) {
   const threads = [...new Set(events.flatMap(threadsOf))].sort((a, b) => a - b), left = leftOf(events);
   const isBeside = left + COLUMN * threads.length + TEXT <= room;
