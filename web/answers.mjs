@@ -75,22 +75,33 @@ class Answers {
     const run = this.run(asked), at = Math.min(asked.at ?? run.steps.length, run.steps.length), end = run.wholeLineAt(at);
     const threads = run.timeline.at(at), [thread] = threads.threadsOf(asked.space);
     const [{ spaces }] = run.states([{ count: at, spaces: threads.allSpaces() }]);
-    if (runAt(spaces.find(({ space }) => space === asked.space)?.runs ?? [], asked.page) === null) return this.#absence(run, asked, at, threads);
+    if (runAt(spaces.find(({ space }) => space === asked.space)?.runs ?? [], asked.page) === null) return this.#absence(run, asked, at);
     if (end.steps > at) return { isAbsent: false, rows: [{ step: end.steps, text: `known after step ${end.steps}, the last one of this line` }] };
     return originOf(linesIn(this.program.why(ended(run.lines.slice(0, end.line)), run.machine, thread, asked.page).text), run.steps);
   }
 
-  /** Why a page is absent: the step that took it away, messages to the space that were not delivered, and those that mapped other pages in its
-   * place. Each step is a link. */
-  #absence(run, { space, page }, at, threads) {
+  /** Why a page is absent: the step that took it away, messages to the space that did not come, those that mapped other pages in its place,
+   * and refused lines. Each step is a link. */
+  #absence(run, { space, page }, at) {
     this.report("Looking for the step that took the page away");
-    const { pageBytes } = run.machine, { step: removal, isWhole } = run.removal(space, page, at), lost = run.undelivered(at, threads.threadsOf(space));
-    const row = (step, more) => ({ step: step.number, text: `${stepName(step)}: ${stepText(step, pageBytes)}. ${more}` });
+    const end = run.endOf(space, at), row = (step, more) => ({ step: step.number, text: `${stepName(step)}: ${stepText(step, run.machine.pageBytes)}. ${more}` });
+    const ended = end ? [row(end, `Space ${space} ended with its last thread, and its pages with it.`)] : [], until = end ? end.number - 1 : at;
+    const [{ spaces }] = run.states([{ count: until, spaces: run.timeline.at(until).allSpaces() }]);
+    const wasThere = end !== null && runAt(spaces.find((it) => it.space === space)?.runs ?? [], page) !== null, reasons = wasThere ? [] : this.#reasons(run, { space, page }, until, row);
+    const refused = run.refusedBefore(at), lines = refused.slice(0, MOST_ITEMS_SAID).join(", ");
+    const more = refused.length ? [{ step: null, text: `${counted(refused.length, "line")} before this step ${refused.length === 1 ? "was" : "were"} refused: ${lines}${refused.length > MOST_ITEMS_SAID ? " .." : ""}.` }] : [];
+    return { isAbsent: true, rows: [{ step: null, text: "absent" }, ...ended, ...reasons, ...more] };
+  }
+
+  #reasons(run, { space, page }, at, row) {
+    const { step: removal, isWhole } = run.removal(space, page, at), names = `An item of this message names page ${page}`;
     const none = isWhole ? "No step so far has mapped a page here." : `None of the last ${MOST_TRIED} steps of this line took the page away.`;
-    const rows = [{ step: null, text: "absent" }, removal ? row(removal, "This step took the page away.") : { step: null, text: none }];
-    rows.push(...lost.map((step) => row(step, "This message to the space was not delivered, and none of its items was mapped.")));
-    rows.push(...run.elsewhere(space, page, at).map((it) => row(it.step, `An item of this message names page ${page}, but ${placedText(it)}`)));
-    return { isAbsent: true, rows };
+    return [
+      removal ? row(removal, "This step took the page away.") : { step: null, text: none },
+      ...run.undelivered(space, page, at).map((step) => row(step, `${names}, but the message was not delivered, and none of its items was mapped.`)),
+      ...run.unsent(space, page, at).map(({ step, thread, isWaiting }) => row(step, `${names}, but ${isWaiting ? `thread ${thread} still waits to send it` : "the call ended before it was delivered"}.`)),
+      ...run.elsewhere(space, page, at).map((it) => row(it.step, `${names}, but ${placedText(it)}`)),
+    ];
   }
 
   decode({ words, reading, pageBytes }) {

@@ -1,7 +1,7 @@
 // A run of a script, as the program's own texts show it after each step: its answers, its history, and the pages of every space.
 import { changesBetween, runAt } from "../bindings/python/l4/views/changes.mjs";
 import { Timeline } from "../bindings/python/l4/views/timeline.mjs";
-import { itemsOf } from "../bindings/python/l4/views/words.mjs";
+import { itemsOf, threadOf } from "../bindings/python/l4/views/words.mjs";
 import { cut, cutList, ended, linesIn } from "../bindings/python/l4/views/texts.mjs";
 
 const MOST_LINES = 120, MOST_REFUSALS = 64, MOST_KEPT = 8, MOST_NAMED = 3, MOST_READ = 64;
@@ -165,19 +165,53 @@ export class Run {
     return { step: tried[place] ?? null, isWhole: tried.length === changes.length };
   }
 
-  /** The last messages to a space's threads that were not delivered because of their items. */
-  undelivered(count, threads) {
-    const isTo = ({ text, answers }) => text.startsWith("transfer ") && UNDELIVERED.includes(answers[0]) && threads.includes(Number(text.split(" ")[2]));
-    return this.steps.slice(0, count).filter(isTo).slice(-MOST_NAMED);
+  /** The last messages to a space's threads with an item for a page that were not delivered because of their items. */
+  undelivered(space, page, count) {
+    const { events, eventCount } = this.timeline.at(count);
+    const isFor = ({ kind, outcome, words }) => kind === "message" && UNDELIVERED.includes(outcome) && this.#names(words, page);
+    return this.#lastTo(space, events.slice(0, eventCount).filter(isFor)).map(({ step }) => step);
+  }
+
+  /** Whether a message has an item for a page. */
+  #names(words, page) {
+    return itemsOf(words, this.machine.pageBytes).some(({ first, count }) => first <= page && page < first + count);
+  }
+
+  /** The last of some messages whose receiver was in a space. */
+  #lastTo(space, messages) {
+    return messages.slice(-MOST_READ).filter(({ step, receiver }) => this.timeline.at(step.number).spaces.get(receiver) === space).slice(-MOST_NAMED);
+  }
+
+  /** The last calls that send a message with an item for a page to a space, and whose message has not come: each with whether it still waits. */
+  unsent(space, page, count) {
+    const threads = this.timeline.at(count), calls = this.steps.slice(0, count).filter(({ text }) => /^start \d+ ipc /.test(text)).map((step) => {
+      const [, thread, , to, , , , ...words] = step.text.split(" ").map(Number);
+      return { step, thread, receiver: threadOf(to), words };
+    });
+    return this.#lastTo(space, calls.filter(({ words }) => this.#names(words, page))).flatMap(({ step, thread }) => {
+      const next = this.steps.slice(step.number, count).find(({ text }) => text.startsWith(`transfer ${thread} `) || text.startsWith(`start ${thread} `));
+      return next?.text.startsWith("transfer ") ? [] : [{ step, thread, isWaiting: next === undefined && threads.sending.has(thread) }];
+    });
+  }
+
+  /** The step that deleted the last thread of a space that is gone; null if it is not gone. */
+  endOf(space, count) {
+    const { events, eventCount, spaces } = this.timeline.at(count);
+    if ([...spaces.values()].includes(space)) return null;
+    return events.slice(0, eventCount).findLast(({ kind, text }) => kind === "delete" && text.endsWith(` in space ${space}`))?.step ?? null;
+  }
+
+  /** The first refused lines up to a step. */
+  refusedBefore(count) {
+    return this.refusals.first.filter(({ at }) => at <= count).map(({ line }) => line);
   }
 
   /** The last delivered messages to a space that have an item for a page, but did not map that page: each with its step, the pages of the
    * space that the step mapped, and the sender with the page that it lacked, if it lacked the item's. */
   elsewhere(space, page, count) {
     const { events, eventCount } = this.timeline.at(count), isIn = (range) => range.first <= page && page < range.first + range.count;
-    const isFor = ({ kind, isDone, words }) => kind === "message" && isDone && itemsOf(words, this.machine.pageBytes).some(isIn);
-    const named = events.slice(0, eventCount).filter(isFor).slice(-MOST_READ).filter(({ step, receiver }) => this.timeline.at(step.number).spaces.get(receiver) === space);
-    return named.slice(-MOST_NAMED).map((event) => this.#placed(event, space, page)).filter(({ pages }) => !pages.some(isIn));
+    const isFor = ({ kind, isDone, words }) => kind === "message" && isDone && this.#names(words, page);
+    return this.#lastTo(space, events.slice(0, eventCount).filter(isFor)).map((event) => this.#placed(event, space, page)).filter(({ pages }) => !pages.some(isIn));
   }
 
   /** What a message did for a page of a space that an item of it names. */

@@ -44,6 +44,14 @@ export function markLines(found, line) {
   draw();
 }
 
+/** Selects a line of the script, with the keyboard's focus. */
+export function goToScriptLine(number) {
+  const before = lines.slice(0, number - 1).reduce((sum, line) => sum + line.length + 1, 0);
+  field().focus();
+  field().setSelectionRange(before, before + (lines[number - 1] ?? "").length);
+  bringIntoView(number);
+}
+
 /** Scrolls the editor to a line that is not in view. The page stays where it is. */
 function bringIntoView(line) {
   const { scrollTop, clientHeight } = field(), { height } = measures(), place = (line - 1) * height;

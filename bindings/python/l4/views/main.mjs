@@ -217,6 +217,7 @@ async function run(at = null, chosen = null) {
   markOutcomes();
   showExample(asked.script);
   showFrames(asked);
+  it("found").textContent = "";
   forgetLines();
   it("edited").hidden = true;
   keep();
@@ -334,6 +335,7 @@ function listenToViews() {
   on("colour", "change", () => { shown.colour = it("colour").value; showSelection(); });
   on("plan", "click", () => plan(source, sayPlanError));
   REGION_FIELDS.forEach((id) => on(id, "input", clearPlan));
+  REGION_FIELDS.forEach((id) => on(id, "keydown", (event) => { if (event.key === "Enter" && !event.ctrlKey) plan(source, sayPlanError); }));
   on("search", "click", () => busy(search(source, sayOrdersError)));
   on("tell", "click", () => tell(source, sayTextError, sayUnseen));
   on("words", "keydown", (event) => { if (event.key === "Enter") tell(source, sayTextError, sayUnseen); });

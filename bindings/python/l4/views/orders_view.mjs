@@ -2,6 +2,7 @@
 // the states. The number of an outcome loads the script of its order.
 import { drawStates, readGraph, takenBy } from "./states.mjs";
 import { fill, focusPart, focusStep, it, link, made } from "./dom.mjs";
+import { goToScriptLine } from "./editor.mjs";
 import { isLitmus } from "./frames.mjs";
 import { fields, number } from "./state.mjs";
 import { counted, grouped } from "./texts.mjs";
@@ -127,14 +128,19 @@ function goToOutcomes() {
   if (part) focusPart(part, false);
 }
 
+/** What helps with a refusal of a search. */
+const helpFor = (text) => (/: O7: /.test(text) ? " A rule names a whole line that a query after finally prints: “4 waits” needs the query “reply 4”." : "");
+
 /** Says beside the script that it is a litmus test, with what a search has found or a link that searches its orders. */
 function showLitmus(asked) {
   it("litmus").hidden = !isLitmus(asked.script);
   if (it("litmus").hidden) return;
   const isSearched = found !== null && isOfSearch(asked), isSearching = document.body.classList.contains("searching");
-  const text = isSearched ? summary(found) : failure?.script === asked.script ? `The orders of this litmus test were not searched: ${failure.text}`
+  const isFailed = failure?.script === asked.script;
+  const text = isSearched ? summary(found) : isFailed ? made("span", { class: "broken" }, `The orders of this litmus test were not searched: ${failure.text}.${helpFor(failure.text)}`)
     : isSearching ? "This is a litmus test: every order of its calls is being searched." : "This is a litmus test: its calls may come in any order.";
-  const act = isSearched ? link("Show the orders", goToOutcomes) : link("Search every order", () => { goToOutcomes(); it("search").click(); });
+  const line = /^line (\d+): /.exec(isFailed ? failure.text : "")?.[1];
+  const act = isSearched ? link("Show the orders", goToOutcomes) : line ? link(`Go to line ${line}`, () => goToScriptLine(Number(line))) : link("Search every order", () => { goToOutcomes(); it("search").click(); });
   const parts = [...(isSearched ? ["Every order of this litmus test: ", ...verdict(found)] : []), text, ...(isSearching ? [] : [" ", act])];
   const whole = parts.map((part) => part.textContent ?? part).join("");
   if (it("litmus").textContent !== whole) fill("litmus", parts);

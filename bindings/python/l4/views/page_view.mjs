@@ -58,7 +58,8 @@ export function showPages(view, acts) {
   it("pages-table").hidden = rows.length === 0;
   it("no-pages").hidden = rows.length > 0;
   const count = countOf(runs), isPart = rows.length < count;
-  it("no-pages").textContent = `Space ${space} has no pages${isPart ? ` from page ${acts.first} on` : ""}.`;
+  const isGone = !view.spaces.some((it) => it.space === space);
+  it("no-pages").textContent = isGone ? `There is no space ${space} at this step.` : `Space ${space} has no pages${isPart ? ` from page ${acts.first} on` : ""}.`;
   it("more").setAttribute("aria-disabled", found.length <= MOST_ROWS);
   it("more").value = found.length > MOST_ROWS ? found[MOST_ROWS][0] : "";
   it("first").setAttribute("aria-disabled", !isPart || acts.first === 0);

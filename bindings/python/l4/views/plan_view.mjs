@@ -22,6 +22,7 @@ export const REGION_FIELDS = ["source", "target", "pages-of-region", "rights", "
 export function clearPlan() {
   planned += 1;
   clear();
+  it("plan-text").textContent = "The fields were changed: press Enter or Plan.";
 }
 
 function clear() {
