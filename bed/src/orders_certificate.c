@@ -200,11 +200,12 @@ static void check_state(struct orders *orders, const struct certificate *read, u
     if (places == 0)
         outcome_take(orders, number);
     for (; places != 0; places &= places - 1) {
-        uint32_t slot = (uint32_t)__builtin_ctzll(places), by = bed->threads[slot].number;
+        uint32_t slot = (uint32_t)__builtin_ctzll(places), by = bed->threads[slot].number, state;
         turn_take(orders, &bed->threads[slot]);
         if (turn_was_interrupted(bed))
             return;
-        if (orders->parts.list[keep_state(orders)]->node == NONE)
+        state = keep_state(orders); /* which can move the list of parts */
+        if (orders->parts.list[state]->node == NONE)
             fail(STATUS_FAILED, "--check-orders: a turn of %u leads from state %u to a state that is not in the certificate", by, number);
         if (places & (places - 1))
             enter_state(orders, read, number);

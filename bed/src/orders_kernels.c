@@ -55,9 +55,11 @@ void kernels_add_end_of_wait(struct orders *orders, uint32_t thread, int is_canc
     kernels->key[kernels->key_count++] = is_cancel ? NONE : NONE - 1;
 }
 
+/* A new key can move the list of parts. */
 static struct part *key_part(struct orders *orders) {
     const struct kernels *kernels = &orders->kernels;
-    return orders->parts.list[parts_number(&orders->parts, kernels->key, kernels->key_count * sizeof *kernels->key)];
+    const uint32_t number = parts_number(&orders->parts, kernels->key, kernels->key_count * sizeof *kernels->key);
+    return orders->parts.list[number];
 }
 
 /* A check of a certificate reads each kernel. */
