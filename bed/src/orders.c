@@ -61,6 +61,10 @@ static int search(struct orders *orders) {
     else
         search_all(orders);
     status = report_print(orders);
+    if (orders->outcome_count == 0 && orders->incomplete[0] == 0) {
+        print("no order ends\n");
+        status = STATUS_STUCK;
+    }
     return bed->end == ENDED_BY_SIGNAL || bed->end == ENDED_BY_OUTPUT ? STATUS_OF_END : status;
 }
 
