@@ -1,4 +1,4 @@
-/* A name server with a mistake: a client that asks for a name too early is told that there is none. */
+/* A name server with a mistake: to a client that asks for a name too early, it answers that there is none. */
 #include "names.h"
 
 int main(void) {

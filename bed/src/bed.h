@@ -331,7 +331,7 @@ void orders_note_end_of_wait(struct bed *bed, uint32_t thread, int is_cancel);
 void orders_note_step(struct bed *bed, const l4_step *step);
 /* sigma0 has given the pages of this answer to a space. */
 void orders_note_owner(struct bed *bed, uint64_t space, const l4_message *message);
-/* ExchangeRegisters or Schedule changes a thread, or returns what it does. NULL is no thread. */
+/* ExchangeRegisters or Schedule changes a thread, or returns what it does. NULL means that there is no such thread. */
 void orders_note_change(struct bed *bed, const struct thread *thread);
 /* Schedule sets a priority. */
 void orders_note_priority(struct bed *bed);

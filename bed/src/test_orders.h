@@ -4,7 +4,7 @@
 
 #include <stdint.h>
 
-/* In a test, this line stands for any lines, up to the next one that is expected. */
+/* In a test, this line matches any lines, up to the next one that is expected. */
 #define ANY_LINES "#= .."
 
 /* The room for a difference. */
